@@ -1,0 +1,25 @@
+-- A choice by a test: what holds on both sides of the test holds of what is chosen. Assumes nothing.
+use mathlib.Core.Path.{_≡_, refl}
+use mathlib.Core.Bool.{Bool, true, false, cond}
+use Prim.Native.Nat.{ℕ, _≤_, _<_}
+use lib.Dec.{ltb, leb, eqb}
+use borrow.Author.Tests.{ltb-true, ltb-false, leb-true, leb-false, eqb-true, eqb-false}
+
+module _ {A : Type 0} (P : A → Type 0) {a b : A} where
+  pub cond-elim : (t : Bool) → (t ≡ true → P a) → (t ≡ false → P b) → P (cond t a b)
+  cond-elim true f g = f refl
+  cond-elim false f g = g refl
+
+  pub cond-leb : (m n : ℕ) → (m ≤ n → P a) → (n < m → P b) → P (cond (leb m n) a b)
+  cond-leb m n f g = cond-elim (leb m n) (λ e. f (leb-true m n e)) (λ e. g (leb-false m n e))
+
+  pub cond-ltb : (m n : ℕ) → (m < n → P a) → (n ≤ m → P b) → P (cond (ltb m n) a b)
+  cond-ltb m n f g = cond-elim (ltb m n) (λ e. f (ltb-true m n e)) (λ e. g (ltb-false m n e))
+
+  pub cond-eqb : (m n : ℕ) → (m ≡ n → P a) → ((m ≡ n → ⊥) → P b) → P (cond (eqb m n) a b)
+  cond-eqb m n f g = cond-elim (eqb m n) (λ e. f (eqb-true m n e)) (λ e. g (eqb-false m n e))
+
+-- a function of what is chosen is what is chosen of its values
+pub map-cond : {A B : Type 0} (f : A → B) (t : Bool) (a b : A) → f (cond t a b) ≡ cond t (f a) (f b)
+map-cond f true a b = refl
+map-cond f false a b = refl

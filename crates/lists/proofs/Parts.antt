@@ -1,0 +1,24 @@
+-- A part of a slice that runs to its end, as `&s[a..]` lends it. Assumes nothing.
+use Prim.Native.Nat.{ℕ, _-_, _≤_}
+use native.Mathlib.Omega.{arith}
+use mathlib.Core.Path.{_≡_, ap, _∙_}
+use mathlib.Core.List.{List, _++_, append-nil}
+use borrow.Rule.Slice.PartMut.{putMid, post-is}
+use lib.ListN.{length, take, drop, length-drop}
+use lib.Seq.{take-all, drop-length}
+use Rattle.lists.specs.Over.{over, overAt}
+
+module _ {A : Type 0} where
+  -- the part from a on
+  pub tail-part : (s : List A) (a : ℕ) → take (length s - a) (drop a s) ≡ drop a s
+  tail-part s a = take-all (length s - a) (drop a s) (omega (arith, length-drop a s))
+
+  -- the whole, once that part is given back as t
+  pub tail-put : (s t : List A) (a : ℕ) → a ≤ length s → putMid a (length s - a) s t ≡ take a s ++ t
+  tail-put s t a h =
+      ap (λ (l : List A). take a s ++ (t ++ l)) (post-is a (length s) s h ∙ drop-length s)
+      ∙ ap (λ (l : List A). take a s ++ l) (append-nil t)
+
+  -- the whole, where the part was written over by w from its front on
+  pub tail-over : (s t w : List A) (a : ℕ) → a ≤ length s → t ≡ over w (take (length s - a) (drop a s)) → putMid a (length s - a) s t ≡ overAt a w s
+  tail-over s t w a h e = tail-put s t a h ∙ ap (λ (l : List A). take a s ++ l) (e ∙ ap (over w) (tail-part s a))

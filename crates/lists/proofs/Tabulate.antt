@@ -1,0 +1,52 @@
+-- Laws of `tabulate`. Assumes nothing.
+use mathlib.Core.Path.{_≡_, refl, ap, _∙_}
+use mathlib.Core.List.{List, [], _∷_, map}
+use Prim.Native.Nat.{ℕ, zero, suc, _≤_, _<_, suc-le-suc, zero-le}
+use native.Mathlib.Nat.{not-suc-le-zero, le-of-suc-le-suc, zero-lt-suc}
+use lib.ListN.{length, getD, take}
+use Rattle.lists.specs.Tabulate.{tabulate}
+
+module _ {A : Type 0} where
+  pub length-tabulate : (n : ℕ) (f : ℕ → A) → length (tabulate n f) ≡ n
+  unfolding tabulate
+  length-tabulate zero f = refl
+  length-tabulate (suc n) f = ap suc (length-tabulate n (λ k. f (suc k)))
+
+  pub getD-tabulate : (n : ℕ) (f : ℕ → A) (k : ℕ) (d : A) → k < n → getD (tabulate n f) k d ≡ f k
+  unfolding tabulate
+  getD-tabulate zero f k d h = absurd (not-suc-le-zero h)
+  getD-tabulate (suc n) f zero d h = refl
+  getD-tabulate (suc n) f (suc k) d h = getD-tabulate n (λ k. f (suc k)) k d (le-of-suc-le-suc h)
+
+  -- rules that agree below n make the same list
+  pub tabulate-ext : (n : ℕ) (f g : ℕ → A) → ((k : ℕ) → k < n → f k ≡ g k) → tabulate n f ≡ tabulate n g
+  unfolding tabulate
+  tabulate-ext zero f g e = refl
+  tabulate-ext (suc n) f g e =
+      ap (λ (x : A). x ∷ tabulate n (λ k. f (suc k))) (e 0 (zero-lt-suc n))
+      ∙ ap (λ (l : List A). g 0 ∷ l) (tabulate-ext n (λ k. f (suc k)) (λ k. g (suc k)) (λ k h. e (suc k) (suc-le-suc h)))
+
+  -- a list is made of its elements
+  pub tabulate-getD : (l : List A) (d : A) → tabulate (length l) (λ k. getD l k d) ≡ l
+  unfolding tabulate
+  tabulate-getD [] d = refl
+  tabulate-getD (x ∷ xs) d = ap (λ (l : List A). x ∷ l) (tabulate-getD xs d)
+
+  -- and its front of its first elements
+  pub tabulate-take : (n : ℕ) (l : List A) (d : A) → n ≤ length l → tabulate n (λ k. getD l k d) ≡ take n l
+  unfolding tabulate
+  tabulate-take zero l d h = refl
+  tabulate-take (suc n) [] d h = absurd (not-suc-le-zero h)
+  tabulate-take (suc n) (x ∷ xs) d h = ap (λ (t : List A). x ∷ t) (tabulate-take n xs d (le-of-suc-le-suc h))
+
+pub map-tabulate : {A B : Type 0} (g : A → B) (n : ℕ) (f : ℕ → A) → map g (tabulate n f) ≡ tabulate n (λ k. g (f k))
+unfolding tabulate
+map-tabulate g zero f = refl
+map-tabulate {B = B} g (suc n) f = ap (λ (l : List B). g (f 0) ∷ l) (map-tabulate g n (λ k. f (suc k)))
+
+-- a bound on the rule is one on every element
+pub tabulate-le : (n : ℕ) (f : ℕ → ℕ) (b : ℕ) → ((k : ℕ) → f k ≤ b) → (k : ℕ) → getD (tabulate n f) k 0 ≤ b
+unfolding tabulate
+tabulate-le zero f b h k = zero-le
+tabulate-le (suc n) f b h zero = h 0
+tabulate-le (suc n) f b h (suc k) = tabulate-le n (λ k. f (suc k)) b (λ k. h (suc k)) k

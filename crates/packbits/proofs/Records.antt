@@ -1,0 +1,109 @@
+-- Laws of records. Assumes nothing.
+use mathlib.Core.Path.{_≡_, refl, ap}
+use Prim.Native.Nat.{ℕ, suc, _+_, _-_, _≤_, _<_}
+use native.Mathlib.Omega.{arith}
+use mathlib.Core.Bool.{Bool, true, false, cond}
+use mathlib.Core.List.{List, [], _∷_}
+use lib.ListN.{length, getD, drop, length-drop, length-replicate, drop-of-length-le}
+use lib.Seq.{drop-cons, length-take-le}
+use lib.Dec.{ltb}
+use borrow.Author.Tests.{lt-ltb, le-ltb, ne-eqb, ltb-false}
+use Rattle.packbits.specs.declared.Record.{Record}
+use Rattle.packbits.specs.declared.Record.the-variants.{Literal, Repeat, Nothing, Truncated, Crossing}
+use Rattle.packbits.specs.Records.{control, packedLen, rowLen, rowBytes, fault, recordAt}
+
+-- ---- a control byte
+
+pub control-literal : (x : ℕ) → x < 128 → control x ≡ Literal (x + 1)
+unfolding control
+control-literal x h = simp (lt-ltb x 128 h)
+
+pub control-nothing : control 128 ≡ Nothing
+unfolding control
+control-nothing = refl
+
+pub control-repeat : (x : ℕ) → 128 < x → control x ≡ Repeat (257 - x)
+unfolding control
+control-repeat x h = simp (le-ltb x 128 (omega arith), ne-eqb x 128 (omega arith))
+
+-- ---- the record at the front of a list
+
+pub whole-record : (x : ℕ) (rest : List ℕ) (room : ℕ) (r : Record) → r ≡ control x → rowLen r ≤ room → packedLen r ≤ length (x ∷ rest) → recordAt (x ∷ rest) room ≡ r
+unfolding recordAt
+whole-record x rest room r is k l = rw (← is) (simp (le-ltb room (rowLen r) k, le-ltb (suc (length rest)) (packedLen r) l))
+
+pub no-record : (room : ℕ) → fault (recordAt [] room) ≡ 0 → ⊥
+unfolding recordAt
+no-record room e = omega arith
+
+-- ---- the record at an offset
+
+module _ (s : List ℕ) (at room : ℕ) where
+  pub no-input : length s ≤ at → recordAt (drop at s) room ≡ Truncated
+  unfolding recordAt
+  no-input h = rw (drop-of-length-le s h)
+
+  module _ (r : Record) (h : at < length s) (is : r ≡ control (getD s at 0)) where
+    pub crossing : room < rowLen r → recordAt (drop at s) room ≡ Crossing
+    unfolding recordAt
+    crossing k = rw (drop-cons s at 0 h, ← is) (simp (lt-ltb room (rowLen r) k))
+
+    pub truncated : rowLen r ≤ room → length s - at < packedLen r → recordAt (drop at s) room ≡ Truncated
+    unfolding recordAt
+    truncated k l =
+        let long : length (drop at s) ≡ suc (length (drop (suc at) s)) = ap length (drop-cons s at 0 h) in
+        rw (drop-cons s at 0 h, ← is) (simp (le-ltb room (rowLen r) k, lt-ltb (suc (length (drop (suc at) s))) (packedLen r) (omega (arith, length-drop at s))))
+
+    pub whole : rowLen r ≤ room → packedLen r ≤ length s - at → recordAt (drop at s) room ≡ r
+    unfolding recordAt
+    whole k l =
+        let long : length (drop at s) ≡ suc (length (drop (suc at) s)) = ap length (drop-cons s at 0 h) in
+        rw (drop-cons s at 0 h, ← is) (simp (le-ltb room (rowLen r) k, le-ltb (suc (length (drop (suc at) s))) (packedLen r) (omega (arith, length-drop at s))))
+
+-- ---- a whole record takes a byte of input at least and what there is at most, and makes as many bytes as it says, which fit
+
+pub record Whole (r : Record) (input : List ℕ) (room : ℕ) : Type 0 where
+  pub takes : 0 < packedLen r
+  pub has : packedLen r ≤ length input
+  pub fits : rowLen r ≤ room
+  pub makes : length (rowBytes r input) ≡ rowLen r
+
+whole-of : (r : Record) (x : ℕ) (rest : List ℕ) (room : ℕ) → fault r ≡ 0 → packedLen r ≤ suc (length rest) → rowLen r ≤ room → Whole r (x ∷ rest) room
+whole-of (Literal n) x rest room e h k = record { takes = omega arith; has = h; fits = k; makes = length-take-le n rest (omega arith) }
+whole-of (Repeat n) x rest room e h k = record { takes = omega arith; has = h; fits = k; makes = length-replicate n _ }
+whole-of Nothing x rest room e h k = record { takes = omega arith; has = h; fits = k; makes = refl }
+whole-of Truncated x rest room e h k = absurd (omega arith)
+whole-of Crossing x rest room e h k = absurd (omega arith)
+
+pub is-whole : (input : List ℕ) (room : ℕ) → fault (recordAt input room) ≡ 0 → Whole (recordAt input room) input room
+unfolding recordAt
+is-whole [] room e = absurd (omega arith)
+is-whole (x ∷ rest) room e = go (ltb room (rowLen (control x))) (ltb (suc (length rest)) (packedLen (control x))) refl refl e
+  where
+    go : (b d : Bool) → ltb room (rowLen (control x)) ≡ b → ltb (suc (length rest)) (packedLen (control x)) ≡ d
+        → fault (cond b Crossing (cond d Truncated (control x))) ≡ 0 → Whole (cond b Crossing (cond d Truncated (control x))) (x ∷ rest) room
+    go true d p q f = absurd (omega arith)
+    go false true p q f = absurd (omega arith)
+    go false false p q f = whole-of (control x) x rest room f (ltb-false _ _ q) (ltb-false _ _ p)
+
+pub whole-control : (x : ℕ) (rest : List ℕ) (room : ℕ) → fault (recordAt (x ∷ rest) room) ≡ 0 → recordAt (x ∷ rest) room ≡ control x
+unfolding recordAt
+whole-control x rest room = go (ltb room (rowLen (control x))) (ltb (suc (length rest)) (packedLen (control x)))
+  where
+    go : (b d : Bool) → fault (cond b Crossing (cond d Truncated (control x))) ≡ 0 → cond b Crossing (cond d Truncated (control x)) ≡ control x
+    go true d f = absurd (omega arith)
+    go false true f = absurd (omega arith)
+    go false false f = refl
+
+-- the same of a record at an offset of a file
+pub record WholeAt (r : Record) (file : List ℕ) (from room : ℕ) : Type 0 where
+  pub takes : 0 < packedLen r
+  pub has : from + packedLen r ≤ length file
+  pub fits : rowLen r ≤ room
+  pub makes : length (rowBytes r (drop from file)) ≡ rowLen r
+
+pub whole-at : (file : List ℕ) (from room : ℕ) (r : Record) → r ≡ recordAt (drop from file) room → fault r ≡ 0 → WholeAt r file from room
+whole-at file from room r is e =
+    let w : Whole r (drop from file) room = rw is (is-whole (drop from file) room (rw is at e)) in
+    record { takes = w .takes; has = omega (arith, length-drop from file); fits = w .fits; makes = w .makes }
+

@@ -1,0 +1,4 @@
+pub mod Records
+pub mod Row
+pub mod Unpack
+pub mod Unpacks

@@ -1,0 +1,109 @@
+// PackBits: one row unpacked. Definitions: specs/. Packing is in the crate least.
+ghost use mathlib.Core.Path.{_≡_};
+ghost use Prim.Native.Nat.{_+_, _≤_};
+ghost use lib.ListN.{length, drop};
+ghost use Rattle.lists.specs.Over.{overAt};
+ghost use Rattle.outcome.specs.Outcome.{refused};
+ghost use Rattle.packbits.specs.Records.{control, packedLen, rowLen, rowBytes, fault, recordAt};
+ghost use Rattle.packbits.specs.Row.{rowAnswer, rowOutput};
+ghost use Rattle.packbits.specs.Unpack.{unpack, unpackAt, unpackRow};
+use outcome::AREA_TOO_SHORT;
+use outcome::INPUT_ENDS;
+use outcome::OUT_OF_RANGE;
+use outcome::RECORD_CROSSES;
+
+// The widest row.
+pub const MAX_WIDTH: usize = 128;
+
+// What stands at a control byte, with so much room left in the row.
+pub enum Record {
+    // The next so many bytes as they stand.
+    Literal(u8),
+    // The next byte so many times.
+    Repeat(u8),
+    // The control byte alone, which makes nothing.
+    Nothing,
+    // Refused with 6: the input ends before the record does.
+    Truncated,
+    // Refused with 7: the record makes more bytes than there is room for.
+    Crossing,
+}
+
+// The answer of a row packed or unpacked: the packed bytes, written or used, and the records. A refusal has its number and place,
+// and 0 in all else.
+pub struct RowAnswer {
+    pub number: u8,
+    pub place: usize,
+    pub bytes: usize,
+    pub records: usize,
+}
+
+// The record that a control byte begins.
+fn control_of(x: u8) -> Record
+    ensures { λ r. ⌜ r ≡ control x ⌝ }
+{
+    if x < 128 {
+        return Record::Literal(x + 1);
+    }
+    if x == 128 {
+        return Record::Nothing;
+    }
+    Record::Repeat(255 - x + 2)
+}
+
+// How many bytes of input a record takes up, its control byte included.
+pub fn packed_len(r: Record) -> usize
+    ensures { λ n. ⌜ n ≡ packedLen r ⌝ }
+{
+    match r {
+        Record::Literal(n) => n as usize + 1,
+        Record::Repeat(_) => 2,
+        Record::Nothing => 1,
+        Record::Truncated => 0,
+        Record::Crossing => 0,
+    }
+}
+
+// How many bytes of the row a record makes.
+pub fn row_len(r: Record) -> usize
+    ensures { λ n. ⌜ n ≡ rowLen r ⌝ }
+{
+    match r {
+        Record::Literal(n) => n as usize,
+        Record::Repeat(n) => n as usize,
+        Record::Nothing => 0,
+        Record::Truncated => 0,
+        Record::Crossing => 0,
+    }
+}
+
+// The refusal number of a record at fault, and 0 of a whole one.
+pub fn fault_of(r: Record) -> u8
+    ensures { λ n. ⌜ n ≡ fault r ⌝ }
+{
+    match r {
+        Record::Literal(_) => 0,
+        Record::Repeat(_) => 0,
+        Record::Nothing => 0,
+        Record::Truncated => INPUT_ENDS,
+        Record::Crossing => RECORD_CROSSES,
+    }
+}
+
+// The record whose control byte stands at an offset. The row's end is judged before missing input.
+pub fn record_at(file: &[u8], at: usize, room: usize) -> Record
+    ensures { λ r. ⌜ r ≡ recordAt (drop at (now (file .entry))) room ⌝ }
+{
+    if file.len() <= at {
+        return Record::Truncated;
+    }
+    let x = file[at];
+    let r = control_of(x);
+    if room < row_len(r) {
+        return Record::Crossing;
+    }
+    if file.len() - at < packed_len(r) {
+        return Record::Truncated;
+    }
+    r
+}
