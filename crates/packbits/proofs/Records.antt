@@ -106,4 +106,3 @@ pub whole-at : (file : List ℕ) (from room : ℕ) (r : Record) → r ≡ record
 whole-at file from room r is e =
     let w : Whole r (drop from file) room = rw is (is-whole (drop from file) room (rw is at e)) in
     record { takes = w .takes; has = omega (arith, length-drop from file); fits = w .fits; makes = w .makes }
-

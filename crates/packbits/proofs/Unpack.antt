@@ -109,4 +109,3 @@ pub bounded : (input : List ℕ) (width : ℕ) → Bounded input width (unpack i
 bounded =
     by-records Bounded (λ input. (refl, omega arith, omega arith)) (λ input room h e. (e, omega arith))
     (λ input room h e o b. bounded-after input room (recordAt input room) (is-whole input room e) o b)
-
