@@ -1,0 +1,5 @@
+pub mod Controls
+pub mod Costs
+pub mod IsLeast
+pub mod Least
+pub mod Pack

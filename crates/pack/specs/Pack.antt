@@ -1,0 +1,29 @@
+-- Row pack: what is given back and written (document 01, "Order of judging": row pack). Assumes nothing: these are definitions.
+use Prim.Native.Nat.{ℕ}
+use mathlib.Core.Bool.{cond}
+use mathlib.Core.List.{List}
+use lib.ListN.{length}
+use lib.Dec.{ltb, leb}
+use Rattle.outcome.specs.Outcome.{Outcome, refuseIf}
+use Rattle.outcome.specs.Refusal.{areaTooShort, outOfRange}
+use Rattle.packbits.specs.Row.{Row, done, widthOutOfRange}
+use Rattle.pack.specs.Least.{least, leastRecords}
+
+-- the row's least body into an output of so many bytes, which must have at least `needed`
+unfoldable pub packWithin : ℕ → List ℕ → ℕ → Outcome Row
+packWithin needed row room =
+    refuseIf (widthOutOfRange (length row)) outOfRange
+    (refuseIf (ltb room needed) areaTooShort
+    (done (length (least row)) (leastRecords row) (least row)))
+
+-- row pack: the row is the whole input, and the output has 129 bytes at least
+abbrev pub packRow : List ℕ → ℕ → Outcome Row
+packRow row room = packWithin 129 row room
+
+-- the same into an output that need have no more bytes than are written
+abbrev pub packInto : List ℕ → ℕ → Outcome Row
+packInto row room = packWithin (length (least row)) row room
+
+-- the length of the least body of a row of at most 128 bytes; 0 of a wider one
+abbrev pub packedLen : List ℕ → ℕ
+packedLen row = cond (leb (length row) 128) (length (least row)) 0
