@@ -1,0 +1,35 @@
+-- The colour that a register shows (document 01, "Three resolutions", "Order of judging": colour). Assumes nothing: these are definitions.
+use Prim.Native.Nat.{ℕ}
+use mathlib.Core.Bool.{cond}
+use mathlib.Core.List.{List}
+use lib.ListN.{getD}
+use lib.Dec.{leb, eqb}
+use Rattle.outcome.specs.Outcome.{Outcome, accepted, refused, refuseIf}
+use Rattle.outcome.specs.Refusal.{outOfRange}
+use Rattle.resolution.specs.declared.Resolution.{Resolution}
+use Rattle.resolution.specs.declared.Resolution.the-variants.{Low, Medium, High}
+use Rattle.resolution.specs.Shapes.{registersOf}
+use Rattle.resolution.specs.Choice.{withResolution}
+use Rattle.colour.specs.declared.ColourAnswer.{ColourAnswer}
+use Rattle.colour.specs.Palette.{Rgb, wordColour}
+
+abbrev pub white : Rgb
+white = record { red = 255; green = 255; blue = 255 }
+
+abbrev pub black : Rgb
+black = record { red = 0; green = 0; blue = 0 }
+
+-- the colour of a register: at high resolution 0 is white and 1 black, whatever the palette holds
+unfoldable pub shownBy : Resolution → List ℕ → ℕ → Rgb
+shownBy Low palette v = wordColour (getD palette v 0)
+shownBy Medium palette v = wordColour (getD palette v 0)
+shownBy High palette v = cond (eqb v 0) white black
+
+-- colour: the resolution's number is judged, then the register
+unfoldable pub shown : ℕ → List ℕ → ℕ → Outcome Rgb
+shown number palette v = withResolution number (λ r. refuseIf (leb (registersOf r) v) outOfRange (accepted (shownBy r palette v)))
+
+-- a refusal gives its number, its place, and 0 in all else
+abbrev pub colourAnswer : Outcome Rgb → ColourAnswer
+colourAnswer (accepted c) = record { number = 0; place = 0; red = c .red; green = c .green; blue = c .blue }
+colourAnswer (refused number place) = record { number = number; place = place; red = 0; green = 0; blue = 0 }

@@ -1,0 +1,31 @@
+-- A legend's entries: sure, unsure or other (document 01, "pond reading"). Assumes nothing: these are definitions.
+use Prim.Native.Nat.{ℕ, zero, suc}
+use mathlib.Core.Bool.{Bool, true, cond, _&&_}
+use mathlib.Core.List.{List}
+use lib.ListN.{getD}
+use lib.Dec.{leb, eqb}
+use Rattle.pond.specs.declared.Legend.{Legend}
+
+-- the class and the confidence of register v
+abbrev pub classOf : Legend → ℕ → ℕ
+classOf l v = getD (l .classes) v 0
+
+abbrev pub confidenceOf : Legend → ℕ → ℕ
+confidenceOf l v = getD (l .confidences) v 0
+
+-- the confidences of the first n registers are at most 100
+unfoldable pub confidencesFit : Legend → ℕ → Bool
+confidencesFit l zero = true
+confidencesFit l (suc n) = leb (confidenceOf l n) 100 && confidencesFit l n
+
+-- 1 for a register of the class, at or above the floor, else 0
+unfoldable pub isSure : Legend → ℕ → ℕ → ℕ → ℕ
+isSure l class floor v = cond (eqb (classOf l v) class) (cond (leb floor (confidenceOf l v)) 1 0) 0
+
+-- 1 for a register of the class, below the floor, else 0
+unfoldable pub isUnsure : Legend → ℕ → ℕ → ℕ → ℕ
+isUnsure l class floor v = cond (eqb (classOf l v) class) (cond (leb floor (confidenceOf l v)) 0 1) 0
+
+-- 1 for a register of another class, else 0
+unfoldable pub isOther : Legend → ℕ → ℕ → ℕ
+isOther l class v = cond (eqb (classOf l v) class) 0 1

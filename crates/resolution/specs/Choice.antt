@@ -1,0 +1,23 @@
+-- The resolution that a number names; above 2 there is none (document 01, "Numbers given back": 5). Assumes nothing: these are definitions.
+use Prim.Native.Nat.{ℕ}
+use mathlib.Core.Bool.{cond}
+use lib.Dec.{eqb}
+use Rattle.outcome.specs.Outcome.{Outcome, refused}
+use Rattle.outcome.specs.Refusal.{unknownResolution}
+use Rattle.resolution.specs.declared.Chosen.{Chosen}
+use Rattle.resolution.specs.declared.Chosen.the-variants.{Known, Unknown}
+use Rattle.resolution.specs.declared.Resolution.{Resolution}
+use Rattle.resolution.specs.declared.Resolution.the-variants.{Low, Medium, High}
+
+-- 0 low, 1 medium, 2 high
+abbrev pub chosen : ℕ → Chosen
+chosen n = cond (eqb n 0) (Known Low) (cond (eqb n 1) (Known Medium) (cond (eqb n 2) (Known High) Unknown))
+
+-- judged further with the resolution, or refused where there is none
+abbrev pub judgeWith : {A : Type 0} → Chosen → (Resolution → Outcome A) → Outcome A
+judgeWith (Known r) further = further r
+judgeWith Unknown further = refused unknownResolution 0
+
+-- the same from the resolution's number
+abbrev pub withResolution : {A : Type 0} → ℕ → (Resolution → Outcome A) → Outcome A
+withResolution number further = judgeWith (chosen number) further

@@ -1,0 +1,2 @@
+pub mod PlaneRows
+pub mod Registers

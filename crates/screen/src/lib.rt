@@ -1,0 +1,1 @@
+// The ST screen: its registers and its plane rows. Definitions: specs/.
