@@ -1,0 +1,3 @@
+pub mod LeastRows
+pub mod UnpackRows
+pub mod UnpacksRows

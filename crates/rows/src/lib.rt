@@ -1,0 +1,1 @@
+// Rows of one width, packed end to end. Definitions: specs/.
