@@ -1,3 +1,2 @@
-pub mod LeastRows
 pub mod UnpackRows
 pub mod UnpacksRows

@@ -1,1 +1,0 @@
-// Rows of one width, packed end to end. Definitions: specs/.

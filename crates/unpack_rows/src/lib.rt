@@ -1,0 +1,1 @@
+// Rows of one width, each unpacked from where the one before it ended. Definitions: specs/.
