@@ -67,11 +67,11 @@ readPacked file r =
     refuseIf (ltb 32065 (length file)) wrongLength
     (tailAfter file r (unpackRowsAt file 34 (rowBytesOf r) (planeRowsOf r)))
 
+unfoldable pub readChosen : List ℕ → Resolution → Outcome Reading
+readChosen file r = cond (degasPacked file) (readPacked file r) (readRaw file)
+
 unfoldable pub readDegas : List ℕ → Outcome Reading
-readDegas file =
-    refuseIf (ltb (length file) 34) wrongLength
-    (withResolution (degasResolution file) (λ r.
-    cond (degasPacked file) (readPacked file r) (readRaw file)))
+readDegas file = refuseIf (ltb (length file) 34) wrongLength (withResolution (degasResolution file) (λ r. readChosen file r))
 
 -- ---- NEOchrome: flag word, resolution word, palette, the screen at 128
 
