@@ -1,11 +1,11 @@
 -- Laws of `over` and `overAt`, and of the loops that write them, one element a turn. Assumes nothing.
 use mathlib.Core.Path.{_≡_, refl, sym, ap, _∙_}
-use mathlib.Core.List.{List, [], _∷_, _++_, append-assoc}
+use mathlib.Core.List.{List, [], _∷_, _++_, append-assoc, append-nil}
 use Prim.Native.Nat.{ℕ, zero, suc, _+_, _-_, _≤_, _<_}
 use native.Mathlib.Decide.{decLt}
 use native.Mathlib.Numerals.{add-one}
 use native.Mathlib.Omega.{arith}
-use lib.ListN.{length, getD, take, drop, set, length-append, length-drop, List·getD-append}
+use lib.ListN.{length, getD, take, drop, set, length-append, length-drop, drop-of-length-le, List·getD-append}
 use lib.Seq.{drop-cons, drop-drop, take-suc, take-all, append-snoc, set-at, length-take-le, getD-take, getD-drop, getD-append-add, ext-getD, paste, paste-suc}
 use Rattle.lists.specs.Over.{over, overAt}
 use Rattle.lists.specs.Tabulate.{tabulate}
@@ -45,6 +45,20 @@ module _ {A : Type 0} where
   -- after the last turn
   pub over-done : (s d out : List A) (k : ℕ) → length s ≤ k → out ≡ over (take k s) d → out ≡ over s d
   over-done s d out k h is = is ∙ ap (λ (t : List A). over t d) (take-all k s h)
+
+  -- a list that is written over whole is gone
+  pub over-whole : (s d : List A) → length d ≤ length s → over s d ≡ s
+  over-whole s d h = ap (λ (t : List A). s ++ t) (drop-of-length-le d h) ∙ append-nil s
+
+  -- the same loop where s is given by a rule, and its end where s takes up the whole list
+  pub tabulate-turn : (n : ℕ) (f : ℕ → A) (d out : List A) (k : ℕ) (v : A) → k < n → k < length d → out ≡ over (take k (tabulate n f)) d → v ≡ f k
+      → set out k v ≡ over (take (k + 1) (tabulate n f)) d
+  tabulate-turn n f d out k v hn hd is e =
+      over-turn (tabulate n f) d out k v v (omega (arith, length-tabulate n f)) hd is (e ∙ sym (getD-tabulate n f k v hn))
+
+  pub tabulate-done : (n : ℕ) (f : ℕ → A) (d out : List A) (k : ℕ) → n ≤ k → length d ≤ n → out ≡ over (take k (tabulate n f)) d → out ≡ tabulate n f
+  tabulate-done n f d out k hk hd is =
+      over-done (tabulate n f) d out k (omega (arith, length-tabulate n f)) is ∙ over-whole (tabulate n f) d (omega (arith, length-tabulate n f))
 
   -- ---- from an offset on
 

@@ -1,11 +1,11 @@
--- A part of a slice that runs to its end, as `&s[a..]` lends it. Assumes nothing.
-use Prim.Native.Nat.{ℕ, _-_, _≤_}
+-- Parts of a slice, as `&s[a..]` and `&s[a..e]` lend them. Assumes nothing.
+use Prim.Native.Nat.{ℕ, _+_, _-_, _≤_}
 use native.Mathlib.Omega.{arith}
 use mathlib.Core.Path.{_≡_, ap, _∙_}
 use mathlib.Core.List.{List, _++_, append-nil}
 use borrow.Rule.Slice.PartMut.{putMid, post-is}
 use lib.ListN.{length, take, drop, length-drop}
-use lib.Seq.{take-all, drop-length}
+use lib.Seq.{take-all, take-length, drop-length}
 use Rattle.lists.specs.Over.{over, overAt}
 
 module _ {A : Type 0} where
@@ -22,3 +22,12 @@ module _ {A : Type 0} where
   -- the whole, where the part was written over by w from its front on
   pub tail-over : (s t w : List A) (a : ℕ) → a ≤ length s → t ≡ over w (take (length s - a) (drop a s)) → putMid a (length s - a) s t ≡ overAt a w s
   tail-over s t w a h e = tail-put s t a h ∙ ap (λ (l : List A). take a s ++ l) (e ∙ ap (over w) (tail-part s a))
+
+  -- n elements from an offset on, copied to the front of d by the kit's `bytes::copy`
+  pub copied-part : (s d out : List A) (at n : ℕ) (part : List A) → part ≡ take (at + n - at) (drop at s)
+      → out ≡ take (length part) part ++ drop (length part) d → out ≡ over (take n (drop at s)) d
+  copied-part s d out at n part is e =
+      let more : at + n - at ≡ n = omega arith in
+      e
+      ∙ ap (λ (l : List A). l ++ drop (length part) d) (take-length part)
+      ∙ ap (λ (l : List A). over l d) (is ∙ ap (λ (k : ℕ). take k (drop at s)) more)

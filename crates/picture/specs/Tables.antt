@@ -3,7 +3,7 @@
 use Prim.Native.Nat.{ℕ, _+_, _*_}
 use mathlib.Core.Bool.{false}
 use mathlib.Core.List.{List, [], map, flatten}
-use lib.ListN.{replicate}
+use lib.ListN.{getD, replicate}
 use Rattle.lists.specs.Tabulate.{tabulate}
 use Rattle.words.specs.Word.{wordsAt, wordsBytes}
 use Rattle.picture.specs.declared.Table.{Table}
@@ -17,12 +17,12 @@ tablesAt s at = tabulate 4 (λ i. wordsAt 4 s (at + i * 8))
 abbrev pub zeroTables : List (List ℕ)
 zeroTables = replicate 4 (replicate 4 0)
 
--- tables as a picture holds them, and back
-abbrev pub held : List (List ℕ) → List Table
-held tables = map (λ (t : List ℕ). record { words = t }) tables
+-- four tables as a picture holds them, and back
+unfoldable pub held : List (List ℕ) → List Table
+held tables = tabulate 4 (λ i. record { words = getD tables i [] })
 
-abbrev pub tablesOf : List Table → List (List ℕ)
-tablesOf tables = map (λ (t : Table). t .words) tables
+unfoldable pub tablesOf : List Table → List (List ℕ)
+tablesOf tables = tabulate 4 (λ i. getD tables i (record { words = [] }) .words)
 
 -- their bytes, one table after the other
 unfoldable pub tablesBytes : List (List ℕ) → List ℕ
