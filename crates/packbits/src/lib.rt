@@ -1,15 +1,9 @@
-// PackBits: one row unpacked. Definitions: specs/. Packing is in the crate least.
+// PackBits records: what a control byte says, and the record at an offset of a file. Definitions: specs/. Rows are unpacked in the
+// crate unpack and packed in the crate least.
 ghost use mathlib.Core.Path.{_≡_};
-ghost use Prim.Native.Nat.{_+_, _≤_};
-ghost use lib.ListN.{length, drop};
-ghost use Rattle.lists.specs.Over.{overAt};
-ghost use Rattle.outcome.specs.Outcome.{refused};
-ghost use Rattle.packbits.specs.Records.{control, packedLen, rowLen, rowBytes, fault, recordAt};
-ghost use Rattle.packbits.specs.Row.{rowAnswer, rowOutput};
-ghost use Rattle.packbits.specs.Unpack.{unpack, unpackAt, unpackRow};
-use outcome::AREA_TOO_SHORT;
+ghost use lib.ListN.{drop};
+ghost use Rattle.packbits.specs.Records.{control, packedLen, rowLen, fault, recordAt};
 use outcome::INPUT_ENDS;
-use outcome::OUT_OF_RANGE;
 use outcome::RECORD_CROSSES;
 
 // The widest row.
