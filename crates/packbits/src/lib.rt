@@ -2,7 +2,9 @@
 // crate unpack and packed in the crate least.
 ghost use mathlib.Core.Path.{_≡_};
 ghost use lib.ListN.{drop};
+ghost use Rattle.outcome.specs.Outcome.{refused};
 ghost use Rattle.packbits.specs.Records.{control, packedLen, rowLen, fault, recordAt};
+ghost use Rattle.packbits.specs.Row.{rowAnswer};
 use outcome::INPUT_ENDS;
 use outcome::RECORD_CROSSES;
 
@@ -30,6 +32,18 @@ pub struct RowAnswer {
     pub place: usize,
     pub bytes: usize,
     pub records: usize,
+}
+
+// The answer of a row refused with a number that has no place.
+pub fn row_refused(number: u8) -> RowAnswer
+    ensures { λ r. ⌜ r ≡ rowAnswer (refused number 0) ⌝ }
+{
+    RowAnswer {
+        number,
+        place: 0,
+        bytes: 0,
+        records: 0,
+    }
 }
 
 // The record that a control byte begins.
