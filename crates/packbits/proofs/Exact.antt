@@ -27,8 +27,11 @@ abbrev filled : ℕ → ℕ → List ℕ → Progress
 filled bytes records made = record { bytes = bytes; records = records; made = made; fault = 0 }
 
 same-done : {u u′ n n′ : ℕ} {row row′ : List ℕ} → done u n row ≡ done u′ n′ row′ → (u ≡ u′) × (n ≡ n′) × (row ≡ row′)
-same-done e =
-    (ap (λ (o : Outcome Row). later o (λ r. r .bytes) 0) e, ap (λ (o : Outcome Row). later o (λ r. r .records) 0) e, ap (λ (o : Outcome Row). later o (λ r. r .made) []) e)
+same-done e = (
+  ap (λ (o : Outcome Row). later o (λ r. r .bytes) 0) e,
+  ap (λ (o : Outcome Row). later o (λ r. r .records) 0) e,
+  ap (λ (o : Outcome Row). later o (λ r. r .made) []) e,
+)
 
 same-filled : {u u′ n n′ f : ℕ} {row row′ : List ℕ} → f ≡ 0 → (u ≡ u′) × (n ≡ n′) × (row ≡ row′)
     → record { bytes = u; records = n; made = row; fault = f } ≡ filled u′ n′ row′
@@ -36,6 +39,7 @@ same-filled none e = cc
 
 -- only a full row is accepted
 accepted-full : (p : Progress) (bytes records : ℕ) (made : List ℕ) → outcomeOf p ≡ done bytes records made → p ≡ filled bytes records made
+unfolding outcomeOf
 accepted-full p bytes records made = go (eqb (p .fault) 0) refl
   where
     go : (b : Bool) → eqb (p .fault) 0 ≡ b → cond b (done (p .bytes) (p .records) (p .made)) (refused (p .fault) (p .bytes)) ≡ done bytes records made
@@ -73,6 +77,7 @@ fills (nothing {b} {body} {row} {n} u) rest =
     full-step Nothing 128 [] body [] (b ∷ row) rest n (sym control-nothing) refl refl refl (λ tail. refl) (omega arith) (fills u rest)
 
 pub complete : {body row : List ℕ} {n : ℕ} → Unpacks body row n → (rest : List ℕ) → unpack (body ++ rest) (length row) ≡ done (length body) n row
+unfolding outcomeOf
 complete u rest = ap outcomeOf (fills u rest)
 
 -- ---- sound: what is accepted is a body of the relation

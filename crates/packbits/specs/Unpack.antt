@@ -46,7 +46,7 @@ unfoldable pub progress : List ℕ → ℕ → Progress
 progress input width = progressWithin (suc (length input)) input width
 
 -- a full row is accepted; a fault is refused, its place the number of packed bytes before it
-abbrev pub outcomeOf : Progress → Outcome Row
+unfoldable pub outcomeOf : Progress → Outcome Row
 outcomeOf p = cond (eqb (p .fault) 0) (done (p .bytes) (p .records) (p .made)) (refused (p .fault) (p .bytes))
 
 -- a row of so many bytes, unpacked from the front of the input; places count from the input's start

@@ -56,9 +56,11 @@ module _ (file : List ℕ) (at width : ℕ) (out₀ : List ℕ) (room : width �
       abbrev rest : List ℕ
       rest = left file at (used + packedLen r) (width - (to + rowLen r)) .made
 
+      room-left : width - to - rowLen r ≡ width - (to + rowLen r)
+      room-left = omega arith
+
       next : Writing (progress (drop at file) width .made) (piece ++ rest) out₀ out to
       next =
-          let room-left : width - to - rowLen r ≡ width - (to + rowLen r) = omega arith in
           let e = left-whole file at used (width - to) r is (omega arith) ok in
           subst (λ (l : List ℕ). Writing (progress (drop at file) width .made) l out₀ out to)
           (ap (λ (q : Progress). q .made) e ∙ ap (λ (k : ℕ). piece ++ left file at (used + packedLen r) k .made) room-left) (p .writing)
@@ -73,7 +75,6 @@ module _ (file : List ℕ) (at width : ℕ) (out₀ : List ℕ) (room : width �
           → Putting file at width out₀ (putMid to (length out - to) out last) (used + packedLen r) (to + rowLen r)
       putting-turn last e =
           let w = whole-next in
-          let room-left : width - to - rowLen r ≡ width - (to + rowLen r) = omega arith in
           record {
             inside = omega (arith, w .fits);
             reading = rw room-left at (reading-turn file at used (width - to) r is (omega arith) ok width (p .reading));

@@ -32,11 +32,10 @@ reading-start file at width =
     let e = left-all file at width in
     record { within = omega arith; bytes = omega (arith, ap (λ (p : Progress). p .bytes) e); fault = ap (λ (p : Progress). p .fault) e }
 
--- ---- a row that is full
+-- ---- no room left
 
-module _ (file : List ℕ) (at used room : ℕ) (h : room ≤ 0) where
-  pub left-full : left file at used room ≡ stopped 0
-  left-full = let none : room ≡ 0 = omega arith in rw none (progress-full (drop (at + used) file))
+pub left-full : (file : List ℕ) (at used room : ℕ) → room ≤ 0 → left file at used room ≡ stopped 0
+left-full file at used room h = let none : room ≡ 0 = omega arith in rw none (progress-full (drop (at + used) file))
 
 -- ---- the next record
 
@@ -61,9 +60,13 @@ module _ (file : List ℕ) (at used room : ℕ) (r : Record) (is : r ≡ recordA
 
 -- ---- the answer
 
-module _ (at : ℕ) (p : Progress) (number used records : ℕ) (is : p .fault ≡ number) (bytes : p .bytes ≡ used) where
-  pub answer-refused : (number ≡ 0 → ⊥) → rowAnswer (placed at (outcomeOf p)) ≡ record { number = number; place = at + used; bytes = 0; records = 0 }
-  answer-refused e = rw (is, bytes) (simp (ne-eqb number 0 e))
+module _ (at : ℕ) (p : Progress) (used : ℕ) (bytes : p .bytes ≡ used) where
+  pub answer-refused : (number : ℕ) → p .fault ≡ number → (number ≡ 0 → ⊥)
+      → rowAnswer (placed at (outcomeOf p)) ≡ record { number = number; place = at + used; bytes = 0; records = 0 }
+  unfolding outcomeOf
+  answer-refused number is e = rw (is, bytes) (simp (ne-eqb number 0 e))
 
-  pub answer-accepted : number ≡ 0 → p .records ≡ records → rowAnswer (placed at (outcomeOf p)) ≡ record { number = 0; place = 0; bytes = used; records = records }
-  answer-accepted e counted = simp (eq-eqb (p .fault) 0 (is ∙ e), bytes, counted)
+  pub answer-accepted : (records : ℕ) → p .fault ≡ 0 → p .records ≡ records
+      → rowAnswer (placed at (outcomeOf p)) ≡ record { number = 0; place = 0; bytes = used; records = records }
+  unfolding outcomeOf
+  answer-accepted records is counted = simp (eq-eqb (p .fault) 0 is, bytes, counted)

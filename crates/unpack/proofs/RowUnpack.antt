@@ -51,6 +51,7 @@ refused-keeps (refused number place) out h = refl
 
 -- an accepted row stands at the front of the output
 pub accepted-output : (p : Progress) (out : List ℕ) → rowAnswer (outcomeOf p) .number ≡ 0 → rowOutput (outcomeOf p) out ≡ over (p .made) out
+unfolding outcomeOf
 accepted-output p out = go (eqb (p .fault) 0) refl
   where
     go : (b : Bool) → eqb (p .fault) 0 ≡ b → rowAnswer (cond b (done (p .bytes) (p .records) (p .made)) (refused (p .fault) (p .bytes))) .number ≡ 0

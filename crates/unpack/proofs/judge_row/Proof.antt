@@ -1,6 +1,6 @@
 -- `unpack::judge_row` meets its contract. The invariant: `Reading`, and the records read count before those that are left. The measure
 -- is what is left of the file. Assumes nothing.
-use mathlib.Core.Path.{_≡_, refl, sym, ap, _∙_}
+use mathlib.Core.Path.{_≡_, sym, ap, _∙_}
 use Prim.Native.Nat.{_+_, _-_, _≤_}
 use native.Mathlib.Omega.{arith}
 use lib.ListN.{length, drop}
@@ -51,8 +51,8 @@ returns c =
     let a = c .before .before .before .before .before .before .args in
     let stop = left-fault (a .file .now) (a .at) (l .used) (l .room) (rec .result) (rec .ensures) (c .before .before .before .loop-test .taken) (λ e. c .if1 .taken (c .before .fault-of .ensures ∙ e)) in
     sym
-    (answer-refused (a .at) (progress (drop (a .at) (a .file .now)) (a .width)) _ (l .used) 0 (sym (l .inv .0 .fault) ∙ ap (λ (p : Progress). p .fault) stop ∙ sym (c .before .fault-of .ensures))
-    (omega (arith, ap (λ (p : Progress). p .bytes) stop, l .inv .0 .bytes)) (c .if1 .taken))
+    (answer-refused (a .at) (progress (drop (a .at) (a .file .now)) (a .width)) (l .used) (omega (arith, ap (λ (p : Progress). p .bytes) stop, l .inv .0 .bytes)) _
+    (sym (l .inv .0 .fault) ∙ ap (λ (p : Progress). p .fault) stop ∙ sym (c .before .fault-of .ensures)) (c .if1 .taken))
 
 packed-len-requires : tie.Need-packed-len-requires Inv-loop μ-loop
 packed-len-requires c κs = search needs
@@ -93,9 +93,8 @@ returns-2 c =
     let a = c .before .before .before .args in
     let stop = left-full (a .file .now) (a .at) (l .used) (l .room) (c .loop-test .left) in
     sym
-    (answer-accepted (a .at) (progress (drop (a .at) (a .file .now)) (a .width)) 0 (l .used) (l .records) (sym (l .inv .0 .fault) ∙ ap (λ (p : Progress). p .fault) stop)
-    (omega (arith, ap (λ (p : Progress). p .bytes) stop, l .inv .0 .bytes)) refl
-    (omega (arith, ap (λ (p : Progress). p .records) stop, l .inv .2)))
+    (answer-accepted (a .at) (progress (drop (a .at) (a .file .now)) (a .width)) (l .used) (omega (arith, ap (λ (p : Progress). p .bytes) stop, l .inv .0 .bytes)) (l .records)
+    (sym (l .inv .0 .fault) ∙ ap (λ (p : Progress). p .fault) stop) (omega (arith, ap (λ (p : Progress). p .records) stop, l .inv .2)))
 
 pub judge-row-spec : {M : Type 1} → statement M
 judge-row-spec =

@@ -24,7 +24,8 @@ same-length : tie.Need-same-length
 same-length c = search needs
 
 returns : tie.Need-returns
-returns c = let a = c .before .before .before .before .before .before .before .args in
+returns c =
+    let a = c .before .before .before .before .before .before .before .args in
     copied-part (a .file .now) (a .out .now) _ (a .from) (a .n) _ refl (c .before .before .copy .ensures .1)
 
 pub put-literal-spec : {M : Type 1} → statement M
