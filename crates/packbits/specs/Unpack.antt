@@ -11,25 +11,47 @@ use Rattle.packbits.specs.declared.Record.{Record}
 use Rattle.packbits.specs.Records.{packedLen, rowLen, rowBytes, fault, recordAt}
 use Rattle.packbits.specs.Row.{Row, done, widthOutOfRange}
 
--- an outcome, with so many packed bytes, so many records and these bytes of the row before it
-abbrev pub after : ℕ → ℕ → List ℕ → Outcome Row → Outcome Row
-after bytes records made (accepted r) = done (bytes + r .bytes) (records + r .records) (made ++ r .made)
-after bytes records made (refused number place) = refused number (bytes + place)
+-- How far unpacking a row came.
+pub record Progress : Type 0 where
+  -- packed bytes used, which is the place of the record at fault
+  pub bytes : ℕ
+  -- whole records, those that do nothing included
+  pub records : ℕ
+  -- the bytes of the row that they make
+  pub made : List ℕ
+  -- the fault of the record at which it stopped; 0: the row is full
+  pub fault : ℕ
 
--- A whole record, and then what `next` makes of the input and the room that it leaves. A record at fault is refused at its control byte.
-unfoldable pub step : Record → List ℕ → ℕ → (List ℕ → ℕ → Outcome Row) → Outcome Row
+-- stopped before the first record, by this fault or, with 0, by a full row
+abbrev pub stopped : ℕ → Progress
+stopped number = record { bytes = 0; records = 0; made = []; fault = number }
+
+-- a whole record of so many packed bytes, which makes these bytes of the row, before further progress
+abbrev pub after : ℕ → List ℕ → Progress → Progress
+after bytes made p = record { bytes = bytes + p .bytes; records = suc (p .records); made = made ++ p .made; fault = p .fault }
+
+-- A whole record, and then what `next` makes of the input and the room that it leaves; a record at fault stops.
+unfoldable pub step : Record → List ℕ → ℕ → (List ℕ → ℕ → Progress) → Progress
 step r input room next =
-    cond (eqb (fault r) 0) (after (packedLen r) 1 (rowBytes r input) (next (drop (packedLen r) input) (room - rowLen r))) (refused (fault r) 0)
+    cond (eqb (fault r) 0) (after (packedLen r) (rowBytes r input) (next (drop (packedLen r) input) (room - rowLen r))) (stopped (fault r))
 
 -- A row is finished the moment it is full. Each record takes a byte at least, so one more than the input's length bounds the recursion.
-unfoldable pub rowWithin : ℕ → List ℕ → ℕ → Outcome Row
-rowWithin zero input room = refused inputEnds 0
-rowWithin (suc bound) input zero = done 0 0 []
-rowWithin (suc bound) input (suc room) = step (recordAt input (suc room)) input (suc room) (λ i r. rowWithin bound i r)
+unfoldable pub progressWithin : ℕ → List ℕ → ℕ → Progress
+progressWithin zero input room = stopped inputEnds
+progressWithin (suc bound) input zero = stopped 0
+progressWithin (suc bound) input (suc room) = step (recordAt input (suc room)) input (suc room) (λ i r. progressWithin bound i r)
+
+-- how far unpacking a row of so many bytes from the front of the input comes
+unfoldable pub progress : List ℕ → ℕ → Progress
+progress input width = progressWithin (suc (length input)) input width
+
+-- a full row is accepted; a fault is refused, its place the number of packed bytes before it
+unfoldable pub outcomeOf : Progress → Outcome Row
+outcomeOf p = cond (eqb (p .fault) 0) (done (p .bytes) (p .records) (p .made)) (refused (p .fault) (p .bytes))
 
 -- a row of so many bytes, unpacked from the front of the input; places count from the input's start
-unfoldable pub unpack : List ℕ → ℕ → Outcome Row
-unpack input width = rowWithin (suc (length input)) input width
+abbrev pub unpack : List ℕ → ℕ → Outcome Row
+unpack input width = outcomeOf (progress input width)
 
 -- an outcome of what starts at an offset of a file, with its place counted from the file's start
 abbrev pub placed : {A : Type 0} → ℕ → Outcome A → Outcome A

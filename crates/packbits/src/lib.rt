@@ -1,15 +1,11 @@
-// PackBits: one row unpacked. Definitions: specs/. Packing is in the crate least.
+// PackBits records: what a control byte says, and the record at an offset of a file. Definitions: specs/. Rows are unpacked in the
+// crate unpack and packed in the crate least.
 ghost use mathlib.Core.Path.{_≡_};
-ghost use Prim.Native.Nat.{_+_, _≤_};
-ghost use lib.ListN.{length, drop};
-ghost use Rattle.lists.specs.Over.{overAt};
+ghost use lib.ListN.{drop};
 ghost use Rattle.outcome.specs.Outcome.{refused};
-ghost use Rattle.packbits.specs.Records.{control, packedLen, rowLen, rowBytes, fault, recordAt};
-ghost use Rattle.packbits.specs.Row.{rowAnswer, rowOutput};
-ghost use Rattle.packbits.specs.Unpack.{unpack, unpackAt, unpackRow};
-use outcome::AREA_TOO_SHORT;
+ghost use Rattle.packbits.specs.Records.{control, packedLen, rowLen, fault, recordAt};
+ghost use Rattle.packbits.specs.Row.{rowAnswer};
 use outcome::INPUT_ENDS;
-use outcome::OUT_OF_RANGE;
 use outcome::RECORD_CROSSES;
 
 // The widest row.
@@ -36,6 +32,18 @@ pub struct RowAnswer {
     pub place: usize,
     pub bytes: usize,
     pub records: usize,
+}
+
+// The answer of a row refused with a number that has no place.
+pub fn row_refused(number: u8) -> RowAnswer
+    ensures { λ r. ⌜ r ≡ rowAnswer (refused number 0) ⌝ }
+{
+    RowAnswer {
+        number,
+        place: 0,
+        bytes: 0,
+        records: 0,
+    }
 }
 
 // The record that a control byte begins.

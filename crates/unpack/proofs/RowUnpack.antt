@@ -1,0 +1,87 @@
+-- Row unpack: its cases, what it accepts, and what it leaves as it was. Assumes nothing.
+use mathlib.Core.Path.{_≡_, refl, sym, ap, _∙_}
+use mathlib.Core.Logic.{_↔_}
+use Prim.Native.Nat.{ℕ, _≤_, _<_}
+use native.Mathlib.Decide.{decLt}
+use native.Mathlib.Omega.{arith}
+use mathlib.Core.Bool.{Bool, true, false, cond}
+use mathlib.Core.List.{List}
+use lib.ListN.{length, take}
+use lib.Dec.{eqb}
+use borrow.Author.Tests.{lt-ltb, le-ltb, eq-eqb, ne-eqb, eqb-false}
+use Rattle.lists.specs.Bytes.{Bytes}
+use Rattle.lists.specs.Over.{over}
+use Rattle.outcome.specs.Outcome.{Outcome, accepted, refused}
+use Rattle.outcome.specs.Refusal.{areaTooShort, outOfRange}
+use Rattle.packbits.specs.Row.{Row, done, rowAnswer, rowOutput}
+use Rattle.packbits.specs.Unpack.{Progress, outcomeOf, unpack, placed, unpackRow}
+use Rattle.packbits.specs.Unpacks.{Unpacks}
+use Rattle.packbits.proofs.Exact.{exact}
+
+-- ---- the cases, in the order of judging
+
+module _ (packed : List ℕ) (width room : ℕ) where
+  pub row-empty : width ≡ 0 → unpackRow packed width room ≡ refused outOfRange 0
+  unfolding unpackRow
+  row-empty h = simp (eq-eqb width 0 h)
+
+  pub row-wide : 128 < width → unpackRow packed width room ≡ refused outOfRange 0
+  unfolding unpackRow
+  row-wide h = simp (ne-eqb width 0 (omega arith), lt-ltb 128 width h)
+
+  module _ (some : width ≡ 0 → ⊥) (narrow : width ≤ 128) where
+    pub row-short : room < width → unpackRow packed width room ≡ refused areaTooShort 0
+    unfolding unpackRow
+    row-short h = simp (ne-eqb width 0 some, le-ltb 128 width narrow, lt-ltb room width h)
+
+    pub row-room : width ≤ room → unpackRow packed width room ≡ unpack packed width
+    unfolding unpackRow
+    row-room h = simp (ne-eqb width 0 some, le-ltb 128 width narrow, le-ltb room width h)
+
+-- ---- the answer and the output
+
+pub answer-placed : (o : Outcome Row) → rowAnswer (placed 0 o) ≡ rowAnswer o
+answer-placed (accepted r) = refl
+answer-placed (refused number place) = ap (λ (k : ℕ). record { number = number; place = k; bytes = 0; records = 0 }) (omega arith)
+
+-- a refusal changes no byte of the output
+pub refused-keeps : (o : Outcome Row) (out : List ℕ) → (rowAnswer o .number ≡ 0 → ⊥) → rowOutput o out ≡ out
+refused-keeps (accepted r) out h = absurd (h refl)
+refused-keeps (refused number place) out h = refl
+
+-- an accepted row stands at the front of the output
+pub accepted-output : (p : Progress) (out : List ℕ) → rowAnswer (outcomeOf p) .number ≡ 0 → rowOutput (outcomeOf p) out ≡ over (p .made) out
+unfolding outcomeOf
+accepted-output p out = go (eqb (p .fault) 0) refl
+  where
+    go : (b : Bool) → eqb (p .fault) 0 ≡ b → rowAnswer (cond b (done (p .bytes) (p .records) (p .made)) (refused (p .fault) (p .bytes))) .number ≡ 0
+        → rowOutput (cond b (done (p .bytes) (p .records) (p .made)) (refused (p .fault) (p .bytes))) out ≡ over (p .made) out
+    go true q e = refl
+    go false q e = absurd (eqb-false _ _ q e)
+
+-- ---- what is accepted
+
+-- the width is 1 to 128, the output has room for the row, and the first `used` bytes of the input unpack to the row by so many records
+abbrev pub Accepts : List ℕ → ℕ → ℕ → ℕ → ℕ → List ℕ → Type 0
+Accepts packed width room used records row =
+    (0 < width) × (width ≤ 128) × (width ≤ room) × (length row ≡ width) × (used ≤ length packed) × Unpacks (take used packed) row records
+
+not-both : {o : Outcome Row} {number place : ℕ} {r : Row} → o ≡ refused number place → o ≡ accepted r → ⊥
+not-both p q = let z : _≡_ {A = ℕ} 0 1 = cc in omega arith
+
+-- row unpack accepts just that
+pub row-exact : (packed : List ℕ) (width room used records : ℕ) (row : List ℕ) → Bytes packed
+    → (unpackRow packed width room ≡ done used records row) ↔ Accepts packed width room used records row
+row-exact packed width room used records row bytes = (there (decLt 0 width) (decLt 128 width) (decLt room width), back)
+  where
+    there : Dec (0 < width) → Dec (128 < width) → Dec (room < width) → unpackRow packed width room ≡ done used records row
+        → Accepts packed width room used records row
+    there (no h) q t e = absurd (not-both (row-empty packed width room (omega arith)) e)
+    there (yes h) (yes k) t e = absurd (not-both (row-wide packed width room k) e)
+    there (yes h) (no k) (yes l) e = absurd (not-both (row-short packed width room (omega arith) (omega arith) l) e)
+    there (yes h) (no k) (no l) e =
+        let s = exact packed width used records row bytes .0 (sym (row-room packed width room (omega arith) (omega arith) (omega arith)) ∙ e) in
+        (h, omega arith, omega arith, s .0, s .1, s .2)
+
+    back : Accepts packed width room used records row → unpackRow packed width room ≡ done used records row
+    back s = row-room packed width room (omega arith) (s .1) (s .2) ∙ exact packed width used records row bytes .1 (s .3, s .4, s .5)

@@ -1,0 +1,60 @@
+-- `unpack::put_repeat` meets its contract. The invariant: k bytes are written over the front. Assumes nothing.
+use mathlib.Core.Path.{_≡_, refl, sym, _∙_}
+use Prim.Native.Nat.{_-_, _≤_}
+use native.Mathlib.Omega.{arith}
+use lib.ListN.{length, take, replicate, length-set, length-replicate, getD-replicate}
+use Rattle.lists.specs.Over.{over}
+use Rattle.lists.proofs.Over.{over-turn, over-done}
+use Rattle.unpack.proofs.put_repeat.Statement.{statement}
+use Rattle.unpack.proofs.put_repeat.Tie as tie
+
+abbrev Inv-loop : tie.InvT-loop
+Inv-loop byte n out₀ k₀ out k = (k ≤ n) × (length out ≡ length out₀) × (out ≡ over (take k (replicate n byte)) out₀)
+
+abbrev μ-loop : tie.MeasureT-loop
+μ-loop byte n out₀ k₀ out k = n - k
+
+loop-holds : tie.Need-loop-holds Inv-loop μ-loop
+loop-holds c = (omega arith, refl, refl)
+
+slice-write-out : tie.Need-slice-write-out Inv-loop μ-loop
+slice-write-out c = omega arith
+
+add-k : tie.Need-add-k Inv-loop μ-loop
+add-k c = omega arith
+
+loop-less : tie.Need-loop-less Inv-loop μ-loop
+loop-less c = omega arith
+
+loop-again : tie.Need-loop-again Inv-loop μ-loop
+loop-again c =
+    let l = c .before .loop in
+    let a = c .before .before .args in (
+      omega arith,
+      length-set (l .out) _ _ ∙ l .inv .1,
+      over-turn (replicate (a .n) (a .byte)) (a .out .now) (l .out) (l .k) (a .byte) 0 (omega (arith, length-replicate (a .n) (a .byte))) (omega arith) (l .inv .2)
+          (sym (getD-replicate (a .n) (l .k) (a .byte) 0 (omega arith))),
+    )
+
+same-length : tie.Need-same-length Inv-loop μ-loop
+same-length c = omega arith
+
+returns : tie.Need-returns Inv-loop μ-loop
+returns c =
+    let l = c .before .loop in
+    let a = c .before .before .args in
+    over-done (replicate (a .n) (a .byte)) (a .out .now) (l .out) (l .k) (omega (arith, length-replicate (a .n) (a .byte))) (l .inv .2)
+
+pub put-repeat-spec : {M : Type 1} → statement M
+put-repeat-spec =
+    tie.close
+    (tie.spec
+    Inv-loop
+    μ-loop
+    loop-holds
+    slice-write-out
+    add-k
+    loop-less
+    loop-again
+    same-length
+    returns)
