@@ -7,7 +7,7 @@ use lib.ListN.{length, getD, drop, length-drop}
 use Rattle.outcome.specs.Outcome.{Outcome, accepted, refused}
 use Rattle.packbits.specs.Row.{Row}
 use Rattle.packbits.specs.Unpack.{unpack}
-use Rattle.packbits.proofs.Unpack.{Bounded, bounded}
+use Rattle.packbits.proofs.Unpack.{RowBounded, row-bounded}
 use Rattle.unpack_rows.specs.UnpackRows.{Rows, rowThen, andThen, unpackRows}
 use Rattle.unpack_rows.specs.UnpacksRows.{Wide}
 
@@ -17,7 +17,7 @@ abbrev pub RowsBounded : List ℕ → ℕ → ℕ → Outcome Rows → Type 0
 RowsBounded input width n (accepted q) = (length (q .rows) ≡ n) × Wide width (q .rows) × (q .bytes ≤ length input) × (q .records ≤ q .bytes)
 RowsBounded input width n (refused number place) = (number ≡ 0 → ⊥) × (place ≤ length input)
 
-bounded-rowThen : (input : List ℕ) (width n : ℕ) (r : Row) → Bounded input width (accepted r) → (o : Outcome Rows) → RowsBounded (drop (r .bytes) input) width n o
+bounded-rowThen : (input : List ℕ) (width n : ℕ) (r : Row) → RowBounded input width (accepted r) → (o : Outcome Rows) → RowsBounded (drop (r .bytes) input) width n o
     → RowsBounded input width (suc n) (rowThen r o)
 bounded-rowThen input width n r b (accepted q) s = (
   omega (arith, s .0),
@@ -27,7 +27,7 @@ bounded-rowThen input width n r b (accepted q) s = (
 )
 bounded-rowThen input width n r b (refused number place) s = (s .0, omega (arith, b .1, s .1, length-drop (r .bytes) input))
 
-bounded-andThen : (input : List ℕ) (width n : ℕ) (o : Outcome Row) → Bounded input width o → (next : Row → Outcome Rows)
+bounded-andThen : (input : List ℕ) (width n : ℕ) (o : Outcome Row) → RowBounded input width o → (next : Row → Outcome Rows)
     → ((r : Row) → RowsBounded (drop (r .bytes) input) width n (next r)) → RowsBounded input width (suc n) (andThen o next)
 bounded-andThen input width n (accepted r) b next s = bounded-rowThen input width n r b (next r) (s r)
 bounded-andThen input width n (refused number place) b next s = b
@@ -36,7 +36,7 @@ pub rows-bounded : (n width : ℕ) (input : List ℕ) → RowsBounded input widt
 unfolding unpackRows
 rows-bounded zero width input = (refl, tt, omega arith, omega arith)
 rows-bounded (suc n) width input =
-    bounded-andThen input width n (unpack input width) (bounded input width) (λ r. unpackRows n width (drop (r .bytes) input))
+    bounded-andThen input width n (unpack input width) (row-bounded input width) (λ r. unpackRows n width (drop (r .bytes) input))
     (λ r. rows-bounded n width (drop (r .bytes) input))
 
 -- row k of rows of one width has that width

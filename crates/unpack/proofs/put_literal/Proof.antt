@@ -1,6 +1,6 @@
 -- `unpack::put_literal` meets its contract: what `copy` wrote is the part that was lent. Assumes nothing.
 use mathlib.Core.Path.{refl}
-use Rattle.unpack.proofs.Records.{copied-part}
+use Rattle.lists.proofs.Parts.{copied-part}
 use borrow.Author.Needs.{needs}
 use Rattle.unpack.proofs.put_literal.Statement.{statement}
 use Rattle.unpack.proofs.put_literal.Tie as tie
