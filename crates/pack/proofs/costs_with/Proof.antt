@@ -1,0 +1,26 @@
+-- `pack::costs_with` meets its contract. Each return rewrites by the test that led to it.
+use borrow.Author.Tests.{le-leb, lt-leb, eq-eqb, ne-eqb}
+use borrow.Author.Needs.{needs}
+use Rattle.pack.proofs.costs_with.Statement.{statement}
+use Rattle.pack.proofs.costs_with.Tie as tie
+
+add-if1 : tie.Need-add-if1
+add-if1 c = search needs
+
+add-t7 : tie.Need-add-t7
+add-t7 c = search needs
+
+add-t8 : tie.Need-add-t8
+add-t8 c = search needs
+
+sub-t9 : tie.Need-sub-t9
+sub-t9 c = search needs
+
+returns : tie.Need-returns
+returns c = simp (le-leb _ _ (c .before .if1 .taken))
+
+returns-2 : tie.Need-returns-2
+returns-2 c = simp (lt-leb _ _ (c .before .before .if1 .left))
+
+pub costs-with-spec : {M : Type 1} → statement M
+costs-with-spec = tie.close (tie.spec add-if1 add-t7 add-t8 sub-t9 returns returns-2)
