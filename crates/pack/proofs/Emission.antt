@@ -1,5 +1,5 @@
 -- Writing the least body record by record: what the loop of `emit` keeps, and what a turn does to it. Assumes nothing.
-use Prim.Native.Nat.{ℕ, suc, _+_, _-_, _≤_, _<_}
+use Prim.Native.Nat.{ℕ, _+_, _-_, _≤_, _<_}
 use native.Mathlib.Omega.{arith}
 use native.Mathlib.Nat.{le-antisymm}
 use mathlib.Core.Path.{_≡_, sym, ap, _∙_, subst}
@@ -9,8 +9,8 @@ use lib.Seq.{drop-drop, drop-length}
 use borrow.Rule.Slice.PartMut.{putMid}
 use Rattle.lists.specs.Over.{over}
 use Rattle.lists.proofs.Parts.{tail-part}
-use Rattle.lists.proofs.Pieces.{Writing, Written, writing-start, writing-end, writing-more, piece-fits}
-use Rattle.pack.specs.Least.{Body, scan, least, leastRecords}
+use Rattle.lists.proofs.Pieces.{Writing, writing-start, writing-end, writing-more, piece-fits}
+use Rattle.pack.specs.Least.{scan, least, leastRecords}
 use Rattle.pack.specs.Controls.{takenBy, shownBy, recordOf, ControlsFrom}
 use Rattle.pack.proofs.Controls.{Leads, leads, record-length}
 

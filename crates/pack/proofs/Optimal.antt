@@ -1,14 +1,14 @@
 -- `least row` is preferred to every body that unpacks to the row. Assumes nothing.
-use Prim.Native.Nat.{ℕ, zero, suc, _+_, _-_, _≤_, _<_, suc-le-suc}
+use Prim.Native.Nat.{ℕ, zero, suc, _-_, _≤_, _<_, suc-le-suc}
 use native.Mathlib.Omega.{arith}
 use native.Mathlib.Nat.{eq-or-lt-of-le}
 use mathlib.Core.Path.{_≡_, refl, sym, subst, subst₂}
-use mathlib.Core.Logic.{_⊎_, inl, inr, ⊎-elim}
+use mathlib.Core.Logic.{inl, ⊎-elim}
 use mathlib.Core.List.{List, [], _∷_, _++_}
 use lib.ListN.{length, replicate, length-append}
 use Rattle.packbits.specs.Unpacks.{Unpacks, full, literal, repeat, nothing}
 use Rattle.pack.specs.IsLeast.{Preferred}
-use Rattle.pack.specs.Least.{Body, size, Opening, Run, Suffix, literalBody, repeatBody, step, scan, least}
+use Rattle.pack.specs.Least.{size, Run, Suffix, literalBody, repeatBody, step, scan, least}
 use Rattle.pack.proofs.Order.{preferred-refl, preferred-length, preferred-trans, preferred-cons, preferred-append, preferred-control, preferred-longer}
 use Rattle.pack.proofs.Least.{opening-cases, run-cases, best-cases, run-byte, no-run, more-bound, count-bound, after≤best}
 

@@ -1,6 +1,6 @@
 -- A row of at most 128 bytes has one least body, and unpacking that body gives the row back. Assumes nothing.
 use Prim.Native.Nat.{ℕ, _≤_}
-use mathlib.Core.Path.{_≡_, refl, sym, ap, _∙_}
+use mathlib.Core.Path.{_≡_, sym, ap, _∙_}
 use mathlib.Core.List.{List, [], _++_}
 use lib.ListN.{length}
 use Rattle.outcome.specs.Outcome.{Outcome, later}

@@ -1,13 +1,13 @@
 -- `least row` is one record and then the least body of what the record leaves; so it unpacks to the row, and is least. Assumes nothing.
-use Prim.Native.Nat.{ℕ, zero, suc, _+_, _-_, _≤_, _<_, suc-le-suc}
+use Prim.Native.Nat.{ℕ, zero, suc, _-_, _≤_, _<_, suc-le-suc}
 use native.Mathlib.Omega.{arith}
-use mathlib.Core.Path.{_≡_, refl, sym, ap, _∙_, subst, subst₂}
+use mathlib.Core.Path.{_≡_, refl, sym, ap, _∙_, subst}
 use mathlib.Core.List.{List, [], _∷_, _++_}
 use lib.ListN.{length, replicate, take, drop, length-drop, take-append-drop}
 use lib.Seq.{length-take-le}
 use Rattle.packbits.specs.Unpacks.{Unpacks, full, literal, repeat}
 use Rattle.pack.specs.IsLeast.{IsLeast}
-use Rattle.pack.specs.Least.{Body, size, Opening, Run, Suffix, literalBody, repeatBody, step, scan, least, leastRecords}
+use Rattle.pack.specs.Least.{Body, size, Opening, Run, literalBody, repeatBody, scan, least, leastRecords}
 use Rattle.pack.proofs.Least.{opening-cases, run-cases, best-cases, run-byte, more-bound}
 use Rattle.pack.proofs.Optimal.{least-first}
 

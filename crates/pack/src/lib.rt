@@ -15,6 +15,9 @@ use outcome::OUT_OF_RANGE;
 use packbits::MAX_WIDTH;
 use packbits::RowAnswer;
 
+// The longest body that packing makes of a row.
+pub const MAX_BODY: usize = 129;
+
 // What is known of a suffix of the row, in lengths. The terms are those of specs/Least.antt.
 struct Costs {
     best: usize,
@@ -138,7 +141,7 @@ fn step_at(row: &[u8], i: usize, t: Costs) -> Costs
 // For each place of a row the control byte that the least body of the rest of the row begins with, and the length of the whole row's
 // least body.
 struct Plan {
-    controls: [u8; 128],
+    controls: [u8; MAX_WIDTH],
     bytes: usize,
 }
 
@@ -148,7 +151,7 @@ fn plan_of(row: &[u8]) -> Plan
     ensures { λ r. ⌜ ControlsFrom (now (row .entry)) (r .controls) 0 ⌝ }
     ensures { λ r. ⌜ r .bytes ≡ length (least (now (row .entry))) ⌝ }
 {
-    let mut controls = [0u8; 128];
+    let mut controls = [0u8; MAX_WIDTH];
     let mut t = costs_at_end();
     let mut i = row.len();
     while 0 < i {
@@ -194,7 +197,7 @@ fn put_record(c: u8, row: &[u8], out: &mut [u8]) -> Put
 }
 
 // The least body of the row, by its control bytes, to the front of out. Gives its number of records.
-fn emit(row: &[u8], controls: &[u8; 128], out: &mut [u8]) -> usize
+fn emit(row: &[u8], controls: &[u8; MAX_WIDTH], out: &mut [u8]) -> usize
     requires { ⌜ length (now row) ≤ 128 ⌝ }
     requires { ⌜ ControlsFrom (now row) (now controls) 0 ⌝ }
     requires { ⌜ length (least (now row)) ≤ length (now out) ⌝ }
@@ -272,7 +275,7 @@ pub fn pack_row(row: &[u8], out: &mut [u8]) -> RowAnswer
     if width_out_of_range(row.len()) {
         return refusal(OUT_OF_RANGE);
     }
-    if out.len() < 129 {
+    if out.len() < MAX_BODY {
         return refusal(AREA_TOO_SHORT);
     }
     pack_into(row, out)

@@ -1,8 +1,7 @@
 -- `pack::emit` meets its contract. The loop keeps `Emitted`; a turn is `turn-emits`.
 use borrow.Author.Needs.{needs}
-use Prim.Native.Nat.{ℕ, suc, _+_, _≤_, _<_, _-_}
+use Prim.Native.Nat.{_+_, _≤_, _-_}
 use native.Mathlib.Omega.{arith}
-use mathlib.Core.Path.{_≡_, refl, sym, ap, _∙_}
 use lib.ListN.{length}
 use borrow.Rule.Slice.PartMut.{putMid}
 use Rattle.pack.proofs.Emission.{Emitted, emit-start, emit-end, turn-leads, turn-room, turn-emits}

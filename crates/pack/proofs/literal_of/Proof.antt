@@ -1,5 +1,5 @@
 -- `pack::literal_of` meets its contract. Each return rewrites by the test that led to it.
-use borrow.Author.Tests.{le-leb, lt-leb, eq-eqb, ne-eqb}
+use borrow.Author.Tests.{le-leb, lt-leb}
 use borrow.Author.Needs.{needs}
 use Rattle.pack.proofs.literal_of.Statement.{statement}
 use Rattle.pack.proofs.literal_of.Tie as tie

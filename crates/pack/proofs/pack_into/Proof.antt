@@ -5,7 +5,7 @@ use mathlib.Core.Path.{_≡_, refl, sym, _∙_, ap₂}
 use mathlib.Core.Bool.{true, false}
 use lib.ListN.{length}
 use Rattle.packbits.specs.Row.{rowAnswer, done, widthOutOfRange}
-use Rattle.pack.specs.Least.{least, leastRecords}
+use Rattle.pack.specs.Least.{least}
 use Rattle.pack.proofs.Pack.{narrow, pack-wide, pack-short, pack-done}
 use borrow.Author.Needs.{needs}
 use Rattle.pack.proofs.pack_into.Statement.{statement}

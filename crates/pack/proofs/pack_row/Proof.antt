@@ -1,11 +1,10 @@
 -- `pack::pack_row` meets its contract. Each return is the outcome that the tests before it give.
 use native.Mathlib.Omega.{arith}
-use mathlib.Core.Path.{_≡_, refl, sym, _∙_, ap₂}
+use mathlib.Core.Path.{_≡_, refl, sym, _∙_}
 use mathlib.Core.Bool.{true, false}
 use lib.ListN.{length}
-use Rattle.packbits.specs.Row.{rowAnswer, done, widthOutOfRange}
-use Rattle.pack.specs.Least.{least, leastRecords}
-use Rattle.pack.proofs.Pack.{narrow, pack-wide, pack-short, pack-into-row}
+use Rattle.packbits.specs.Row.{widthOutOfRange}
+use Rattle.pack.proofs.Pack.{pack-wide, pack-short, pack-into-row}
 use borrow.Author.Needs.{needs}
 use Rattle.pack.proofs.pack_row.Statement.{statement}
 use Rattle.pack.proofs.pack_row.Tie as tie

@@ -1,8 +1,5 @@
 -- `pack::packed_len` meets its contract. Each return rewrites by the test that led to it.
 use borrow.Author.Needs.{needs}
-use native.Mathlib.Omega.{arith}
-use mathlib.Core.Path.{_∙_}
-use lib.ListN.{length}
 use borrow.Author.Tests.{le-leb, lt-leb}
 use Rattle.pack.proofs.packed_len.Statement.{statement}
 use Rattle.pack.proofs.packed_len.Tie as tie

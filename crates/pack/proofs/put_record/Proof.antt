@@ -1,12 +1,12 @@
 -- `pack::put_record` meets its contract. What is lent to `copy` is the part of out after the control byte.
-use Prim.Native.Nat.{ℕ, suc, _+_, _≤_, _<_, _-_}
+use Prim.Native.Nat.{ℕ, _+_, _≤_, _<_, _-_}
 use native.Mathlib.Omega.{arith}
-use mathlib.Core.Path.{_≡_, refl, sym, ap, _∙_}
-use mathlib.Core.List.{List, _∷_, _++_}
+use mathlib.Core.Path.{_≡_, sym, ap, _∙_}
+use mathlib.Core.List.{_∷_}
 use borrow.Rule.Slice.PartMut.{same-len-mid}
 use Rattle.lists.specs.Over.{over}
 use Rattle.pack.specs.Controls.{shownBy}
-use lib.ListN.{length, getD, take, drop, set, length-set, length-take, length-drop}
+use lib.ListN.{length, take, set, length-set}
 use lib.Seq.{length-take-le}
 use Rattle.pack.proofs.Controls.{shown-literal, taken-literal, shown-repeat, taken-repeat, literal-written, repeat-written, literal-room, record-length, copied-over}
 use borrow.Author.Needs.{needs}

@@ -1,5 +1,4 @@
 -- `pack::width_out_of_range` meets its contract. Each return rewrites by the test that led to it.
-use mathlib.Core.Path.{_∙_, sym}
 use borrow.Author.Tests.{eq-eqb, ne-eqb}
 use Rattle.pack.proofs.width_out_of_range.Statement.{statement}
 use Rattle.pack.proofs.width_out_of_range.Tie as tie
