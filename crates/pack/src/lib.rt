@@ -79,7 +79,7 @@ fn repeat_of(x: u8, t: Costs) -> Repeat
 
 // The shorter of the two, the literal where they are equally long.
 fn costs_with(x: u8, l: Literal, r: Repeat) -> Costs
-    requires { ⌜ (l .rest ≤ 1001) × (r .after ≤ 1001) × (r .count ≤ 257) ⌝ }
+    requires { ⌜ (l .rest ≤ 1001) × (r .after ≤ 1001) × (r .count ≤ 256) ⌝ }
     ensures { λ c. ⌜ c ≡ costsWith x l r ⌝ }
 {
     if l.rest <= r.after + 1 {

@@ -22,7 +22,7 @@ costs-with-requires c κs =
     let small = c .before .before .pre in (
       rw (c .before .literal-of .ensures) (cond-leb (λ (l : Literal). l .rest ≤ 1001) (t .best) (t .rest) (λ h. omega arith) (λ h. omega arith)),
       rw (c .repeat-of .ensures) (cond-eqb (λ (r : Repeat). r .after ≤ 1001) (c .before .before .args .x) (t .byte) (λ h. omega arith) (λ h. omega arith)),
-      rw (c .repeat-of .ensures) (cond-eqb (λ (r : Repeat). r .count ≤ 257) (c .before .before .args .x) (t .byte) (λ h. omega arith) (λ h. omega arith)),
+      rw (c .repeat-of .ensures) (cond-eqb (λ (r : Repeat). r .count ≤ 256) (c .before .before .args .x) (t .byte) (λ h. omega arith) (λ h. omega arith)),
     )
 
 returns : tie.Need-returns
