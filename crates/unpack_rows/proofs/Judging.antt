@@ -48,7 +48,7 @@ judged-refusal at used records (refused number place) r next is e = rw (is, add-
 
 -- ---- the loop over the rows
 
-rows-step : (m width : ℕ) (input : List ℕ) → 0 < m → unpackRows m width input ≡ andThen (unpack input width) (λ r. unpackRows (m - 1) width (drop (r .bytes) input))
+pub rows-step : (m width : ℕ) (input : List ℕ) → 0 < m → unpackRows m width input ≡ andThen (unpack input width) (λ r. unpackRows (m - 1) width (drop (r .bytes) input))
 unfolding unpackRows
 rows-step zero width input h = absurd (omega arith)
 rows-step (suc m) width input h = rw (sub-one (suc m))

@@ -1,3 +1,4 @@
 pub mod Exact
 pub mod Judging
+pub mod Next
 pub mod UnpackRows
