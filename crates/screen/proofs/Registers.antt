@@ -1,6 +1,6 @@
 -- Laws of registers: a register is below 2 ^ planes, and is made of one bit of one byte of each plane. Assumes nothing.
 use mathlib.Core.Path.{_≡_, refl, sym, ap, ap₂, _∙_}
-use mathlib.Core.List.{List}
+use mathlib.Core.List.{List, [], _∷_}
 use Prim.Native.Nat.{ℕ, zero, suc, _+_, _-_, _*_, _/_, _%_, _^_, _<_}
 use native.Mathlib.Nat.{add-zero}
 use native.Mathlib.Omega.{arith}
@@ -13,14 +13,15 @@ use Rattle.lists.proofs.Digits.{sum-lt}
 use Rattle.lists.proofs.Sum.{sum-ext}
 use Rattle.words.specs.Word.{wordAt}
 use Rattle.resolution.specs.declared.Resolution.{Resolution}
+use Rattle.resolution.specs.declared.Resolution.the-variants.{Low}
 use Rattle.resolution.specs.Shapes.{planesOf, registersOf}
-use Rattle.screen.specs.Registers.{wordOffset, pixelBit, register}
+use Rattle.screen.specs.Registers.{groupOffset, wordOffset, pixelBit, register}
 
 -- ---- bounds
 
 pub register-lt : (s : List ℕ) (r : Resolution) (x y : ℕ) → register s r x y < registersOf r
 unfolding register pixelBit
-register-lt s r x y = sum-lt (planesOf r) (λ p. wordAt s (wordOffset r y (x / 16) p) / 2 ^ (15 - x % 16) % 2) (λ p. omega arith)
+register-lt s r x y = sum-lt (planesOf r) (λ p. pixelBit (wordAt s (wordOffset r y (x / 16) p)) (x % 16)) (λ p. omega arith)
 
 -- ---- a register from bytes
 
@@ -61,3 +62,10 @@ register-byte s r h k y bytes l =
     (λ p hp.
     ap₂ (λ (i j : ℕ). pixelBit (wordAt s (wordOffset r y i p)) j * 2 ^ p) g x
     ∙ ap (λ (b : ℕ). b * 2 ^ p) (pixel-byte s (wordOffset r y (h / 2) p) (h % 2) k bytes (omega arith) l))
+
+-- ---- document 01's example
+
+-- plane words 8000, 0000, 8000, 0000: the first register
+pub example-first-register : register (0x80 ∷ 0 ∷ 0 ∷ 0 ∷ 0x80 ∷ 0 ∷ 0 ∷ 0 ∷ []) Low 0 0 ≡ 5
+unfolding register groupOffset wordOffset wordAt pixelBit sum
+example-first-register = refl
