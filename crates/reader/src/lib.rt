@@ -1,8 +1,8 @@
-// Reads a picture file into a lent area. Definitions: specs/Read.antt.
+// Reads a picture file into a lent area. Definitions: specs/Reading.antt.
 ghost use mathlib.Core.Path.{_≡_};
 ghost use Prim.Native.Nat.{_+_, _≤_};
 ghost use lib.ListN.{length};
-ghost use Rattle.reader.specs.Read.{readFile, readDegas, readChosen, readNeo, readRaw, readPacked, raw, readAnswer, readArea};
+ghost use Rattle.reader.specs.Reading.{readFile, readDegas, readChosen, readNeo, readRaw, readPacked, raw, readAnswer, readArea};
 use outcome::AREA_TOO_SHORT;
 use outcome::UNKNOWN_KIND;
 use outcome::UNKNOWN_RESOLUTION;
@@ -14,6 +14,7 @@ use resolution::Chosen;
 use resolution::Resolution;
 use resolution::SCREEN_BYTES;
 
+mod body;
 mod parts;
 
 // The kinds of files.
@@ -32,6 +33,51 @@ pub struct ReadAnswer {
     pub records: usize,
 }
 
+// Reads a file of a kind into the first 32,000 bytes of an area. All is judged before the first byte is written.
+pub fn read(kind: u8, file: &[u8], area: &mut [u8]) -> ReadAnswer
+    ensures answer { λ r. ⌜ r ≡ readAnswer (readFile kind (now (file .entry)) (length (now (area .entry)))) ⌝ }
+    ensures area { λ _. ⌜ now (area .exit) ≡ readArea (readFile kind (now (file .entry)) (length (now (area .entry)))) (now (area .entry)) ⌝ }
+{
+    if area.len() < SCREEN_BYTES {
+        return parts::refused(AREA_TOO_SHORT, 0);
+    }
+    if kind == DEGAS {
+        return read_degas(file, area);
+    }
+    if kind == NEOCHROME {
+        return read_neo(file, area);
+    }
+    parts::refused(UNKNOWN_KIND, 0)
+}
+
+// A DEGAS file: its first word's bits 0 and 1 are the resolution, and bit 15 says packed.
+fn read_degas(file: &[u8], area: &mut [u8]) -> ReadAnswer
+    requires { ⌜ 32000 ≤ length (now area) ⌝ }
+    ensures answer { λ r. ⌜ r ≡ readAnswer (readDegas (now (file .entry))) ⌝ }
+    ensures area { λ _. ⌜ now (area .exit) ≡ readArea (readDegas (now (file .entry))) (now (area .entry)) ⌝ }
+{
+    if file.len() < 34 {
+        return parts::refused(WRONG_LENGTH, 0);
+    }
+    match Resolution::from_number(words::word_at(file, 0) % 4) {
+        Chosen::Known(r) => read_chosen(file, r, area),
+        Chosen::Unknown => parts::refused(UNKNOWN_RESOLUTION, 0),
+    }
+}
+
+// A DEGAS file of a known resolution.
+fn read_chosen(file: &[u8], r: Resolution, area: &mut [u8]) -> ReadAnswer
+    requires { ⌜ 32000 ≤ length (now area) ⌝ }
+    requires { ⌜ 34 ≤ length (now file) ⌝ }
+    ensures answer { λ a. ⌜ a ≡ readAnswer (readChosen (now (file .entry)) r) ⌝ }
+    ensures area { λ _. ⌜ now (area .exit) ≡ readArea (readChosen (now (file .entry)) r) (now (area .entry)) ⌝ }
+{
+    if (words::word_at(file, 0) >> 15) % 2 == 1 {
+        return read_packed(file, r, area);
+    }
+    read_raw(file, area)
+}
+
 // A raw DEGAS file: its length says whether it has a tail.
 fn read_raw(file: &[u8], area: &mut [u8]) -> ReadAnswer
     requires { ⌜ 32000 ≤ length (now area) ⌝ }
@@ -46,6 +92,36 @@ fn read_raw(file: &[u8], area: &mut [u8]) -> ReadAnswer
         return copied(file, 34, parts::with_tail(file, resolution, 32034), area);
     }
     parts::refused(WRONG_LENGTH, 0)
+}
+
+// A packed DEGAS file: the rows of its body, and then exactly 32 bytes.
+fn read_packed(file: &[u8], r: Resolution, area: &mut [u8]) -> ReadAnswer
+    requires { ⌜ 32000 ≤ length (now area) ⌝ }
+    requires { ⌜ 34 ≤ length (now file) ⌝ }
+    ensures answer { λ a. ⌜ a ≡ readAnswer (readPacked (now (file .entry)) r) ⌝ }
+    ensures area { λ _. ⌜ now (area .exit) ≡ readArea (readPacked (now (file .entry)) r) (now (area .entry)) ⌝ }
+{
+    if 32065 < file.len() {
+        return parts::refused(WRONG_LENGTH, 0);
+    }
+    let rows = unpack_rows::judge_rows(file, 34, r.row_bytes(), r.plane_rows());
+    if rows.number != 0 {
+        return parts::refused(rows.number, rows.place);
+    }
+    let end = 34 + rows.bytes;
+    if file.len() != end + 32 {
+        return parts::refused(WRONG_TAIL, end);
+    }
+    body::write_rows(file, r, area);
+    let resolution = words::word_at(file, 0) % 4;
+    let picture = parts::with_tail(file, resolution, end);
+    ReadAnswer {
+        number: 0,
+        place: 0,
+        picture,
+        body: rows.bytes,
+        records: rows.records,
+    }
 }
 
 // A NEOchrome file: length, flag and resolution are judged.

@@ -4,10 +4,10 @@ ghost use Prim.Native.Nat.{_<_};
 ghost use Rattle.outcome.specs.Outcome.{refused};
 ghost use Rattle.words.specs.Word.{wordsAt};
 ghost use Rattle.picture.specs.Tables.{tablesAt, held};
-ghost use Rattle.reader.specs.Read.{untailed, withTail, readAnswer};
+ghost use Rattle.reader.specs.Reading.{untailed, withTail, readAnswer};
+use super::ReadAnswer;
 use picture::Picture;
 use picture::Table;
-use super::ReadAnswer;
 
 // Sixteen palette words.
 fn palette_at(file: &[u8], at: usize) -> [u16; 16]

@@ -38,3 +38,13 @@ pub height-le : (r : Resolution) → heightOf r ≤ 400
 height-le Low = omega arith
 height-le Medium = omega arith
 height-le High = omega arith
+
+pub rowBytes-le : (r : Resolution) → rowBytesOf r ≤ 80
+rowBytes-le Low = omega arith
+rowBytes-le Medium = omega arith
+rowBytes-le High = omega arith
+
+pub planeRows-le : (r : Resolution) → planeRowsOf r ≤ 800
+planeRows-le Low = omega arith
+planeRows-le Medium = omega arith
+planeRows-le High = omega arith

@@ -3,7 +3,7 @@ use mathlib.Core.Path.{refl, sym, ap, _∙_}
 use native.Mathlib.Omega.{arith}
 use denote.Ref.{now}
 use Rattle.resolution.specs.Choice.{chosen}
-use Rattle.reader.proofs.Read.{neo-length, neo-flag, neo-known, neo-unknown}
+use Rattle.reader.proofs.Reading.{neo-length, neo-flag, neo-known, neo-unknown}
 use borrow.Author.Needs.{needs}
 use Rattle.reader.proofs.read_neo.Statement.{statement}
 use Rattle.reader.proofs.read_neo.Tie as tie

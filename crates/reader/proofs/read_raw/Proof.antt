@@ -2,7 +2,7 @@
 use mathlib.Core.Path.{refl, ap, _∙_}
 use native.Mathlib.Omega.{arith}
 use denote.Ref.{now}
-use Rattle.reader.proofs.Read.{raw-plain, raw-tail, raw-length}
+use Rattle.reader.proofs.Reading.{raw-plain, raw-tail, raw-length}
 use borrow.Author.Needs.{needs}
 use Rattle.reader.proofs.read_raw.Statement.{statement}
 use Rattle.reader.proofs.read_raw.Tie as tie
