@@ -1,13 +1,11 @@
 -- Laws of `scan`: its step by cases, and the sizes of what it keeps of a suffix. Assumes nothing.
-use Prim.Native.Nat.{ℕ, suc, _+_, _≤_, _<_}
+use Prim.Native.Nat.{ℕ, suc, _≤_, _<_}
 use native.Mathlib.Omega.{arith}
-use native.Mathlib.Numerals.{add-one}
-use mathlib.Core.Path.{_≡_, refl, sym, ap, _∙_}
+use mathlib.Core.Path.{_≡_, refl}
 use mathlib.Core.List.{List, [], _∷_}
 use lib.ListN.{length}
 use Rattle.lists.proofs.Cond.{cond-leb, cond-eqb}
-use Rattle.pack.specs.IsLeast.{Separate}
-use Rattle.pack.specs.Least.{Body, size, with-byte, Opening, Run, Suffix, openingOf, runOf, literalBody, repeatBody, step, scan, least}
+use Rattle.pack.specs.Least.{Body, size, with-byte, Opening, Run, Suffix, openingOf, runOf, literalBody, repeatBody, step, scan}
 
 -- ---- one step, for any suffix s
 
@@ -96,43 +94,3 @@ after≤best (x ∷ s) =
     run-cases x (scan s) (λ r. size (r .after) ≤ size (scan (x ∷ s) .best))
     (λ e. omega (arith, after≤best s, best-grows x s))
     (λ e. best-grows x s)
-
--- ---- the least body's length: at most one more than the row's
-
-pub opening-bound : (x : ℕ) (t : List ℕ) → size (scan (x ∷ t) .opening .rest) ≤ suc (length t)
-unfolding scan
-opening-bound x [] = opening-cases x (scan []) (λ o. size (o .rest) ≤ 1) (λ e. omega arith) (λ e. omega arith)
-opening-bound x (y ∷ t) =
-    opening-cases x (scan (y ∷ t)) (λ o. size (o .rest) ≤ suc (suc (length t)))
-    (λ e. omega (arith, opening-bound y t))
-    (λ e. omega (arith, opening-bound y t))
-
-pub least-bound : (row : List ℕ) → length (least row) ≤ length row + 1
-unfolding scan
-least-bound [] = omega arith
-least-bound (x ∷ t) = omega (arith, opening-bound x t, best≤literal x (scan t))
-
--- ---- and exactly that of a row in which no two neighbours are equal: one literal is best
-
-separate-sizes : (x : ℕ) (t : List ℕ) → Separate (x ∷ t)
-    → (size (scan (x ∷ t) .opening .rest) ≡ suc (length t)) × (size (scan (x ∷ t) .best) ≡ suc (suc (length t)))
-unfolding scan
-separate-sizes x [] d =
-    let o : size (scan (x ∷ []) .opening .rest) ≡ 1 =
-    opening-cases x (scan []) (λ o. size (o .rest) ≡ 1) (λ e. refl) (λ e. absurd (omega arith)) in
-    (o, best-cases x (scan []) (λ b. size b ≡ 2) (λ h. ap suc o) (λ h. absurd (omega arith)))
-separate-sizes x (y ∷ t) d =
-    let ih = separate-sizes y t (d .1) in
-    let o : size (scan (x ∷ y ∷ t) .opening .rest) ≡ suc (suc (length t)) =
-    opening-cases x (scan (y ∷ t)) (λ o. size (o .rest) ≡ suc (suc (length t)))
-    (λ e. absurd (omega arith))
-    (λ e. ap suc (ih .0)) in
-    let r : size (scan (x ∷ y ∷ t) .run .after) ≡ suc (suc (length t)) =
-    run-cases x (scan (y ∷ t)) (λ r. size (r .after) ≡ suc (suc (length t)))
-    (λ e. absurd (d .0 (e ∙ run-byte y t)))
-    (λ e. ih .1) in
-    (o, best-cases x (scan (y ∷ t)) (λ b. size b ≡ suc (suc (suc (length t)))) (λ h. ap suc o) (λ h. absurd (omega arith)))
-
-pub separate-length : (row : List ℕ) → 1 ≤ length row → Separate row → length (least row) ≡ length row + 1
-separate-length [] h d = absurd (omega arith)
-separate-length (x ∷ t) h d = separate-sizes x t d .1 ∙ sym (add-one (suc (length t)))

@@ -13,7 +13,8 @@ use Rattle.pack.specs.declared.Literal.{Literal}
 use Rattle.pack.specs.declared.Repeat.{Repeat}
 use Rattle.pack.specs.Least.{Body, size, Opening, Run, openingOf, runOf, bestOf, with-byte, literalBody, repeatBody, step, scan}
 use Rattle.pack.specs.Costs.{costsOf, Small, literalOf, repeatOf, costsWith, stepCosts}
-use Rattle.pack.proofs.Least.{run-byte, more-bound, count-bound, after≤best, opening-bound, least-bound}
+use Rattle.pack.proofs.Least.{run-byte, more-bound, count-bound, after≤best}
+use Rattle.pack.proofs.Bounds.{opening-bound, least-bound}
 
 -- ---- the lengths of what a step makes are made from the lengths of what it has
 

@@ -1,3 +1,4 @@
+pub mod Bounds
 pub mod Controls
 pub mod Emission
 pub mod Least
@@ -5,5 +6,6 @@ pub mod Lengths
 pub mod Optimal
 pub mod Order
 pub mod Pack
+pub mod RoundTrip
 pub mod Unique
 pub mod Valid

@@ -12,7 +12,7 @@ use Rattle.outcome.specs.Refusal.{areaTooShort, outOfRange}
 use Rattle.packbits.specs.Row.{done, widthOutOfRange}
 use Rattle.pack.specs.Least.{least, leastRecords}
 use Rattle.pack.specs.Pack.{packWithin, packRow, packInto}
-use Rattle.pack.proofs.Least.{least-bound}
+use Rattle.pack.proofs.Bounds.{least-bound}
 
 -- a width that is in range is at most 128
 pub narrow : (width : ℕ) → widthOutOfRange width ≡ false → width ≤ 128

@@ -1,10 +1,10 @@
--- A row of at most 128 bytes has one least body, and unpacking that body gives the row back. Assumes nothing.
+-- A row of at most 128 bytes has one least body. Assumes nothing.
 use Prim.Native.Nat.{ℕ, _≤_}
 use mathlib.Core.Path.{_≡_, sym, ap, _∙_}
 use mathlib.Core.List.{List, [], _++_}
 use lib.ListN.{length}
 use Rattle.outcome.specs.Outcome.{Outcome, later}
-use Rattle.packbits.specs.Row.{Row, done}
+use Rattle.packbits.specs.Row.{Row}
 use Rattle.packbits.specs.Unpack.{unpack}
 use Rattle.packbits.specs.Unpacks.{Unpacks}
 use Rattle.packbits.proofs.Exact.{complete}
@@ -25,8 +25,3 @@ least-unique {row} {b} {n} h q =
     let p = least-is-least row h in
     let e : b ≡ least row = preferred-antisym (q .first (p .unpacks)) (p .first (q .unpacks)) in
     (e, same-records e (q .unpacks) (p .unpacks))
-
--- the least body, with anything after it, unpacks to the row
-pub unpack-least : (row rest : List ℕ) → length row ≤ 128
-    → unpack (least row ++ rest) (length row) ≡ done (length (least row)) (leastRecords row) row
-unpack-least row rest h = complete (least-is-least row h .unpacks) rest

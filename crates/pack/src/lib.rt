@@ -4,7 +4,6 @@ ghost use Prim.Native.Nat.{_-_, _≤_, _<_};
 ghost use mathlib.Core.List.{[]};
 ghost use lib.ListN.{length, drop};
 ghost use Rattle.lists.specs.Over.{over};
-ghost use Rattle.outcome.specs.Outcome.{refused};
 ghost use Rattle.packbits.specs.Row.{rowAnswer, rowOutput, widthOutOfRange};
 ghost use Rattle.pack.specs.Least.{least, leastRecords};
 ghost use Rattle.pack.specs.Controls.{recordOf, takenBy, shownBy, ControlsFrom};
@@ -227,18 +226,6 @@ pub fn packed_len(row: &[u8]) -> usize
     p.bytes
 }
 
-// A refusal at place 0.
-fn refusal(number: u8) -> RowAnswer
-    ensures { λ r. ⌜ r ≡ rowAnswer (refused number 0) ⌝ }
-{
-    RowAnswer {
-        number,
-        place: 0,
-        bytes: 0,
-        records: 0,
-    }
-}
-
 // Whether a row of this width is refused.
 fn width_out_of_range(width: usize) -> bool
     ensures { λ r. ⌜ r ≡ widthOutOfRange width ⌝ }
@@ -252,11 +239,11 @@ pub fn pack_into(row: &[u8], out: &mut [u8]) -> RowAnswer
     ensures { λ r. ⌜ now (out .exit) ≡ rowOutput (packInto (now (row .entry)) (length (now (out .entry)))) (now (out .entry)) ⌝ }
 {
     if width_out_of_range(row.len()) {
-        return refusal(OUT_OF_RANGE);
+        return packbits::row_refused(OUT_OF_RANGE);
     }
     let p = plan_of(row);
     if out.len() < p.bytes {
-        return refusal(AREA_TOO_SHORT);
+        return packbits::row_refused(AREA_TOO_SHORT);
     }
     let records = emit(row, &p.controls, out);
     RowAnswer {
@@ -273,10 +260,10 @@ pub fn pack_row(row: &[u8], out: &mut [u8]) -> RowAnswer
     ensures { λ r. ⌜ now (out .exit) ≡ rowOutput (packRow (now (row .entry)) (length (now (out .entry)))) (now (out .entry)) ⌝ }
 {
     if width_out_of_range(row.len()) {
-        return refusal(OUT_OF_RANGE);
+        return packbits::row_refused(OUT_OF_RANGE);
     }
     if out.len() < MAX_BODY {
-        return refusal(AREA_TOO_SHORT);
+        return packbits::row_refused(AREA_TOO_SHORT);
     }
     pack_into(row, out)
 }

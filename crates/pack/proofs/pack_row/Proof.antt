@@ -12,24 +12,24 @@ use Rattle.pack.proofs.pack_row.Tie as tie
 width-out-of-range-requires : tie.Need-width-out-of-range-requires
 width-out-of-range-requires c κs = search needs
 
-refusal-requires : tie.Need-refusal-requires
-refusal-requires c κs = search needs
+row-refused-requires : tie.Need-row-refused-requires
+row-refused-requires c κs = search needs
 
 returns : tie.Need-returns
 returns c =
     let a = c .before .before .before .before .before .args in
     let w : widthOutOfRange (length (a .row .now)) ≡ true = sym (c .before .before .width-out-of-range .ensures) ∙ c .before .if1 .taken in
-    rw (pack-wide 129 (a .row .now) (length (a .out .now)) w) (c .refusal .ensures, refl)
+    rw (pack-wide 129 (a .row .now) (length (a .out .now)) w) (c .row-refused .ensures, refl)
 
-refusal-requires-2 : tie.Need-refusal-requires-2
-refusal-requires-2 c κs = search needs
+row-refused-requires-2 : tie.Need-row-refused-requires-2
+row-refused-requires-2 c κs = search needs
 
 returns-2 : tie.Need-returns-2
 returns-2 c =
     let a = c .before .before .before .before .before .before .args in
     let w : widthOutOfRange (length (a .row .now)) ≡ false =
     sym (c .before .before .before .width-out-of-range .ensures) ∙ c .before .before .if1 .left in
-    rw (pack-short 129 (a .row .now) (length (a .out .now)) w (omega arith)) (c .refusal2 .ensures, refl)
+    rw (pack-short 129 (a .row .now) (length (a .out .now)) w (omega arith)) (c .row-refused2 .ensures, refl)
 
 pack-into-requires : tie.Need-pack-into-requires
 pack-into-requires c κs = search needs
@@ -49,9 +49,9 @@ pack-row-spec =
     tie.close
     (tie.spec
     width-out-of-range-requires
-    refusal-requires
+    row-refused-requires
     returns
-    refusal-requires-2
+    row-refused-requires-2
     returns-2
     pack-into-requires
     same-length
