@@ -62,16 +62,11 @@ columnRegister-register s r x y bytes =
     ∙ sym (register-byte s r h k y bytes (omega arith))
     ∙ ap (λ (n : ℕ). register s r n y) (div-add-mod' x 8)
 
--- pixel k of column h
-pub column-pixel : (s : List ℕ) (r : Resolution) (h y k : ℕ) (b : PlaneBytes) → b ≡ columnBytes s r h y → Bytes s → k < 8
-    → columnRegister b k ≡ register s r (h * 8 + k) y
-unfolding columnRegister
-column-pixel s r h y k b e bytes l =
-    let d : (h * 8 + k) / 8 ≡ h = digits-div h l in
-    let m : k % 8 ≡ (h * 8 + k) % 8 = omega arith in
-    ap (λ (j : ℕ). b .first / 2 ^ (7 - j) % 2 + b .second / 2 ^ (7 - j) % 2 * 2 + b .third / 2 ^ (7 - j) % 2 * 4 + b .fourth / 2 ^ (7 - j) % 2 * 8) m
-    ∙ ap (λ (c : PlaneBytes). columnRegister c (h * 8 + k)) (e ∙ ap (λ (j : ℕ). columnBytes s r j y) (sym d))
-    ∙ columnRegister-register s r (h * 8 + k) y bytes
+-- pixel x + j, from the bytes of the column h in which it stands
+pub same-column : (s : List ℕ) (r : Resolution) (h x y j : ℕ) (b : PlaneBytes) → b ≡ columnBytes s r h y → Bytes s → (x + j) / 8 ≡ h
+    → columnRegister b (x + j) ≡ register s r (x + j) y
+same-column s r h x y j b e bytes d =
+    ap (λ (c : PlaneBytes). columnRegister c (x + j)) (e ∙ ap (λ (h : ℕ). columnBytes s r h y) (sym d)) ∙ columnRegister-register s r (x + j) y bytes
 
 -- ---- a plane's byte of eight registers
 

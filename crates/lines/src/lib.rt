@@ -75,14 +75,14 @@ pub fn column_register(b: PlaneBytes, x: usize) -> u8
         + (b.fourth >> shift) % 2 * 8
 }
 
-// The eight pixels of a column into out, from offset at on.
-fn copy_column(bytes: PlaneBytes, out: &mut [u8], at: usize)
-    requires { ⌜ at + 8 ≤ length (now out) ⌝ }
-    ensures { λ _. ⌜ now (out .exit) ≡ overAt at (tabulate 8 (columnRegister bytes)) (now (out .entry)) ⌝ }
+// The registers of the eight pixels of a scan line from column x on into out, from offset x on.
+fn copy_column(bytes: PlaneBytes, out: &mut [u8], x: usize)
+    requires { ⌜ x + 8 ≤ length (now out) ⌝ }
+    ensures { λ _. ⌜ now (out .exit) ≡ overAt x (tabulate 8 (λ k. columnRegister bytes (x + k))) (now (out .entry)) ⌝ }
 {
     let mut k: usize = 0;
     while k < 8 {
-        out[at + k] = column_register(bytes, k);
+        out[x + k] = column_register(bytes, x + k);
         k += 1;
     }
 }

@@ -1,8 +1,9 @@
 -- `lines::copy_column` meets its contract: the loop has written the first k pixels. Assumes nothing.
 use mathlib.Core.Path.{_≡_, refl, sym, _∙_}
 use native.Mathlib.Omega.{arith}
-use Prim.Native.Nat.{_≤_, _+_, _-_}
+use Prim.Native.Nat.{ℕ, _≤_, _+_, _-_}
 use denote.Ref.{now}
+use borrow.Author.Needs.{needs}
 use lib.ListN.{length, take, length-set, take-append-drop}
 use Rattle.lists.specs.Over.{overAt}
 use Rattle.lists.specs.Tabulate.{tabulate}
@@ -13,19 +14,22 @@ use Rattle.lines.proofs.copy_column.Statement.{statement}
 use Rattle.lines.proofs.copy_column.Tie as tie
 
 abbrev Inv-loop : tie.InvT-loop
-Inv-loop bytes out₀ at k₀ out k =
-    (at + 8 ≤ length out₀) × (k ≤ 8) × (length out ≡ length out₀) × (out ≡ overAt at (take k (tabulate 8 (columnRegister bytes))) out₀)
+Inv-loop bytes out₀ x k₀ out k =
+    (x + 8 ≤ length out₀) × (k ≤ 8) × (length out ≡ length out₀) × (out ≡ overAt x (take k (tabulate 8 (λ k. columnRegister bytes (x + k)))) out₀)
 
 abbrev μ-loop : tie.MeasureT-loop
-μ-loop bytes out₀ at k₀ out k = 8 - k
+μ-loop bytes out₀ x k₀ out k = 8 - k
 
 loop-holds : tie.Need-loop-holds Inv-loop μ-loop
 loop-holds c =
     let a = c .before .args in
-    (omega arith, omega arith, refl, sym (take-append-drop (a .at) (now (a .out))))
+    (omega arith, omega arith, refl, sym (take-append-drop (a .x) (now (a .out))))
 
 column-register-requires : tie.Need-column-register-requires Inv-loop μ-loop
-column-register-requires c κs = omega arith
+column-register-requires c κs = search needs
+
+add-column-register : tie.Need-add-column-register Inv-loop μ-loop
+add-column-register c = omega arith
 
 add-out : tie.Need-add-out Inv-loop μ-loop
 add-out c = omega arith
@@ -43,11 +47,11 @@ loop-again : tie.Need-loop-again Inv-loop μ-loop
 loop-again c =
     let l = c .before .before .loop in
     let a = c .before .before .before .before .args in
-    let w = columnRegister (a .bytes) in (
+    let w : ℕ → ℕ = λ k. columnRegister (a .bytes) (a .x + k) in (
       omega arith,
       omega arith,
       simp length-set (omega arith),
-      overAt-turn (a .at) (tabulate 8 w) (now (a .out)) (l .out) (l .k) (c .column-register .result) 0
+      overAt-turn (a .x) (tabulate 8 w) (now (a .out)) (l .out) (l .k) (c .column-register .result) 0
           (omega (arith, length-tabulate 8 w)) (omega arith) (l .inv .3)
           (c .column-register .ensures .0 ∙ sym (getD-tabulate 8 w (l .k) 0 (omega arith))),
     )
@@ -59,8 +63,8 @@ returns : tie.Need-returns Inv-loop μ-loop
 returns c =
     let l = c .before .loop in
     let a = c .before .before .before .args in
-    let w = columnRegister (a .bytes) in
-    overAt-done (a .at) (tabulate 8 w) (now (a .out)) (l .out) (l .k) (omega (arith, length-tabulate 8 w)) (l .inv .3)
+    let w : ℕ → ℕ = λ k. columnRegister (a .bytes) (a .x + k) in
+    overAt-done (a .x) (tabulate 8 w) (now (a .out)) (l .out) (l .k) (omega (arith, length-tabulate 8 w)) (l .inv .3)
 
 pub copy-column-spec : {M : Type 1} → statement M
 copy-column-spec =
@@ -69,6 +73,7 @@ copy-column-spec =
     Inv-loop
     μ-loop
     loop-holds
+    add-column-register
     column-register-requires
     add-out
     slice-write-out

@@ -13,7 +13,7 @@ use Rattle.resolution.specs.Shapes.{widthOf, rowBytesOf}
 use Rattle.resolution.proofs.Shapes.{rowBytes-width, width-le, height-le}
 use Rattle.screen.specs.Registers.{register, scanLine}
 use Rattle.lines.specs.Columns.{columnRegister}
-use Rattle.lines.proofs.Columns.{column-pixel}
+use Rattle.lines.proofs.Columns.{same-column}
 use Rattle.lines.proofs.Pieces.{over-tabulate-piece}
 use Rattle.lines.proofs.copy_line.Statement.{statement}
 use Rattle.lines.proofs.copy_line.Tie as tie
@@ -73,7 +73,7 @@ loop-again c =
     let a = p .before .args in
     let s = now (a .screen) in
     let f : ℕ → ℕ = λ x. register s (a .r) x (a .line) in
-    let w : ℕ → ℕ = columnRegister (q .column .result) in
+    let w : ℕ → ℕ = λ k. columnRegister (q .column .result) (l .h * 8 + k) in
     let e = k .copy-column .ensures in
     let next : l .h * 8 + 8 ≡ (l .h + 1) * 8 = omega arith in
     let room : l .h * 8 + length (tabulate 8 w) ≤ length (l .out) = omega (arith, length-tabulate 8 w) in (
@@ -84,7 +84,7 @@ loop-again c =
       omega arith,
       ap length e ∙ length-overAt (l .h * 8) (tabulate 8 w) (l .out) room ∙ i .5,
       e ∙ over-tabulate-piece (widthOf (a .r)) 8 f w (now (a .out)) (l .out) (l .h * 8) (omega (arith, rowBytes-width (a .r))) (i .6)
-          (λ j b. column-pixel s (a .r) (l .h) (a .line) j _ (q .column .ensures) (λ n. p .shared-slice-known .given n .fits) b)
+          (λ j b. same-column s (a .r) (l .h) (l .h * 8) (a .line) j _ (q .column .ensures) (λ n. p .shared-slice-known .given n .fits) (omega arith))
           ∙ ap (λ (n : ℕ). over (take n (tabulate (widthOf (a .r)) f)) (now (a .out))) next,
     )
 
