@@ -18,7 +18,7 @@ use Rattle.lists.proofs.Over.{length-over, getD-over-in, length-overAt, getD-ov
 use Rattle.lists.proofs.Sum.{sum-ext}
 use Rattle.lists.proofs.Tabulate.{length-tabulate, getD-tabulate, tabulate-ext, tabulate-take}
 use Rattle.words.specs.Word.{wordAt, wordBytes}
-use Rattle.outcome.specs.Outcome.{Outcome, accepted, refused, refuseIf}
+use Rattle.outcome.specs.Outcome.{Outcome, accepted, refuseIf}
 use Rattle.outcome.specs.Refusal.{areaTooShort, outOfRange}
 use Rattle.resolution.specs.declared.Chosen.{Chosen}
 use Rattle.resolution.specs.declared.Chosen.the-variants.{Known, Unknown}
@@ -29,7 +29,7 @@ use Rattle.resolution.specs.Shapes.{screenBytes, widthOf, heightOf, planesOf, g
 use Rattle.screen.specs.Registers.{groupOffset, wordOffset, pixelBit, register, scanLine, wordOf, lineBytes, withLine}
 use Rattle.screen.proofs.Places.{line-within, pixel-group}
 use Rattle.screen.proofs.Registers.{register-lt}
-use Rattle.lines.specs.Lines.{allBelow, judgeLineAt, lineOutAt, lineOut, lineIn}
+use Rattle.lines.specs.Lines.{allBelow, judgeScreen, judgeLineAt, lineOutAt, lineOut, lineIn}
 
 -- ---- the bytes of a scan line
 
@@ -192,9 +192,21 @@ lt-allBelow (suc n) m l h = rw (lt-ltb (getD l n 0) m (h n (le-refl (suc n)))) (
 -- ---- outcomes
 
 -- what is accepted was not refused by the first test
-passed : {A : Type 0} (t : Bool) (n : ℕ) (further : Outcome A) (a : A) → refuseIf t n further ≡ accepted a → (t ≡ false) × (further ≡ accepted a)
+pub passed : {A : Type 0} (t : Bool) (n : ℕ) (further : Outcome A) (a : A) → refuseIf t n further ≡ accepted a → (t ≡ false) × (further ≡ accepted a)
 passed true n further a e = let z : _≡_ {A = ℕ} 0 1 = cc in absurd (omega arith)
 passed false n further a e = (refl, e)
+
+-- what is accepted has a screen and a resolution
+pub by-resolution : {A P : Type 0} (n number : ℕ) (further : Resolution → Outcome A) (a : A) → judgeScreen n number further ≡ accepted a
+    → ((r : Resolution) → chosen number ≡ Known r → screenBytes ≤ n → further r ≡ accepted a → P) → P
+by-resolution {P = P} n number further a e f = go (chosen number) refl (p .1)
+  where
+    p : (ltb n screenBytes ≡ false) × (judgeWith (chosen number) further ≡ accepted a)
+    p = passed (ltb n screenBytes) areaTooShort (judgeWith (chosen number) further) a e
+
+    go : (c : Chosen) → chosen number ≡ c → judgeWith c further ≡ accepted a → P
+    go (Known r) known q = f r known (ltb-false n screenBytes (p .0)) q
+    go Unknown unknown q = let z : _≡_ {A = ℕ} 0 1 = cc in absurd (omega arith)
 
 -- an accepted line lies within the screen and has room
 judged : {A : Type 0} (r : Resolution) (y room : ℕ) (further : Outcome A) (a : A) → judgeLineAt r y room further ≡ accepted a
@@ -205,30 +217,9 @@ judged r y room further a e =
     (leb-false (heightOf r) y (p .0), ltb-false room (widthOf r) (q .0), q .1)
 
 module _ (s : List ℕ) (number y : ℕ) (r : Resolution) (known : chosen number ≡ Known r) where
-  out-judged : (room : ℕ) (l : List ℕ) → lineOut s number y room ≡ accepted l
-      → (screenBytes ≤ length s) × (y < heightOf r) × (widthOf r ≤ room) × (scanLine s r y ≡ l)
-  unfolding lineOut
-  out-judged room l e =
-      let p = passed (ltb (length s) screenBytes) areaTooShort _ l e in
-      let q = judged r y room (accepted (scanLine s r y)) l (rw known at (p .1)) in
-      let v = q .2 in
-      (ltb-false (length s) screenBytes (p .0), q .0, q .1, cc)
-
   pub out-accepted : (room : ℕ) → screenBytes ≤ length s → y < heightOf r → widthOf r ≤ room → lineOut s number y room ≡ accepted (scanLine s r y)
   unfolding lineOut
   out-accepted room long hy hw = rw known (simp (le-ltb (length s) screenBytes long, lt-leb (heightOf r) y hy, le-ltb room (widthOf r) hw))
-
-  in-judged : (line after : List ℕ) → lineIn s number y line ≡ accepted after
-      → (screenBytes ≤ length s) × (y < heightOf r) × (widthOf r ≤ length line) × (allBelow (widthOf r) (registersOf r) line ≡ true)
-      × (withLine s r y line ≡ after)
-  unfolding lineIn
-  in-judged line after e =
-      let fit : Bool = allBelow (widthOf r) (registersOf r) line in
-      let p = passed (ltb (length s) screenBytes) areaTooShort _ after e in
-      let q = judged r y (length line) _ after (rw known at (p .1)) in
-      let o = passed (not fit) outOfRange (accepted (withLine s r y line)) after (q .2) in
-      let v = o .1 in
-      (ltb-false (length s) screenBytes (p .0), q .0, q .1, not-false fit (o .0), cc)
 
   pub in-accepted : (line : List ℕ) → screenBytes ≤ length s → y < heightOf r → widthOf r ≤ length line → allBelow (widthOf r) (registersOf r) line ≡ true
       → lineIn s number y line ≡ accepted (withLine s r y line)
@@ -241,31 +232,35 @@ module _ (s : List ℕ) (number y : ℕ) (r : Resolution) (known : chosen number
 -- line out of the screen that an accepted line in left gives its registers back
 pub out-after-in : (s line after : List ℕ) (number y room : ℕ) (r : Resolution) → chosen number ≡ Known r → widthOf r ≤ room
     → lineIn s number y line ≡ accepted after → lineOut after number y room ≡ accepted (take (widthOf r) line)
+unfolding lineIn
 out-after-in s line after number y room r known hw e =
-    let j = in-judged s number y r known line after e in
-    let l : length (withLine s r y line) ≡ length s = length-withLine s r y line (j .0) (j .1) in
-    ap (λ (t : List ℕ). lineOut t number y room) (sym (j .4))
-    ∙ out-accepted (withLine s r y line) number y r known room (omega (arith, j .0)) (j .1) hw
-    ∙ ap accepted (scanLine-withLine s r y line (j .0) (j .1) (j .2) (j .3))
+    let fit : Bool = allBelow (widthOf r) (registersOf r) line in
+    let t : List ℕ = withLine s r y line in
+    let p = passed (ltb (length s) screenBytes) areaTooShort _ after e in
+    let long : screenBytes ≤ length s = ltb-false (length s) screenBytes (p .0) in
+    let j = judged r y (length line) _ after (rw known at (p .1)) in
+    let q = passed (not fit) outOfRange (accepted t) after (j .2) in
+    let same : accepted t ≡ accepted after = q .1 in
+    let is : t ≡ after = cc in
+    ap (λ (u : List ℕ). lineOut u number y room) (sym is)
+    ∙ out-accepted t number y r known room (omega (arith, length-withLine s r y line long (j .0))) (j .0) hw
+    ∙ ap accepted (scanLine-withLine s r y line long (j .0) (j .1) (not-false fit (q .0)))
 
 -- line in of what an accepted line out left is accepted and changes nothing
 pub in-after-out : (s l out : List ℕ) (number y : ℕ) → Bytes s → lineOut s number y (length out) ≡ accepted l
     → lineIn s number y (over l out) ≡ accepted s
 unfolding scanLine lineOut
-in-after-out s l out number y bytes e = go (chosen number) refl
-  where
-    go : (c : Chosen) → chosen number ≡ c → lineIn s number y (over l out) ≡ accepted s
-    go (Known r) known =
-        let j = out-judged s number y r known (length out) l e in
-        let w : ℕ = widthOf r in
-        let len : length l ≡ w = ap length (sym (j .3)) ∙ length-tabulate w (λ x. register s r x y) in
-        let at : (x : ℕ) → x < w → getD (over l out) x 0 ≡ register s r x y = λ x h.
-        getD-over-in l out x 0 (omega arith) ∙ ap (λ (t : List ℕ). getD t x 0) (sym (j .3)) ∙ getD-tabulate w (λ x. register s r x y) x 0 h in
-        in-accepted s number y r known (over l out) (j .0) (j .1) (omega (arith, j .2, length-over l out (omega (arith, j .2))))
-        (lt-allBelow w (registersOf r) (over l out) (λ x h. rw (at x h) (register-lt s r x y)))
-        ∙ ap accepted (withLine-scanLine s r y bytes (over l out) at (j .0) (j .1))
-    go Unknown unknown =
-        let f = passed (ltb (length s) screenBytes) areaTooShort _ l e .1 in
-        let u : judgeWith Unknown (λ r. lineOutAt s r y (length out)) ≡ accepted l = rw unknown at f in
-        let z : _≡_ {A = ℕ} 0 1 = cc in
-        absurd (omega arith)
+in-after-out s l out number y bytes e =
+    by-resolution (length s) number (λ r. lineOutAt s r y (length out)) l e
+    (λ r known long f.
+    let w : ℕ = widthOf r in
+    let row : ℕ → ℕ = λ x. register s r x y in
+    let j = judged r y (length out) (accepted (tabulate w row)) l f in
+    let same : accepted (tabulate w row) ≡ accepted l = j .2 in
+    let is : tabulate w row ≡ l = cc in
+    let len : length l ≡ w = ap length (sym is) ∙ length-tabulate w row in
+    let at : (x : ℕ) → x < w → getD (over l out) x 0 ≡ register s r x y = λ x h.
+    getD-over-in l out x 0 (omega arith) ∙ ap (λ (t : List ℕ). getD t x 0) (sym is) ∙ getD-tabulate w row x 0 h in
+    in-accepted s number y r known (over l out) long (j .0) (omega (arith, j .1, length-over l out (omega (arith, j .1))))
+    (lt-allBelow w (registersOf r) (over l out) (λ x h. rw (at x h) (register-lt s r x y)))
+    ∙ ap accepted (withLine-scanLine s r y bytes (over l out) at long (j .0)))

@@ -2,7 +2,6 @@
 use Prim.Native.Nat.{ℕ, _+_}
 use mathlib.Core.Bool.{Bool, not, _&&_}
 use mathlib.Core.List.{List}
-use lib.ListN.{length}
 use lib.Dec.{leb}
 use Rattle.lists.specs.Sum.{sum}
 use Rattle.outcome.specs.Outcome.{Outcome, refuseIf}

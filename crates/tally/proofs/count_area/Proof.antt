@@ -1,10 +1,9 @@
 -- `tally::count_area` meets its contract: the loop has counted the first j lines. Assumes nothing.
-use mathlib.Core.Path.{_≡_, ap, _∙_}
+use mathlib.Core.Path.{_≡_, _∙_}
 use native.Mathlib.Omega.{arith}
-use Prim.Native.Nat.{_<_, _≤_, _+_, _-_}
+use Prim.Native.Nat.{_≤_, _+_, _-_}
 use denote.Ref.{now}
 use borrow.Author.Needs.{needs}
-use Rattle.resolution.specs.Shapes.{widthOf, heightOf}
 use Rattle.resolution.proofs.Shapes.{width-le, height-le}
 use Rattle.tally.proofs.Counts.{countsOf, countsOf-none, countsOf-turn, countsOf-le, length-countsOf}
 use Rattle.tally.proofs.count_area.Statement.{statement}
