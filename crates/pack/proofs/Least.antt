@@ -1,0 +1,138 @@
+-- Laws of `scan`: its step by cases, and the sizes of what it keeps of a suffix. Assumes nothing.
+use Prim.Native.Nat.{ℕ, suc, _+_, _≤_, _<_}
+use native.Mathlib.Omega.{arith}
+use native.Mathlib.Numerals.{add-one}
+use mathlib.Core.Path.{_≡_, refl, sym, ap, _∙_}
+use mathlib.Core.List.{List, [], _∷_}
+use lib.ListN.{length}
+use Rattle.lists.proofs.Cond.{cond-leb, cond-eqb}
+use Rattle.pack.specs.IsLeast.{Separate}
+use Rattle.pack.specs.Least.{Body, size, with-byte, Opening, Run, Suffix, openingOf, runOf, literalBody, repeatBody, step, scan, least}
+
+-- ---- one step, for any suffix s
+
+module _ (x : ℕ) (s : Suffix) where
+  -- by cases on whether the literal ends after x
+  pub opening-cases : (P : Opening → Type 0)
+      → (size (s .best) ≤ size (s .opening .rest) → P (record { more = 0; rest = with-byte x (s .best) }))
+      → (size (s .opening .rest) < size (s .best) → P (record { more = suc (s .opening .more); rest = with-byte x (s .opening .rest) }))
+      → P (step x s .opening)
+  unfolding step
+  opening-cases P f g = cond-leb P (size (s .best)) (size (s .opening .rest)) f g
+
+  -- by cases on whether x lengthens the run
+  pub run-cases : (P : Run → Type 0)
+      → (x ≡ s .run .byte → P (record { byte = x; count = suc (s .run .count); after = s .run .after }))
+      → ((x ≡ s .run .byte → ⊥) → P (record { byte = x; count = 1; after = s .best }))
+      → P (step x s .run)
+  unfolding step
+  run-cases P f g = cond-eqb P x (s .run .byte) f g
+
+  -- by cases on whether the least body begins with a literal
+  pub best-cases : (P : Body → Type 0)
+      → (size (step x s .opening .rest) ≤ suc (size (step x s .run .after)) → P (literalBody (step x s .opening)))
+      → (suc (size (step x s .run .after)) < size (step x s .opening .rest) → P (repeatBody (step x s .run)))
+      → P (step x s .best)
+  unfolding step
+  best-cases P f g = cond-leb P (size (openingOf x s .rest)) (suc (size (runOf x s .after))) f g
+
+  -- the least body costs at most what either kind of first record does
+  pub best≤literal : size (step x s .best) ≤ suc (size (step x s .opening .rest))
+  best≤literal = best-cases (λ b. size b ≤ suc (size (step x s .opening .rest))) (λ h. omega arith) (λ h. omega arith)
+
+  pub best≤repeat : size (step x s .best) ≤ suc (suc (size (step x s .run .after)))
+  best≤repeat = best-cases (λ b. size b ≤ suc (suc (size (step x s .run .after)))) (λ h. omega arith) (λ h. omega arith)
+
+-- ---- the first run
+
+pub run-byte : (x : ℕ) (s : List ℕ) → scan (x ∷ s) .run .byte ≡ x
+unfolding scan
+run-byte x s = run-cases x (scan s) (λ r. r .byte ≡ x) (λ e. refl) (λ e. refl)
+
+pub no-run : (s : List ℕ) → scan s .run .count ≡ 0 → scan s .run .after ≡ scan s .best
+unfolding scan
+no-run [] e = refl
+no-run (x ∷ s) e = absurd (run-cases x (scan s) (λ r. r .count ≡ 0 → ⊥) (λ q p. omega arith) (λ q p. omega arith) e)
+
+-- ---- no first record stands for more than the suffix
+
+pub more-bound : (x : ℕ) (s : List ℕ) → scan (x ∷ s) .opening .more ≤ length s
+unfolding scan
+more-bound x [] = opening-cases x (scan []) (λ o. o .more ≤ 0) (λ e. omega arith) (λ e. omega arith)
+more-bound x (y ∷ s) = opening-cases x (scan (y ∷ s)) (λ o. o .more ≤ suc (length s)) (λ e. omega arith) (λ e. omega (arith, more-bound y s))
+
+pub count-bound : (s : List ℕ) → scan s .run .count ≤ length s
+unfolding scan
+count-bound [] = omega arith
+count-bound (x ∷ s) = run-cases x (scan s) (λ r. r .count ≤ suc (length s)) (λ e. omega (arith, count-bound s)) (λ e. omega arith)
+
+-- ---- a suffix never costs more than the suffix one byte longer
+
+best≤open : (s : List ℕ) → size (scan s .best) ≤ suc (size (scan s .opening .rest))
+unfolding scan
+best≤open [] = omega arith
+best≤open (x ∷ s) = best≤literal x (scan s)
+
+best≤run : (s : List ℕ) → size (scan s .best) ≤ suc (suc (size (scan s .run .after)))
+unfolding scan
+best≤run [] = omega arith
+best≤run (x ∷ s) = best≤repeat x (scan s)
+
+best-grows : (x : ℕ) (s : List ℕ) → size (scan s .best) ≤ size (scan (x ∷ s) .best)
+unfolding scan
+best-grows x s =
+    best-cases x (scan s) (λ b. size (scan s .best) ≤ size b)
+    (λ h. opening-cases x (scan s) (λ o. size (scan s .best) ≤ suc (size (o .rest)))
+    (λ e. omega arith)
+    (λ e. omega (arith, best≤open s)))
+    (λ h. run-cases x (scan s) (λ r. size (scan s .best) ≤ suc (suc (size (r .after))))
+    (λ e. best≤run s)
+    (λ e. omega arith))
+
+pub after≤best : (s : List ℕ) → size (scan s .run .after) ≤ size (scan s .best)
+unfolding scan
+after≤best [] = omega arith
+after≤best (x ∷ s) =
+    run-cases x (scan s) (λ r. size (r .after) ≤ size (scan (x ∷ s) .best))
+    (λ e. omega (arith, after≤best s, best-grows x s))
+    (λ e. best-grows x s)
+
+-- ---- the least body's length: at most one more than the row's
+
+pub opening-bound : (x : ℕ) (t : List ℕ) → size (scan (x ∷ t) .opening .rest) ≤ suc (length t)
+unfolding scan
+opening-bound x [] = opening-cases x (scan []) (λ o. size (o .rest) ≤ 1) (λ e. omega arith) (λ e. omega arith)
+opening-bound x (y ∷ t) =
+    opening-cases x (scan (y ∷ t)) (λ o. size (o .rest) ≤ suc (suc (length t)))
+    (λ e. omega (arith, opening-bound y t))
+    (λ e. omega (arith, opening-bound y t))
+
+pub least-bound : (row : List ℕ) → length (least row) ≤ length row + 1
+unfolding scan
+least-bound [] = omega arith
+least-bound (x ∷ t) = omega (arith, opening-bound x t, best≤literal x (scan t))
+
+-- ---- and exactly that of a row in which no two neighbours are equal: one literal is best
+
+separate-sizes : (x : ℕ) (t : List ℕ) → Separate (x ∷ t)
+    → (size (scan (x ∷ t) .opening .rest) ≡ suc (length t)) × (size (scan (x ∷ t) .best) ≡ suc (suc (length t)))
+unfolding scan
+separate-sizes x [] d =
+    let o : size (scan (x ∷ []) .opening .rest) ≡ 1 =
+    opening-cases x (scan []) (λ o. size (o .rest) ≡ 1) (λ e. refl) (λ e. absurd (omega arith)) in
+    (o, best-cases x (scan []) (λ b. size b ≡ 2) (λ h. ap suc o) (λ h. absurd (omega arith)))
+separate-sizes x (y ∷ t) d =
+    let ih = separate-sizes y t (d .1) in
+    let o : size (scan (x ∷ y ∷ t) .opening .rest) ≡ suc (suc (length t)) =
+    opening-cases x (scan (y ∷ t)) (λ o. size (o .rest) ≡ suc (suc (length t)))
+    (λ e. absurd (omega arith))
+    (λ e. ap suc (ih .0)) in
+    let r : size (scan (x ∷ y ∷ t) .run .after) ≡ suc (suc (length t)) =
+    run-cases x (scan (y ∷ t)) (λ r. size (r .after) ≡ suc (suc (length t)))
+    (λ e. absurd (d .0 (e ∙ run-byte y t)))
+    (λ e. ih .1) in
+    (o, best-cases x (scan (y ∷ t)) (λ b. size b ≡ suc (suc (suc (length t)))) (λ h. ap suc o) (λ h. absurd (omega arith)))
+
+pub separate-length : (row : List ℕ) → 1 ≤ length row → Separate row → length (least row) ≡ length row + 1
+separate-length [] h d = absurd (omega arith)
+separate-length (x ∷ t) h d = separate-sizes x t d .1 ∙ sym (add-one (suc (length t)))

@@ -1,0 +1,88 @@
+-- The scan in lengths follows the scan of bodies, and its numbers are small. Assumes nothing.
+use Prim.Native.Nat.{ℕ, suc, _-_, _≤_}
+use native.Mathlib.Omega.{arith}
+use native.Mathlib.Numerals.{add-one, add-two}
+use mathlib.Core.Path.{_≡_, sym, ap, ap₂, _∙_}
+use mathlib.Core.List.{List, [], _∷_}
+use lib.ListN.{length, getD, drop}
+use lib.Seq.{drop-cons}
+use lib.Dec.{leb, eqb}
+use Rattle.lists.proofs.Cond.{map-cond}
+use Rattle.pack.specs.declared.Costs.{Costs}
+use Rattle.pack.specs.declared.Literal.{Literal}
+use Rattle.pack.specs.declared.Repeat.{Repeat}
+use Rattle.pack.specs.Least.{Body, size, Opening, Run, openingOf, runOf, bestOf, with-byte, literalBody, repeatBody, step, scan}
+use Rattle.pack.specs.Costs.{costsOf, Small, literalOf, repeatOf, costsWith, stepCosts}
+use Rattle.pack.proofs.Least.{run-byte, more-bound, count-bound, after≤best, opening-bound, least-bound}
+
+-- ---- the lengths of what a step makes are made from the lengths of what it has
+
+literal-lengths : Opening → Literal
+literal-lengths o = record { more = o .more; rest = size (o .rest) }
+
+repeat-lengths : Run → Repeat
+repeat-lengths r = record { count = r .count; after = size (r .after) }
+
+body-lengths : ℕ → Opening → Run → Body → Costs
+body-lengths x o r b =
+    record {
+      best = size b;
+      control = getD (b .bytes) 0 0;
+      more = o .more;
+      rest = size (o .rest);
+      byte = x;
+      count = r .count;
+      after = size (r .after);
+    }
+
+literal-agrees : (x : ℕ) (s : List ℕ) → literalOf (costsOf s) ≡ literal-lengths (openingOf x (scan s))
+unfolding literal-lengths
+literal-agrees x s =
+    let b = scan s .best in
+    let o = scan s .opening in
+    simp add-one
+    (sym (map-cond literal-lengths (leb (size b) (size (o .rest)))
+    (record { more = 0; rest = with-byte x b })
+    (record { more = suc (o .more); rest = with-byte x (o .rest) })))
+
+repeat-agrees : (x : ℕ) (s : List ℕ) → repeatOf x (costsOf s) ≡ repeat-lengths (runOf x (scan s))
+unfolding repeat-lengths
+repeat-agrees x s =
+    let r = scan s .run in
+    simp add-one
+    (sym (map-cond repeat-lengths (eqb x (r .byte))
+    (record { byte = x; count = suc (r .count); after = r .after })
+    (record { byte = x; count = 1; after = scan s .best })))
+
+costs-agree : (x : ℕ) (o : Opening) (r : Run) → costsWith x (literal-lengths o) (repeat-lengths r) ≡ body-lengths x o r (bestOf o r)
+unfolding literal-lengths repeat-lengths body-lengths
+costs-agree x o r =
+    simp (add-one, add-two)
+    (sym (map-cond (body-lengths x o r) (leb (size (o .rest)) (suc (size (r .after)))) (literalBody o) (repeatBody r)))
+
+costs-step : (x : ℕ) (s : List ℕ) → costsOf (x ∷ s) ≡ stepCosts x (costsOf s)
+unfolding scan step body-lengths
+costs-step x s =
+    ap (λ (y : ℕ). body-lengths y (scan (x ∷ s) .opening) (scan (x ∷ s) .run) (scan (x ∷ s) .best)) (run-byte x s)
+    ∙ sym (ap₂ (costsWith x) (literal-agrees x s) (repeat-agrees x s) ∙ costs-agree x (openingOf x (scan s)) (runOf x (scan s)))
+
+-- ---- a turn of the loop, from the place i to the place before it
+
+drop-before : (row : List ℕ) (i : ℕ) → 1 ≤ i → i ≤ length row → drop (i - 1) row ≡ getD row (i - 1) 0 ∷ drop i row
+drop-before row i h l =
+    let e : suc (i - 1) ≡ i = omega arith in
+    drop-cons row (i - 1) 0 (omega arith) ∙ ap (λ (k : ℕ). getD row (i - 1) 0 ∷ drop k row) e
+
+pub costs-before : (row : List ℕ) (i : ℕ) → 1 ≤ i → i ≤ length row
+    → costsOf (drop (i - 1) row) ≡ stepCosts (getD row (i - 1) 0) (costsOf (drop i row))
+costs-before row i h l = ap costsOf (drop-before row i h l) ∙ costs-step (getD row (i - 1) 0) (drop i row)
+
+-- ---- no sum overflows
+
+opening-small : (s : List ℕ) → length s ≤ 128 → (scan s .opening .more ≤ 128) × (size (scan s .opening .rest) ≤ 128)
+unfolding scan
+opening-small [] h = omega arith
+opening-small (x ∷ s) h = omega (arith, more-bound x s, opening-bound x s)
+
+pub costs-small : (s : List ℕ) → length s ≤ 128 → Small (costsOf s)
+costs-small s h = omega (arith, opening-small s h, least-bound s, count-bound s, after≤best s)

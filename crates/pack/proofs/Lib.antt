@@ -1,0 +1,9 @@
+pub mod Controls
+pub mod Emission
+pub mod Least
+pub mod Lengths
+pub mod Optimal
+pub mod Order
+pub mod Pack
+pub mod Unique
+pub mod Valid

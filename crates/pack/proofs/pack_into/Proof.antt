@@ -1,0 +1,72 @@
+-- `pack::pack_into` meets its contract. Each return is the outcome that the tests before it give.
+use Prim.Native.Nat.{ℕ}
+use native.Mathlib.Omega.{arith}
+use mathlib.Core.Path.{_≡_, refl, sym, _∙_, ap₂}
+use mathlib.Core.Bool.{true, false}
+use lib.ListN.{length}
+use Rattle.packbits.specs.Row.{rowAnswer, done, widthOutOfRange}
+use Rattle.pack.specs.Least.{least}
+use Rattle.pack.proofs.Pack.{narrow, pack-wide, pack-short, pack-done}
+use borrow.Author.Needs.{needs}
+use Rattle.pack.proofs.pack_into.Statement.{statement}
+use Rattle.pack.proofs.pack_into.Tie as tie
+
+width-out-of-range-requires : tie.Need-width-out-of-range-requires
+width-out-of-range-requires c κs = search needs
+
+refusal-requires : tie.Need-refusal-requires
+refusal-requires c κs = search needs
+
+returns : tie.Need-returns
+returns c =
+    let a = c .before .before .before .before .before .args in
+    let w : widthOutOfRange (length (a .row .now)) ≡ true = sym (c .before .before .width-out-of-range .ensures) ∙ c .before .if1 .taken in
+    rw (pack-wide (length (least (a .row .now))) (a .row .now) (length (a .out .now)) w) (c .refusal .ensures, refl)
+
+plan-of-requires : tie.Need-plan-of-requires
+plan-of-requires c κs =
+    let a = c .before .before .before .before .args in
+    narrow (length (a .row .now)) (sym (c .before .width-out-of-range .ensures) ∙ c .if1 .left)
+
+refusal-requires-2 : tie.Need-refusal-requires-2
+refusal-requires-2 c κs = search needs
+
+returns-2 : tie.Need-returns-2
+returns-2 c =
+    let a = c .before .before .before .before .before .before .before .args in
+    let w : widthOutOfRange (length (a .row .now)) ≡ false =
+    sym (c .before .before .before .before .width-out-of-range .ensures) ∙ c .before .before .before .if1 .left in
+    rw (pack-short (length (least (a .row .now))) (a .row .now) (length (a .out .now)) w (omega arith)) (c .refusal2 .ensures, refl)
+
+emit-requires : tie.Need-emit-requires
+emit-requires c κs =
+    let a = c .before .before .before .before .before .before .before .before .before .args in
+    let w : widthOutOfRange (length (a .row .now)) ≡ false =
+    sym (c .before .before .before .before .before .before .width-out-of-range .ensures) ∙ c .before .before .before .before .before .if1 .left in
+    (narrow (length (a .row .now)) w, (c .before .before .before .before .plan-of .ensures .0, omega (arith, c .before .before .before .before .plan-of .ensures .1)))
+
+same-length : tie.Need-same-length
+same-length c = search needs
+
+returns-3 : tie.Need-returns-3
+returns-3 c =
+    let a = c .before .before .before .before .before .before .before .before .before .before .before .before .args in
+    let w : widthOutOfRange (length (a .row .now)) ≡ false =
+    sym (c .before .before .before .before .before .before .before .before .before .width-out-of-range .ensures) ∙ c .before .before .before .before .before .before .before .before .if1 .left in
+    let p = c .before .before .before .before .before .before .before .plan-of .ensures .1 in
+    rw (pack-done (length (least (a .row .now))) (a .row .now) (length (a .out .now)) w (omega arith))
+    (ap₂ (λ (b n : ℕ). rowAnswer (done b n (least (a .row .now)))) p (c .before .before .emit .ensures .0), c .before .before .emit .ensures .1)
+
+pub pack-into-spec : {M : Type 1} → statement M
+pack-into-spec =
+    tie.close
+    (tie.spec
+    width-out-of-range-requires
+    refusal-requires
+    returns
+    plan-of-requires
+    refusal-requires-2
+    returns-2
+    emit-requires
+    same-length
+    returns-3)

@@ -1,0 +1,19 @@
+-- `pack::packed_len` meets its contract. Each return rewrites by the test that led to it.
+use borrow.Author.Needs.{needs}
+use native.Mathlib.Omega.{arith}
+use lib.ListN.{length}
+use borrow.Author.Tests.{le-leb, lt-leb}
+use Rattle.pack.proofs.packed_len.Statement.{statement}
+use Rattle.pack.proofs.packed_len.Tie as tie
+
+returns : tie.Need-returns
+returns c = simp (lt-leb (length (c .before .before .args .row .now)) 128 (omega arith))
+
+plan-of-requires : tie.Need-plan-of-requires
+plan-of-requires c κs = search needs
+
+returns-2 : tie.Need-returns-2
+returns-2 c = simp (le-leb (length (c .before .before .before .args .row .now)) 128 (omega arith)) (c .plan-of .ensures .1)
+
+pub packed-len-spec : {M : Type 1} → statement M
+packed-len-spec = tie.close (tie.spec returns plan-of-requires returns-2)

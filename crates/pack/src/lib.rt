@@ -1,0 +1,282 @@
+// PackBits: one row of 1 to 128 bytes packed to its least body. Definitions: specs/.
+ghost use mathlib.Core.Path.{_≡_};
+ghost use Prim.Native.Nat.{_-_, _≤_, _<_};
+ghost use mathlib.Core.List.{[]};
+ghost use lib.ListN.{length, drop};
+ghost use Rattle.lists.specs.Over.{over};
+ghost use Rattle.outcome.specs.Outcome.{refused};
+ghost use Rattle.packbits.specs.Row.{rowAnswer, rowOutput, widthOutOfRange};
+ghost use Rattle.pack.specs.Least.{least, leastRecords};
+ghost use Rattle.pack.specs.Controls.{recordOf, takenBy, shownBy, ControlsFrom};
+ghost use Rattle.pack.specs.Costs.{costsOf, Small, literalOf, repeatOf, costsWith, stepCosts};
+ghost use Rattle.pack.specs.Pack.{packRow, packInto, packedLen};
+use outcome::AREA_TOO_SHORT;
+use outcome::OUT_OF_RANGE;
+use packbits::MAX_WIDTH;
+use packbits::RowAnswer;
+
+// The longest body that packing makes of a row.
+pub const MAX_BODY: usize = 129;
+
+// What is known of a suffix of the row, in lengths. The terms are those of specs/Least.antt.
+struct Costs {
+    best: usize,
+    control: usize,
+    more: usize,
+    rest: usize,
+    byte: u8,
+    count: usize,
+    after: usize,
+}
+
+// A literal that is under way at the start of a suffix.
+struct Literal {
+    more: usize,
+    rest: usize,
+}
+
+// The run of equal bytes at the start of a suffix.
+struct Repeat {
+    count: usize,
+    after: usize,
+}
+
+// The literal from one byte further left: it ends there, or goes on where that is shorter.
+fn literal_of(t: Costs) -> Literal
+    requires { ⌜ Small t ⌝ }
+    ensures { λ r. ⌜ r ≡ literalOf t ⌝ }
+{
+    if t.best <= t.rest {
+        Literal {
+            more: 0,
+            rest: t.best + 1,
+        }
+    } else {
+        Literal {
+            more: t.more + 1,
+            rest: t.rest + 1,
+        }
+    }
+}
+
+// The run from one byte further left: the byte lengthens it or starts one.
+fn repeat_of(x: u8, t: Costs) -> Repeat
+    requires { ⌜ Small t ⌝ }
+    ensures { λ r. ⌜ r ≡ repeatOf x t ⌝ }
+{
+    if x == t.byte {
+        Repeat {
+            count: t.count + 1,
+            after: t.after,
+        }
+    } else {
+        Repeat {
+            count: 1,
+            after: t.best,
+        }
+    }
+}
+
+// The shorter of the two, the literal where they are equally long.
+fn costs_with(x: u8, l: Literal, r: Repeat) -> Costs
+    requires { ⌜ (l .rest ≤ 1001) × (r .after ≤ 1001) × (r .count ≤ 256) ⌝ }
+    ensures { λ c. ⌜ c ≡ costsWith x l r ⌝ }
+{
+    if l.rest <= r.after + 1 {
+        Costs {
+            best: l.rest + 1,
+            control: l.more,
+            more: l.more,
+            rest: l.rest,
+            byte: x,
+            count: r.count,
+            after: r.after,
+        }
+    } else {
+        Costs {
+            best: r.after + 2,
+            control: 257 - r.count,
+            more: l.more,
+            rest: l.rest,
+            byte: x,
+            count: r.count,
+            after: r.after,
+        }
+    }
+}
+
+// The suffix that begins one byte further left, with the byte x.
+fn step(x: u8, t: Costs) -> Costs
+    requires { ⌜ Small t ⌝ }
+    ensures { λ r. ⌜ r ≡ stepCosts x t ⌝ }
+{
+    let l = literal_of(t);
+    let r = repeat_of(x, t);
+    costs_with(x, l, r)
+}
+
+// The empty suffix.
+fn costs_at_end() -> Costs
+    ensures { λ r. ⌜ r ≡ costsOf [] ⌝ }
+{
+    Costs {
+        best: 0,
+        control: 0,
+        more: 0,
+        rest: 0,
+        byte: 0,
+        count: 0,
+        after: 0,
+    }
+}
+
+// From the suffix at the place i to the one at the place before it.
+fn step_at(row: &[u8], i: usize, t: Costs) -> Costs
+    requires { ⌜ (1 ≤ i) × (i ≤ length (now row)) × (length (now row) ≤ 128) × (t ≡ costsOf (drop i (now row))) ⌝ }
+    ensures { λ r. ⌜ r ≡ costsOf (drop (i - 1) (now (row .entry))) ⌝ }
+{
+    step(row[i - 1], t)
+}
+
+// For each place of a row the control byte that the least body of the rest of the row begins with, and the length of the whole row's
+// least body.
+struct Plan {
+    controls: [u8; MAX_WIDTH],
+    bytes: usize,
+}
+
+// One scan of the row, from its right end.
+fn plan_of(row: &[u8]) -> Plan
+    requires { ⌜ length (now row) ≤ 128 ⌝ }
+    ensures { λ r. ⌜ ControlsFrom (now (row .entry)) (r .controls) 0 ⌝ }
+    ensures { λ r. ⌜ r .bytes ≡ length (least (now (row .entry))) ⌝ }
+{
+    let mut controls = [0u8; MAX_WIDTH];
+    let mut t = costs_at_end();
+    let mut i = row.len();
+    while 0 < i {
+        t = step_at(row, i, t);
+        i -= 1;
+        let c = t.control;
+        controls[i] = c as u8;
+    }
+    Plan {
+        controls,
+        bytes: t.best,
+    }
+}
+
+// One record: the bytes of the row that it stands for, and the bytes that it is.
+struct Put {
+    taken: usize,
+    made: usize,
+}
+
+// The record of control byte c, for the front of the row, to the front of out.
+fn put_record(c: u8, row: &[u8], out: &mut [u8]) -> Put
+    requires { ⌜ (1 ≤ length (now row)) × (shownBy c ≤ length (now row)) × (shownBy c < length (now out)) ⌝ }
+    ensures { λ r. ⌜ (r .taken ≡ takenBy c) × (r .made ≡ length (recordOf c (now (row .entry)))) ⌝ }
+    ensures { λ r. ⌜ now (out .exit) ≡ over (recordOf c (now (row .entry))) (now (out .entry)) ⌝ }
+{
+    out[0] = c;
+    let k = c as usize;
+    if k < 128 {
+        let n = k + 1;
+        bytes::copy(&row[..n], &mut out[1..]);
+        Put {
+            taken: n,
+            made: n + 1,
+        }
+    } else {
+        out[1] = row[0];
+        Put {
+            taken: 257 - k,
+            made: 2,
+        }
+    }
+}
+
+// The least body of the row, by its control bytes, to the front of out. Gives its number of records.
+fn emit(row: &[u8], controls: &[u8; MAX_WIDTH], out: &mut [u8]) -> usize
+    requires { ⌜ length (now row) ≤ 128 ⌝ }
+    requires { ⌜ ControlsFrom (now row) (now controls) 0 ⌝ }
+    requires { ⌜ length (least (now row)) ≤ length (now out) ⌝ }
+    ensures { λ r. ⌜ r ≡ leastRecords (now (row .entry)) ⌝ }
+    ensures { λ r. ⌜ now (out .exit) ≡ over (least (now (row .entry))) (now (out .entry)) ⌝ }
+{
+    let mut i = 0;
+    let mut o = 0;
+    let mut n = 0;
+    while i < row.len() {
+        let p = put_record(controls[i], &row[i..], &mut out[o..]);
+        i += p.taken;
+        o += p.made;
+        n += 1;
+    }
+    n
+}
+
+// The length of the row's least body; 0 of a row wider than 128.
+pub fn packed_len(row: &[u8]) -> usize
+    ensures { λ r. ⌜ r ≡ packedLen (now (row .entry)) ⌝ }
+{
+    if MAX_WIDTH < row.len() {
+        return 0;
+    }
+    let p = plan_of(row);
+    p.bytes
+}
+
+// A refusal at place 0.
+fn refusal(number: u8) -> RowAnswer
+    ensures { λ r. ⌜ r ≡ rowAnswer (refused number 0) ⌝ }
+{
+    RowAnswer {
+        number,
+        place: 0,
+        bytes: 0,
+        records: 0,
+    }
+}
+
+// Whether a row of this width is refused.
+fn width_out_of_range(width: usize) -> bool
+    ensures { λ r. ⌜ r ≡ widthOutOfRange width ⌝ }
+{
+    width == 0 || MAX_WIDTH < width
+}
+
+// Packs the row to the front of out, which need have no more bytes than are written.
+pub fn pack_into(row: &[u8], out: &mut [u8]) -> RowAnswer
+    ensures { λ r. ⌜ r ≡ rowAnswer (packInto (now (row .entry)) (length (now (out .entry)))) ⌝ }
+    ensures { λ r. ⌜ now (out .exit) ≡ rowOutput (packInto (now (row .entry)) (length (now (out .entry)))) (now (out .entry)) ⌝ }
+{
+    if width_out_of_range(row.len()) {
+        return refusal(OUT_OF_RANGE);
+    }
+    let p = plan_of(row);
+    if out.len() < p.bytes {
+        return refusal(AREA_TOO_SHORT);
+    }
+    let records = emit(row, &p.controls, out);
+    RowAnswer {
+        number: 0,
+        place: 0,
+        bytes: p.bytes,
+        records,
+    }
+}
+
+// Packs the row to the front of out, which has 129 bytes at least.
+pub fn pack_row(row: &[u8], out: &mut [u8]) -> RowAnswer
+    ensures { λ r. ⌜ r ≡ rowAnswer (packRow (now (row .entry)) (length (now (out .entry)))) ⌝ }
+    ensures { λ r. ⌜ now (out .exit) ≡ rowOutput (packRow (now (row .entry)) (length (now (out .entry)))) (now (out .entry)) ⌝ }
+{
+    if width_out_of_range(row.len()) {
+        return refusal(OUT_OF_RANGE);
+    }
+    if out.len() < MAX_BODY {
+        return refusal(AREA_TOO_SHORT);
+    }
+    pack_into(row, out)
+}
