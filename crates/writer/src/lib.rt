@@ -1,4 +1,32 @@
 // Writes a picture as a file into a lent output. Definitions: specs/.
+ghost use mathlib.Core.Path.{_≡_};
+ghost use Prim.Native.Nat.{_≤_};
+ghost use lib.ListN.{length};
+ghost use Rattle.outcome.specs.Outcome.{refused};
+ghost use Rattle.resolution.specs.Choice.{chosen};
+ghost use Rattle.writer.specs.Layout.{plainFile, eliteFile, neoFile};
+ghost use Rattle.writer.specs.Write.{unpacked, writeForm, writeFile, writeAnswer, writeOutput};
+use outcome::AREA_TOO_SHORT;
+use outcome::UNKNOWN_KIND;
+use outcome::UNKNOWN_RESOLUTION;
+use picture::Picture;
+use resolution::Chosen;
+use resolution::Resolution;
+use resolution::SCREEN_BYTES;
+
+mod parts;
+
+// The forms of files.
+pub const PLAIN: u8 = 1;
+
+pub const ELITE: u8 = 2;
+
+pub const PACKED: u8 = 3;
+
+pub const NEOCHROME: u8 = 4;
+
+// The least output: the longest file of any form.
+pub const FILE_BYTES: usize = 32128;
 
 // The answer of a writing: the file's length, the packed body's length and its records. A refusal has its number, place 0, and 0 in
 // all else.
@@ -9,4 +37,67 @@ pub struct WriteAnswer {
     pub length: usize,
     pub body: usize,
     pub records: usize,
+}
+
+// The answer of a refusal.
+fn refused(number: u8) -> WriteAnswer
+    ensures { λ r. ⌜ r ≡ writeAnswer (refused number 0) ⌝ }
+{
+    WriteAnswer {
+        number,
+        place: 0,
+        length: 0,
+        body: 0,
+        records: 0,
+    }
+}
+
+// The answer of a form that is not packed.
+fn written(length: usize) -> WriteAnswer
+    ensures { λ r. ⌜ r ≡ record { number = 0; place = 0; length = length; body = 0; records = 0 } ⌝ }
+{
+    WriteAnswer {
+        number: 0,
+        place: 0,
+        length,
+        body: 0,
+        records: 0,
+    }
+}
+
+// Form 1, plain DEGAS.
+fn write_plain(picture: Picture, screen: &[u8], out: &mut [u8]) -> WriteAnswer
+    requires { ⌜ 32000 ≤ length (now screen) ⌝ }
+    requires { ⌜ 32128 ≤ length (now out) ⌝ }
+    ensures { λ r. ⌜ r ≡ writeAnswer (unpacked (plainFile picture (now (screen .entry)))) ⌝ }
+    ensures { λ _. ⌜ now (out .exit) ≡ writeOutput (unpacked (plainFile picture (now (screen .entry)))) (now (out .entry)) ⌝ }
+{
+    parts::put_degas_header(picture.resolution, picture, out);
+    parts::put_screen(screen, &mut out[34..]);
+    written(32034)
+}
+
+// Form 2, DEGAS Elite raw.
+fn write_elite(picture: Picture, screen: &[u8], out: &mut [u8]) -> WriteAnswer
+    requires { ⌜ 32000 ≤ length (now screen) ⌝ }
+    requires { ⌜ 32128 ≤ length (now out) ⌝ }
+    ensures { λ r. ⌜ r ≡ writeAnswer (unpacked (eliteFile picture (now (screen .entry)))) ⌝ }
+    ensures { λ _. ⌜ now (out .exit) ≡ writeOutput (unpacked (eliteFile picture (now (screen .entry)))) (now (out .entry)) ⌝ }
+{
+    parts::put_degas_header(picture.resolution, picture, out);
+    parts::put_screen(screen, &mut out[34..]);
+    parts::put_tail(picture, &mut out[32034..]);
+    written(32066)
+}
+
+// Form 4, NEOchrome.
+fn write_neo(picture: Picture, screen: &[u8], out: &mut [u8]) -> WriteAnswer
+    requires { ⌜ 32000 ≤ length (now screen) ⌝ }
+    requires { ⌜ 32128 ≤ length (now out) ⌝ }
+    ensures { λ r. ⌜ r ≡ writeAnswer (unpacked (neoFile picture (now (screen .entry)))) ⌝ }
+    ensures { λ _. ⌜ now (out .exit) ≡ writeOutput (unpacked (neoFile picture (now (screen .entry)))) (now (out .entry)) ⌝ }
+{
+    parts::put_neo_header(picture, out);
+    parts::put_screen(screen, &mut out[128..]);
+    written(32128)
 }
