@@ -25,9 +25,13 @@ shownBy Low palette v = wordColour (getD palette v 0)
 shownBy Medium palette v = wordColour (getD palette v 0)
 shownBy High palette v = cond (eqb v 0) white black
 
+-- a register judged at a known resolution
+unfoldable pub judgeRegister : List ℕ → ℕ → Resolution → Outcome Rgb
+judgeRegister palette v r = refuseIf (leb (registersOf r) v) outOfRange (accepted (shownBy r palette v))
+
 -- colour: the resolution's number is judged, then the register
 unfoldable pub shown : ℕ → List ℕ → ℕ → Outcome Rgb
-shown number palette v = withResolution number (λ r. refuseIf (leb (registersOf r) v) outOfRange (accepted (shownBy r palette v)))
+shown number palette v = withResolution number (judgeRegister palette v)
 
 -- a refusal gives its number, its place, and 0 in all else
 abbrev pub colourAnswer : Outcome Rgb → ColourAnswer

@@ -1,4 +1,14 @@
 // The colour that a register shows. Definitions: specs/.
+ghost use mathlib.Core.Path.{_≡_};
+ghost use mathlib.Core.Bool.{cond};
+ghost use Prim.Native.Nat.{_<_};
+ghost use lib.ListN.{getD};
+ghost use lib.Dec.{eqb};
+ghost use Rattle.outcome.specs.Outcome.{accepted, refused};
+ghost use Rattle.colour.specs.Palette.{level, field, wordColour};
+ghost use Rattle.colour.specs.Shown.{white, black, judgeRegister, shown, colourAnswer};
+use resolution::Chosen;
+use resolution::Resolution;
 
 // The answer of a colour: red, green and blue, 0 to 255. A refusal has its number, place 0, and 0 in all else.
 pub struct ColourAnswer {
@@ -7,4 +17,92 @@ pub struct ColourAnswer {
     pub red: u8,
     pub green: u8,
     pub blue: u8,
+}
+
+// Level v stretched to 0 to 255 and rounded down.
+fn level(v: u16) -> u8
+    requires { ⌜ v < 8 ⌝ }
+    ensures { λ l. ⌜ l ≡ level v ⌝ }
+{
+    (255 * v / 7) as u8
+}
+
+// The three bits of a palette word from bit n up.
+fn field(word: u16, n: u16) -> u16
+    requires { ⌜ n < 16 ⌝ }
+    ensures { λ v. ⌜ (v ≡ field word n) × (v < 8) ⌝ }
+{
+    (word >> n) % 8
+}
+
+// The colour of a palette word.
+fn word_colour(word: u16) -> ColourAnswer
+    ensures { λ a. ⌜ a ≡ colourAnswer (accepted (wordColour word)) ⌝ }
+{
+    ColourAnswer {
+        number: 0,
+        place: 0,
+        red: level(field(word, 8)),
+        green: level(field(word, 4)),
+        blue: level(field(word, 0)),
+    }
+}
+
+// The colour of a palette's register.
+fn palette_colour(palette: [u16; 16], register: usize) -> ColourAnswer
+    requires { ⌜ register < 16 ⌝ }
+    ensures { λ a. ⌜ a ≡ colourAnswer (accepted (wordColour (getD palette register 0))) ⌝ }
+{
+    word_colour(palette[register])
+}
+
+// White for register 0 and black for any other.
+fn monochrome(register: u8) -> ColourAnswer
+    ensures { λ a. ⌜ a ≡ colourAnswer (accepted (cond (eqb register 0) white black)) ⌝ }
+{
+    let shade: u8 = if register == 0 { 255 } else { 0 };
+    ColourAnswer {
+        number: 0,
+        place: 0,
+        red: shade,
+        green: shade,
+        blue: shade,
+    }
+}
+
+// A refusal: 0 in all but the number.
+fn refusal(number: u8) -> ColourAnswer
+    ensures { λ a. ⌜ a ≡ colourAnswer (refused number 0) ⌝ }
+{
+    ColourAnswer {
+        number,
+        place: 0,
+        red: 0,
+        green: 0,
+        blue: 0,
+    }
+}
+
+// The colour of a register at a resolution.
+fn known_colour(r: Resolution, palette: [u16; 16], register: u8) -> ColourAnswer
+    ensures { λ a. ⌜ a ≡ colourAnswer (judgeRegister palette register r) ⌝ }
+{
+    if register >= r.registers() {
+        return refusal(outcome::OUT_OF_RANGE);
+    }
+    match r {
+        Resolution::Low => palette_colour(palette, register as usize),
+        Resolution::Medium => palette_colour(palette, register as usize),
+        Resolution::High => monochrome(register),
+    }
+}
+
+// Colour: what a register shows with a palette, at the resolution that a number names.
+pub fn colour(resolution: u16, palette: [u16; 16], register: u8) -> ColourAnswer
+    ensures { λ a. ⌜ a ≡ colourAnswer (shown resolution palette register) ⌝ }
+{
+    match Resolution::from_number(resolution) {
+        Chosen::Known(r) => known_colour(r, palette, register),
+        Chosen::Unknown => refusal(outcome::UNKNOWN_RESOLUTION),
+    }
 }

@@ -1,0 +1,81 @@
+-- `colour::known_colour` meets its contract: the register is judged, and each arm is a case of `shownBy`. Assumes nothing.
+use mathlib.Core.Path.{_∙_}
+use Prim.Native.Nat.{_≤_, _<_}
+use native.Mathlib.Omega.{arith}
+use borrow.Author.Tests.{le-leb}
+use Rattle.resolution.specs.declared.Resolution.the-variants.{Low, Medium, High}
+use Rattle.resolution.specs.Shapes.{registersOf}
+use Rattle.colour.specs.Shown.{shownBy, judgeRegister}
+use Rattle.colour.proofs.Shown.{registers-le, answer-in-range}
+use borrow.Author.Needs.{needs}
+use Rattle.colour.proofs.known_colour.Statement.{statement}
+use Rattle.colour.proofs.known_colour.Tie as tie
+
+registers-requires : tie.Need-registers-requires
+registers-requires c κs = search needs
+
+refusal-requires : tie.Need-refusal-requires
+refusal-requires c κs = search needs
+
+returns : tie.Need-returns
+unfolding judgeRegister
+returns c =
+    let a = c .before .before .before .args in
+    let h : registersOf (a .r) ≤ a .register = omega arith in
+    c .refusal .ensures ∙ rw (le-leb _ _ h)
+
+enum-told : tie.Need-enum-told
+enum-told c = search needs
+
+palette-colour-requires : tie.Need-palette-colour-requires
+palette-colour-requires c κs = omega (arith, registers-le (c .before .before .before .before .args .r))
+
+enum-told-2 : tie.Need-enum-told-2
+enum-told-2 c = search needs
+
+palette-colour-requires-2 : tie.Need-palette-colour-requires-2
+palette-colour-requires-2 c κs = omega (arith, registers-le (c .before .before .before .before .args .r))
+
+enum-told-3 : tie.Need-enum-told-3
+enum-told-3 c = search needs
+
+monochrome-requires : tie.Need-monochrome-requires
+monochrome-requires c κs = search needs
+
+returns-2 : tie.Need-returns-2
+unfolding shownBy
+returns-2 c =
+    let a = c .before .before .before .before .before .args in
+    let h : a .register < registersOf (a .r) = omega arith in
+    answer-in-range (c .palette-colour .result) (a .palette) (a .register) (a .r) Low (c .before .enum-told .given .1) h (c .palette-colour .ensures)
+
+returns-3 : tie.Need-returns-3
+unfolding shownBy
+returns-3 c =
+    let a = c .before .before .before .before .before .args in
+    let h : a .register < registersOf (a .r) = omega arith in
+    answer-in-range (c .palette-colour2 .result) (a .palette) (a .register) (a .r) Medium (c .before .enum-told2 .given .1) h (c .palette-colour2 .ensures)
+
+returns-4 : tie.Need-returns-4
+unfolding shownBy
+returns-4 c =
+    let a = c .before .before .before .before .before .args in
+    let h : a .register < registersOf (a .r) = omega arith in
+    answer-in-range (c .monochrome .result) (a .palette) (a .register) (a .r) High (c .before .enum-told3 .given .1) h (c .monochrome .ensures)
+
+pub known-colour-spec : {M : Type 1} → statement M
+known-colour-spec =
+    tie.close
+    (tie.spec
+    registers-requires
+    refusal-requires
+    returns
+    enum-told
+    palette-colour-requires
+    enum-told-2
+    palette-colour-requires-2
+    enum-told-3
+    monochrome-requires
+    returns-2
+    returns-3
+    returns-4)

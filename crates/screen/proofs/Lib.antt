@@ -1,0 +1,5 @@
+pub mod Judged
+pub mod Places
+pub mod PlaneRows
+pub mod Registers
+pub mod Strides

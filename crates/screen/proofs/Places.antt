@@ -1,0 +1,95 @@
+-- Where words, scan lines and plane rows lie: sizes and bounds, each by the three resolutions. Assumes nothing.
+use mathlib.Core.Path.{_≡_, refl}
+use Prim.Native.Nat.{ℕ, _+_, _*_, _/_, _≤_, _<_}
+use native.Mathlib.Omega.{arith}
+use Rattle.resolution.specs.declared.Resolution.{Resolution}
+use Rattle.resolution.specs.declared.Resolution.the-variants.{Low, Medium, High}
+use Rattle.resolution.specs.Shapes.{screenBytes, widthOf, heightOf, planesOf, groupsOf, rowBytesOf, lineBytesOf, planeRowsOf}
+use Rattle.screen.specs.Registers.{groupOffset, wordOffset}
+use Rattle.screen.specs.PlaneRows.{rowOffset, rowAt, columnAt}
+
+-- ---- sizes
+
+-- a plane row has a word of each group
+pub rowBytes-groups : (r : Resolution) → rowBytesOf r ≡ groupsOf r * 2
+rowBytes-groups Low = refl
+rowBytes-groups Medium = refl
+rowBytes-groups High = refl
+
+pub lineBytes-groups : (r : Resolution) → lineBytesOf r ≡ groupsOf r * (planesOf r * 2)
+lineBytes-groups Low = refl
+lineBytes-groups Medium = refl
+lineBytes-groups High = refl
+
+pub groups-pos : (r : Resolution) → 0 < groupsOf r
+groups-pos Low = omega arith
+groups-pos Medium = omega arith
+groups-pos High = omega arith
+
+pub planes-pos : (r : Resolution) → 0 < planesOf r
+planes-pos Low = omega arith
+planes-pos Medium = omega arith
+planes-pos High = omega arith
+
+pub planes-le : (r : Resolution) → planesOf r ≤ 4
+planes-le Low = omega arith
+planes-le Medium = omega arith
+planes-le High = omega arith
+
+pub planeRows-le : (r : Resolution) → planeRowsOf r ≤ 800
+planeRows-le Low = omega arith
+planeRows-le Medium = omega arith
+planeRows-le High = omega arith
+
+-- ---- bounds
+
+-- a pixel's group is one of the scan line's
+pub pixel-group : (r : Resolution) (x : ℕ) → x < widthOf r → x / 16 < groupsOf r
+pixel-group Low x h = omega arith
+pixel-group Medium x h = omega arith
+pixel-group High x h = omega arith
+
+-- a column's word is of one of the scan line's groups
+pub column-group : (r : Resolution) (c : ℕ) → c < rowBytesOf r → c / 2 < groupsOf r
+column-group Low c h = omega arith
+column-group Medium c h = omega arith
+column-group High c h = omega arith
+
+-- plane p of scan line y is one of the plane rows
+pub plane-row : (r : Resolution) (y p : ℕ) → y < heightOf r → p < planesOf r → y * planesOf r + p < planeRowsOf r
+plane-row Low y p h k = omega arith
+plane-row Medium y p h k = omega arith
+plane-row High y p h k = omega arith
+
+-- a word lies within the screen
+pub word-within : (r : Resolution) (y g p : ℕ) → y < heightOf r → g < groupsOf r → p < planesOf r → wordOffset r y g p + 1 < screenBytes
+unfolding groupOffset wordOffset
+word-within Low y g p h k l = omega arith
+word-within Medium y g p h k l = omega arith
+word-within High y g p h k l = omega arith
+
+-- a scan line lies within the screen
+pub line-within : (r : Resolution) (y : ℕ) → y < heightOf r → y * lineBytesOf r + lineBytesOf r ≤ screenBytes
+line-within Low y h = omega arith
+line-within Medium y h = omega arith
+line-within High y h = omega arith
+
+-- a byte of a plane row lies within the screen
+pub row-within : (r : Resolution) (n c : ℕ) → n < planeRowsOf r → c < rowBytesOf r → rowOffset r n c < screenBytes
+unfolding rowOffset groupOffset wordOffset
+row-within Low n c h k = omega arith
+row-within Medium n c h k = omega arith
+row-within High n c h k = omega arith
+
+-- a byte of the screen is one of a plane row
+pub rowAt-lt : (r : Resolution) (o : ℕ) → o < screenBytes → rowAt r o < planeRowsOf r
+unfolding rowAt
+rowAt-lt Low o h = omega arith
+rowAt-lt Medium o h = omega arith
+rowAt-lt High o h = omega arith
+
+pub columnAt-lt : (r : Resolution) (o : ℕ) → o < screenBytes → columnAt r o < rowBytesOf r
+unfolding columnAt
+columnAt-lt Low o h = omega arith
+columnAt-lt Medium o h = omega arith
+columnAt-lt High o h = omega arith

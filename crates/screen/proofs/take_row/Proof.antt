@@ -1,0 +1,39 @@
+-- `screen::take_row` meets its contract: a refusal leaves the row; what is accepted is in range of `copy_row`. Assumes nothing.
+use lib.ListN.{length}
+use Rattle.lists.specs.Over.{over}
+use Rattle.screen.specs.PlaneRows.{planeRow}
+use Rattle.screen.proofs.Judged.{judgeRow-fits, judged-refused, judged-accepted}
+use borrow.Author.Needs.{needs}
+use Rattle.screen.proofs.take_row.Statement.{statement}
+use Rattle.screen.proofs.take_row.Tie as tie
+
+judge-row-requires : tie.Need-judge-row-requires
+judge-row-requires c κs = search needs
+
+returns : tie.Need-returns
+returns c =
+    let a = c .before .before .before .before .before .args in
+    judged-refused (length (a .screen .now)) (a .r) (a .n) (length (a .row .now))
+    (planeRow (a .screen .now) (a .r) (a .n)) (a .n) (λ p. over p (a .row .now)) (a .row .now)
+    (c .before .before .judge-row .result) (c .before .before .judge-row .ensures) (c .if1 .taken)
+
+copy-row-requires : tie.Need-copy-row-requires
+copy-row-requires c κs =
+    let a = c .before .before .before .before .before .before .args in
+    judgeRow-fits (length (a .screen .now)) (a .r) (a .n) (length (a .row .now)) (a .n)
+    (c .before .before .before .judge-row .result) (c .before .before .before .judge-row .ensures) (c .before .if1 .left)
+
+same-length : tie.Need-same-length
+same-length c = search needs
+
+returns-2 : tie.Need-returns-2
+returns-2 c =
+    let a = c .before .before .before .before .before .before .before .before .before .args in
+    judged-accepted (length (a .screen .now)) (a .r) (a .n) (length (a .row .now))
+    (planeRow (a .screen .now) (a .r) (a .n)) (a .n) (λ p. over p (a .row .now)) (a .row .now)
+    (c .before .before .before .before .before .before .judge-row .result) (c .before .before .before .before .before .before .judge-row .ensures)
+    (c .before .before .copy-row .last .1 .1 .1 .0) (c .before .before .before .before .if1 .left) (c .before .before .copy-row .ensures)
+
+pub take-row-spec : {M : Type 1} → statement M
+take-row-spec =
+    tie.close (tie.spec judge-row-requires returns copy-row-requires same-length returns-2)
