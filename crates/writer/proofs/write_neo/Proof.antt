@@ -8,7 +8,7 @@ use lib.ListN.{length, take, length-append}
 use lib.Seq.{length-take-le}
 use Rattle.lists.specs.Over.{over}
 use Rattle.resolution.specs.Shapes.{screenBytes}
-use Rattle.words.specs.Word.{wordBytes, wordsBytes}
+use Rattle.words.specs.Word.{wordBytes}
 use Rattle.writer.specs.Layout.{degasHeader, neoMiddle, neoFile}
 use Rattle.writer.proofs.Append.{over-append}
 use borrow.Author.Needs.{needs}

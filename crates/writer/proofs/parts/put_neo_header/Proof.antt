@@ -1,12 +1,10 @@
 -- `writer::parts::put_neo_header` meets its contract: each part follows the one before it. Assumes nothing.
-use mathlib.Core.Path.{_≡_, refl, ap, _∙_}
-use mathlib.Core.List.{List, _++_, append-assoc}
+use mathlib.Core.Path.{_≡_, refl}
+use mathlib.Core.List.{_++_}
 use native.Mathlib.Omega.{arith}
-use Prim.Native.Nat.{ℕ}
 use denote.Ref.{now}
 use lib.ListN.{length, length-append}
 use Rattle.words.specs.Word.{wordBytes}
-use Rattle.lists.specs.Over.{over}
 use Rattle.writer.specs.Layout.{degasHeader, neoMiddle}
 use Rattle.writer.proofs.Append.{over-append}
 use borrow.Author.Needs.{needs}

@@ -1,5 +1,5 @@
 -- `writer::parts::put_neo_middle` meets its contract: the name, and after it the rest. Assumes nothing.
-use mathlib.Core.Path.{_≡_, refl}
+use mathlib.Core.Path.{refl}
 use mathlib.Core.List.{_∷_, _++_}
 use denote.Ref.{now}
 use lib.ListN.{replicate}
