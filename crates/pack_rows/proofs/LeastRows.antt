@@ -14,7 +14,7 @@ use Rattle.unpack_rows.specs.UnpacksRows.{UnpacksRows, none, more, Wide}
 use Rattle.unpack_rows.proofs.Exact.{doneRows, complete-rows}
 use Rattle.pack.specs.IsLeast.{Separate}
 use Rattle.pack.specs.Least.{least, leastRecords}
-use Rattle.pack.proofs.Least.{least-bound, separate-length}
+use Rattle.pack.proofs.Bounds.{least-bound, separate-length}
 use Rattle.pack.proofs.Optimal.{least-first}
 use Rattle.pack.proofs.Order.{preferred-length}
 use Rattle.pack.proofs.Valid.{least-is-least}

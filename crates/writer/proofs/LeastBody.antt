@@ -18,7 +18,7 @@ use Rattle.resolution.specs.declared.Resolution.the-variants.{Low, Medium, High
 use Rattle.resolution.specs.Shapes.{screenBytes, rowBytesOf, planeRowsOf}
 use Rattle.pack.specs.Least.{least, leastRecords}
 use Rattle.pack.specs.Pack.{packInto, packedLen}
-use Rattle.pack.proofs.Least.{least-bound}
+use Rattle.pack.proofs.Bounds.{least-bound}
 use Rattle.pack.proofs.Pack.{pack-done}
 use Rattle.pack_rows.specs.LeastRows.{leastRows, leastRowsRecords}
 use Rattle.pack_rows.proofs.LeastRows.{leastRecords-bound, leastRows-next, leastRowsRecords-next, leastRows-past, leastRowsRecords-past}
