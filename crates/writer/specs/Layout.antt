@@ -1,6 +1,6 @@
 -- The bytes of a file, in each form (document 01, "File layouts"). Assumes nothing: these are definitions.
 use Prim.Native.Nat.{ℕ, _+_}
-use mathlib.Core.List.{List, [], _∷_, _++_}
+use mathlib.Core.List.{List, _∷_, _++_}
 use lib.ListN.{take, replicate}
 use Rattle.words.specs.Word.{wordBytes, wordsBytes}
 use Rattle.resolution.specs.Shapes.{screenBytes}

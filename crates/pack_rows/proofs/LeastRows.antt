@@ -1,0 +1,122 @@
+-- Laws of `leastRows`: the least bodies of rows, end to end, unpack to the rows, and no byte string that does is shorter. Assumes nothing.
+use mathlib.Core.Path.{_≡_, refl, sym, ap, _∙_}
+use mathlib.Core.Logic.{_↔_}
+use mathlib.Core.List.{List, [], _∷_, _++_, append-assoc}
+use Prim.Native.Nat.{ℕ, suc, _+_, _*_, _≤_, _<_, suc-le-suc}
+use native.Mathlib.Nat.{suc-mul, zero-lt-suc}
+use native.Mathlib.Numerals.{add-one}
+use native.Mathlib.Omega.{arith}
+use lib.ListN.{length, getD, drop, length-append, drop-of-length-le}
+use lib.Seq.{drop-cons}
+use Rattle.packbits.specs.Unpacks.{Unpacks, full, literal, repeat, nothing}
+use Rattle.unpack_rows.specs.UnpackRows.{unpackRows}
+use Rattle.unpack_rows.specs.UnpacksRows.{UnpacksRows, none, more, Wide}
+use Rattle.unpack_rows.proofs.Exact.{doneRows, complete-rows}
+use Rattle.pack.specs.IsLeast.{Separate}
+use Rattle.pack.specs.Least.{least, leastRecords}
+use Rattle.pack.proofs.Bounds.{least-bound, separate-length}
+use Rattle.pack.proofs.Optimal.{least-first}
+use Rattle.pack.proofs.Order.{preferred-length}
+use Rattle.pack.proofs.Valid.{least-is-least}
+use Rattle.pack_rows.specs.LeastRows.{leastRows, leastRowsRecords}
+
+-- ---- rows of one width, at most 128
+
+module _ (width : ℕ) (narrow : width ≤ 128) where
+  pub rows-unpack : (rows : List (List ℕ)) → Wide width rows → UnpacksRows (leastRows rows) rows (leastRowsRecords rows)
+  unfolding leastRows leastRowsRecords
+  rows-unpack [] w = none
+  rows-unpack (row ∷ rows) w = more (least-is-least row (omega (arith, w .0)) .unpacks) (rows-unpack rows (w .1))
+
+  -- unpacked again, with anything after them
+  pub unpack-leastRows : (rows : List (List ℕ)) → Wide width rows → (rest : List ℕ)
+      → unpackRows (length rows) width (leastRows rows ++ rest) ≡ doneRows (length (leastRows rows)) (leastRowsRecords rows) rows
+  unpack-leastRows rows w rest = complete-rows width w (rows-unpack rows w) rest
+
+  pub rows-shortest : {body : List ℕ} {rows : List (List ℕ)} {n : ℕ} → Wide width rows → UnpacksRows body rows n → length (leastRows rows) ≤ length body
+  unfolding leastRows
+  rows-shortest w none = omega arith
+  rows-shortest w (more {body} {bodies} {row} {rows} u us) =
+      omega (
+        arith,
+        preferred-length (least-first (omega (arith, w .0)) u),
+        rows-shortest (w .1) us,
+        length-append (least row) (leastRows rows),
+        length-append body bodies,
+      )
+
+  -- no body of the rows is shorter than a limit, just where the least bodies together are not
+  pub no-body-below : (limit : ℕ) (rows : List (List ℕ)) → Wide width rows
+      → (limit ≤ length (leastRows rows)) ↔ ((body : List ℕ) (n : ℕ) → UnpacksRows body rows n → limit ≤ length body)
+  no-body-below limit rows w = (
+    λ l body n u. omega (arith, rows-shortest w u),
+    λ f. f (leastRows rows) (leastRowsRecords rows) (rows-unpack rows w),
+  )
+
+-- ---- lengths
+
+-- at most one byte more for each row
+pub leastRows-bound : (width : ℕ) (rows : List (List ℕ)) → Wide width rows → length (leastRows rows) ≤ length rows * (width + 1)
+unfolding leastRows
+leastRows-bound width [] w = omega arith
+leastRows-bound width (row ∷ rows) w =
+    omega (
+      arith,
+      w .0,
+      length-append (least row) (leastRows rows),
+      least-bound row,
+      leastRows-bound width rows (w .1),
+      suc-mul (length rows) (width + 1),
+    )
+
+-- and exactly that where no row has two equal neighbours
+pub separate-rows : (width : ℕ) → 1 ≤ width → (rows : List (List ℕ)) → Wide width rows → ((k : ℕ) → k < length rows → Separate (getD rows k []))
+    → length (leastRows rows) ≡ length rows * (width + 1)
+unfolding leastRows
+separate-rows width some [] w s = omega arith
+separate-rows width some (row ∷ rows) w s =
+    omega (
+      arith,
+      w .0,
+      length-append (least row) (leastRows rows),
+      separate-length row (omega (arith, w .0)) (s 0 (zero-lt-suc (length rows))),
+      separate-rows width some rows (w .1) (λ k l. s (suc k) (suc-le-suc l)),
+      suc-mul (length rows) (width + 1),
+    )
+
+-- a record has one byte at least
+records-few : {body row : List ℕ} {n : ℕ} → Unpacks body row n → n ≤ length body
+records-few full = omega arith
+records-few (literal bytes {body} x l u) = omega (arith, records-few u, length-append bytes body)
+records-few (repeat x y u) = omega (arith, records-few u)
+records-few (nothing u) = omega (arith, records-few u)
+
+pub leastRecords-bound : (row : List ℕ) → length row ≤ 128 → leastRecords row ≤ length (least row)
+leastRecords-bound row h = records-few (least-is-least row h .unpacks)
+
+-- ---- the rows from row k on: row k is the next
+
+module _ (rows : List (List ℕ)) (k : ℕ) where
+  pub leastRows-next : k < length rows → leastRows (drop k rows) ≡ least (getD rows k []) ++ leastRows (drop (k + 1) rows)
+  unfolding leastRows
+  leastRows-next h = rw (add-one, drop-cons rows k [] h) refl
+
+  pub leastRowsRecords-next : k < length rows → leastRowsRecords (drop k rows) ≡ leastRecords (getD rows k []) + leastRowsRecords (drop (k + 1) rows)
+  unfolding leastRowsRecords
+  leastRowsRecords-next h = rw (add-one, drop-cons rows k [] h) refl
+
+  -- after the last there is none
+  pub leastRows-past : length rows ≤ k → leastRows (drop k rows) ≡ []
+  unfolding leastRows
+  leastRows-past h = ap leastRows (drop-of-length-le rows h)
+
+  pub leastRowsRecords-past : length rows ≤ k → leastRowsRecords (drop k rows) ≡ 0
+  unfolding leastRowsRecords
+  leastRowsRecords-past h = ap leastRowsRecords (drop-of-length-le rows h)
+
+-- rows in two parts
+pub leastRows-append : (rows others : List (List ℕ)) → leastRows (rows ++ others) ≡ leastRows rows ++ leastRows others
+unfolding leastRows
+leastRows-append [] others = refl
+leastRows-append (row ∷ rows) others =
+    ap (λ (l : List ℕ). least row ++ l) (leastRows-append rows others) ∙ sym (append-assoc (least row) (leastRows rows) (leastRows others))

@@ -1,0 +1,155 @@
+-- The packed body of a screen, row by row: its length summed, and its bytes written. Assumes nothing.
+use mathlib.Core.Path.{_≡_, refl, sym, ap, _∙_, subst}
+use mathlib.Core.Bool.{false}
+use mathlib.Core.List.{List, _++_}
+use Prim.Native.Nat.{ℕ, _+_, _-_, _*_, _≤_, _<_}
+use native.Mathlib.Omega.{arith}
+use borrow.Author.Tests.{le-leb}
+use borrow.Rule.Slice.PartMut.{putMid}
+use lib.ListN.{length, take, drop, replicate, length-append}
+use lib.Seq.{take-at}
+use Rattle.lists.specs.Over.{over}
+use Rattle.lists.proofs.Over.{length-over}
+use Rattle.lists.proofs.Pieces.{Writing, writing-start, writing-end, piece-fits, writing-more}
+use Rattle.outcome.specs.Outcome.{Outcome, later}
+use Rattle.packbits.specs.Row.{done, widthOutOfRange}
+use Rattle.resolution.specs.declared.Resolution.{Resolution}
+use Rattle.resolution.specs.declared.Resolution.the-variants.{Low, Medium, High}
+use Rattle.resolution.specs.Shapes.{screenBytes, rowBytesOf, planeRowsOf}
+use Rattle.pack.specs.Least.{least, leastRecords}
+use Rattle.pack.specs.Pack.{packInto, packedLen}
+use Rattle.pack.proofs.Bounds.{least-bound}
+use Rattle.pack.proofs.Pack.{pack-done}
+use Rattle.pack_rows.specs.LeastRows.{leastRows, leastRowsRecords}
+use Rattle.pack_rows.proofs.LeastRows.{leastRecords-bound, leastRows-next, leastRowsRecords-next, leastRows-past, leastRowsRecords-past}
+use Rattle.screen.specs.PlaneRows.{planeRow, planeRows, takeRow}
+use Rattle.screen.proofs.Judged.{judgeRow-accepted}
+use Rattle.screen.proofs.PlaneRows.{length-planeRow, length-planeRows, getD-planeRows}
+
+-- ---- numbers that hold at every resolution
+
+pub rowBytes-le : (r : Resolution) → rowBytesOf r ≤ 80
+rowBytes-le Low = omega arith
+rowBytes-le Medium = omega arith
+rowBytes-le High = omega arith
+
+pub planeRows-le : (r : Resolution) → planeRowsOf r ≤ 800
+planeRows-le Low = omega arith
+planeRows-le Medium = omega arith
+planeRows-le High = omega arith
+
+rowBytes-range : (r : Resolution) → widthOutOfRange (rowBytesOf r) ≡ false
+rowBytes-range Low = refl
+rowBytes-range Medium = refl
+rowBytes-range High = refl
+
+-- ---- a plane row taken into a buffer, and packed
+
+module _ (s : List ℕ) (r : Resolution) (n : ℕ) where
+  row-narrow : length (planeRow s r n) ≤ 128
+  row-narrow = omega (arith, length-planeRow s r n, rowBytes-le r)
+
+  -- its least body is at most 81 bytes long
+  pub row-bound : length (least (planeRow s r n)) ≤ 81
+  row-bound = omega (arith, least-bound (planeRow s r n), length-planeRow s r n, rowBytes-le r)
+
+  pub row-records : leastRecords (planeRow s r n) ≤ length (least (planeRow s r n))
+  row-records = leastRecords-bound (planeRow s r n) row-narrow
+
+  pub row-packedLen : packedLen (planeRow s r n) ≡ length (least (planeRow s r n))
+  row-packedLen = simp (le-leb (length (planeRow s r n)) 128 row-narrow)
+
+  pub row-packInto : (room : ℕ) → length (least (planeRow s r n)) ≤ room
+      → packInto (planeRow s r n) room ≡ done (length (least (planeRow s r n))) (leastRecords (planeRow s r n)) (least (planeRow s r n))
+  row-packInto room h =
+      pack-done (length (least (planeRow s r n))) (planeRow s r n) room (ap widthOutOfRange (length-planeRow s r n) ∙ rowBytes-range r) h
+
+  -- taken into a buffer of 80 zeros, whose content it leaves as `row`
+  module _ (row : List ℕ) (full : screenBytes ≤ length s) (h : n < planeRowsOf r)
+      (is : row ≡ later (takeRow s r n 80) (λ p. over p (replicate 80 0)) (replicate 80 0)) where
+    row-over : row ≡ over (planeRow s r n) (replicate 80 0)
+    row-over =
+        is
+        ∙ ap (λ (o : Outcome (List ℕ)). later o (λ p. over p (replicate 80 0)) (replicate 80 0))
+        (judgeRow-accepted (length s) r n 80 (planeRow s r n) full h (rowBytes-le r))
+
+    -- the row is at the buffer's front
+    pub row-room : (width : ℕ) → width ≡ rowBytesOf r → width ≤ length row
+    row-room width w =
+        omega (
+          arith,
+          ap length row-over,
+          rowBytes-le r,
+          length-over (planeRow s r n) (replicate 80 0) (omega (arith, length-planeRow s r n, rowBytes-le r)),
+        )
+
+    pub row-front : (width : ℕ) → width ≡ rowBytesOf r → take width row ≡ planeRow s r n
+    row-front width w =
+        ap (take width) row-over
+        ∙ take-at (planeRow s r n) (drop (length (planeRow s r n)) (replicate 80 0)) width (length-planeRow s r n ∙ sym w)
+
+-- ---- row n is the next of the plane rows
+
+module _ (s : List ℕ) (r : Resolution) (n : ℕ) (h : n < planeRowsOf r) where
+  within : n < length (planeRows s r)
+  within = omega (arith, length-planeRows s r)
+
+  body-next : leastRows (drop n (planeRows s r)) ≡ least (planeRow s r n) ++ leastRows (drop (n + 1) (planeRows s r))
+  body-next =
+      leastRows-next (planeRows s r) n within
+      ∙ ap (λ (row : List ℕ). least row ++ leastRows (drop (n + 1) (planeRows s r))) (getD-planeRows s r n h)
+
+  records-next : leastRowsRecords (drop n (planeRows s r)) ≡ leastRecords (planeRow s r n) + leastRowsRecords (drop (n + 1) (planeRows s r))
+  records-next =
+      leastRowsRecords-next (planeRows s r) n within
+      ∙ ap (λ (row : List ℕ). leastRecords row + leastRowsRecords (drop (n + 1) (planeRows s r))) (getD-planeRows s r n h)
+
+  pub length-next : length (leastRows (drop n (planeRows s r))) ≡ length (least (planeRow s r n)) + length (leastRows (drop (n + 1) (planeRows s r)))
+  length-next = ap length body-next ∙ length-append (least (planeRow s r n)) (leastRows (drop (n + 1) (planeRows s r)))
+
+module _ (s : List ℕ) (r : Resolution) (n : ℕ) (h : planeRowsOf r ≤ n) where
+  none-left : length (planeRows s r) ≤ n
+  none-left = omega (arith, length-planeRows s r)
+
+  pub length-past : length (leastRows (drop n (planeRows s r))) ≡ 0
+  length-past = ap length (leastRows-past (planeRows s r) n none-left)
+
+-- ---- the body written, each row's to the part of the output from its present end on
+
+-- n rows are written, with so many records, up to the place `end` of out, which was out₀
+pub record RowsWritten (s : List ℕ) (r : Resolution) (out₀ out : List ℕ) (n end records : ℕ) : Type 0 where
+  pub bound : end ≤ n * 81
+  pub few : records ≤ end
+  pub counted : records + leastRowsRecords (drop n (planeRows s r)) ≡ leastRowsRecords (planeRows s r)
+  pub writing : Writing (leastRows (planeRows s r)) (leastRows (drop n (planeRows s r))) out₀ out end
+
+pub rows-start : (s : List ℕ) (r : Resolution) (out : List ℕ) → RowsWritten s r out out 0 0 0
+rows-start s r out = record { bound = omega arith; few = omega arith; counted = omega arith; writing = writing-start (leastRows (planeRows s r)) out }
+
+module _ (s : List ℕ) (r : Resolution) (out₀ out : List ℕ) (n end records : ℕ) (fits : length (leastRows (planeRows s r)) ≤ length out₀)
+    (w : RowsWritten s r out₀ out n end records) (h : n < planeRowsOf r) where
+  row-writing : Writing (leastRows (planeRows s r)) (least (planeRow s r n) ++ leastRows (drop (n + 1) (planeRows s r))) out₀ out end
+  row-writing = subst (λ (rest : List ℕ). Writing (leastRows (planeRows s r)) rest out₀ out end) (body-next s r n h) (w .writing)
+
+  -- the part from `end` on has room for the next row's body
+  pub row-fits : length (least (planeRow s r n)) ≤ length (take (length out - end) (drop end out))
+  row-fits = piece-fits (least (planeRow s r n)) (leastRows (drop (n + 1) (planeRows s r))) fits row-writing
+
+  -- and is given back with that body over its front
+  pub row-written : (last : List ℕ) → last ≡ over (least (planeRow s r n)) (take (length out - end) (drop end out))
+      → RowsWritten s r out₀ (putMid end (length out - end) out last) (n + 1) (end + length (least (planeRow s r n))) (records + leastRecords (planeRow s r n))
+  row-written last e =
+      record {
+        bound = omega (arith, w .bound, row-bound s r n);
+        few = omega (arith, w .few, row-records s r n);
+        counted = omega (arith, w .counted, records-next s r n h);
+        writing = writing-more (least (planeRow s r n)) (leastRows (drop (n + 1) (planeRows s r))) fits row-writing last e;
+      }
+
+pub rows-end : (s : List ℕ) (r : Resolution) (out₀ out : List ℕ) (n end records : ℕ) → planeRowsOf r ≤ n → RowsWritten s r out₀ out n end records
+    → (records ≡ leastRowsRecords (planeRows s r)) × (out ≡ over (leastRows (planeRows s r)) out₀)
+rows-end s r out₀ out n end records h w =
+    let past : length (planeRows s r) ≤ n = omega (arith, length-planeRows s r) in (
+      omega (arith, w .counted, leastRowsRecords-past (planeRows s r) n past),
+      writing-end (subst (λ (rest : List ℕ). Writing (leastRows (planeRows s r)) rest out₀ out end) (leastRows-past (planeRows s r) n past) (w .writing)) .all,
+    )

@@ -1,0 +1,5 @@
+pub mod Append
+pub mod Flatten
+pub mod LeastBody
+pub mod Words
+pub mod WriteFile
