@@ -11,6 +11,7 @@ use resolution::Chosen;
 use resolution::Resolution;
 
 // The answer of a colour: red, green and blue, 0 to 255. A refusal has its number, place 0, and 0 in all else.
+#[repr(C)]
 pub struct ColourAnswer {
     pub number: u8,
     pub place: usize,

@@ -31,6 +31,7 @@ pub const NO_PACKED_BODY: u8 = 9;
 pub const OUT_OF_RANGE: u8 = 10;
 
 // The answer of an operation that reports no value: 0 and 0 where it is accepted, else the refusal's number and place.
+#[repr(C)]
 pub struct Answer {
     pub number: u8,
     pub place: usize,

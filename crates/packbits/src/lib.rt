@@ -27,6 +27,7 @@ pub enum Record {
 
 // The answer of a row packed or unpacked: the packed bytes, written or used, and the records. A refusal has its number and place,
 // and 0 in all else.
+#[repr(C)]
 pub struct RowAnswer {
     pub number: u8,
     pub place: usize,

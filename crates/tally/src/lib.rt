@@ -20,6 +20,7 @@ use resolution::Resolution;
 use resolution::SCREEN_BYTES;
 
 // A rectangle of pixels: its left column, top line, columns and lines.
+#[repr(C)]
 pub struct Rectangle {
     pub left: usize,
     pub top: usize,
@@ -28,6 +29,7 @@ pub struct Rectangle {
 }
 
 // The answer of a tally: how many pixels have each of 16 registers. A refusal has its number, place 0, and 0 in all else.
+#[repr(C)]
 pub struct TallyAnswer {
     pub number: u8,
     pub place: usize,
