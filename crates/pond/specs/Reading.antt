@@ -33,7 +33,6 @@ entryCounts l class floor v count = record {
 
 -- the pixels of a rectangle from the counts of registers 0 to 15
 unfoldable pub pondFrom : List ℕ → ℕ → ℕ → Legend → PondCounts
-unfolding entryCounts
 pondFrom counts class floor l = record {
   sure = sum 16 (λ v. entryCounts l class floor v (getD counts v 0) .sure);
   unsure = sum 16 (λ v. entryCounts l class floor v (getD counts v 0) .unsure);
