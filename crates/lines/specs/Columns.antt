@@ -25,7 +25,6 @@ planeBytes s at planes = record {
 
 -- the bytes of column h of scan line y
 unfoldable pub columnBytes : List ℕ → Resolution → ℕ → ℕ → PlaneBytes
-unfolding columnOffset
 columnBytes s r h y = planeBytes s (columnOffset r y h) (planesOf r)
 
 -- pixel x of a scan line in a byte of its column: the leftmost is the top bit

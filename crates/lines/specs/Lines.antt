@@ -16,7 +16,11 @@ unfoldable pub allBelow : ℕ → ℕ → List ℕ → Bool
 allBelow zero m l = true
 allBelow (suc n) m l = ltb (getD l n 0) m && allBelow n m l
 
--- a line's number, and the length of the area for the line
+-- the screen's length and the resolution's number, judged first
+abbrev pub judgeScreen : {A : Type 0} → ℕ → ℕ → (Resolution → Outcome A) → Outcome A
+judgeScreen screen number further = refuseIf (ltb screen screenBytes) areaTooShort (withResolution number further)
+
+-- then the line's number and the length of the area for the line
 abbrev pub judgeLineAt : {A : Type 0} → Resolution → ℕ → ℕ → Outcome A → Outcome A
 judgeLineAt r y room further =
     refuseIf (leb (heightOf r) y) outOfRange
@@ -34,14 +38,10 @@ lineInAt s r y line =
     (refuseIf (not (allBelow (widthOf r) (registersOf r) line)) outOfRange
     (accepted (withLine s r y line)))
 
--- a line out of a screen, or into it: the screen's length and the resolution's number are judged first
-abbrev pub judgeScreen : {A : Type 0} → ℕ → ℕ → (Resolution → Outcome A) → Outcome A
-judgeScreen screen number further = refuseIf (ltb screen screenBytes) areaTooShort (withResolution number further)
-
--- line out
+-- line out, judged whole
 unfoldable pub lineOut : List ℕ → ℕ → ℕ → ℕ → Outcome (List ℕ)
 lineOut s number y room = judgeScreen (length s) number (λ r. lineOutAt s r y room)
 
--- line in
+-- line in, judged whole
 unfoldable pub lineIn : List ℕ → ℕ → ℕ → List ℕ → Outcome (List ℕ)
 lineIn s number y line = judgeScreen (length s) number (λ r. lineInAt s r y line)

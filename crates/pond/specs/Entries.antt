@@ -13,10 +13,10 @@ classOf l v = getD (l .classes) v 0
 abbrev pub confidenceOf : Legend → ℕ → ℕ
 confidenceOf l v = getD (l .confidences) v 0
 
--- the confidences of the first n registers are at most 100
-unfoldable pub confidencesFit : Legend → ℕ → Bool
-confidencesFit l zero = true
-confidencesFit l (suc n) = leb (confidenceOf l n) 100 && confidencesFit l n
+-- the first n confidences are at most 100
+unfoldable pub confidencesFit : List ℕ → ℕ → Bool
+confidencesFit confidences zero = true
+confidencesFit confidences (suc n) = leb (getD confidences n 0) 100 && confidencesFit confidences n
 
 -- 1 for a register of the class, at or above the floor, else 0
 unfoldable pub isSure : Legend → ℕ → ℕ → ℕ → ℕ

@@ -1,9 +1,10 @@
 -- Pond reading (document 01, "Order of judging", "pond reading"). Assumes nothing: these are definitions.
-use Prim.Native.Nat.{ℕ}
+use Prim.Native.Nat.{ℕ, _*_}
 use mathlib.Core.Bool.{not}
 use mathlib.Core.List.{List}
-use lib.ListN.{length}
+use lib.ListN.{length, getD}
 use lib.Dec.{ltb}
+use Rattle.lists.specs.Sum.{sum}
 use Rattle.outcome.specs.Outcome.{Outcome, accepted, refused, refuseIf}
 use Rattle.outcome.specs.Refusal.{outOfRange}
 use Rattle.resolution.specs.declared.Resolution.{Resolution}
@@ -11,30 +12,45 @@ use Rattle.tally.specs.declared.Rectangle.{Rectangle}
 use Rattle.tally.specs.Area.{judgeArea, areaSum}
 use Rattle.pond.specs.declared.Legend.{Legend}
 use Rattle.pond.specs.declared.PondAnswer.{PondAnswer}
+use Rattle.pond.specs.declared.PondCounts.{PondCounts}
 use Rattle.pond.specs.Entries.{confidencesFit, isSure, isUnsure, isOther}
 
 -- the pixels of a rectangle that are sure, unsure and of another class
-pub record Pond : Type 0 where
-  pub sure : ℕ
-  pub unsure : ℕ
-  pub other : ℕ
-
-unfoldable pub pondOf : List ℕ → Resolution → Rectangle → ℕ → ℕ → Legend → Pond
+unfoldable pub pondOf : List ℕ → Resolution → Rectangle → ℕ → ℕ → Legend → PondCounts
 pondOf s r a class floor l = record {
   sure = areaSum s r a (isSure l class floor);
   unsure = areaSum s r a (isUnsure l class floor);
   other = areaSum s r a (isOther l class);
 }
 
--- screen, resolution and rectangle are judged as for a tally; then a floor or any confidence above 100 gets 10
-unfoldable pub pondReading : List ℕ → ℕ → Rectangle → ℕ → ℕ → Legend → Outcome Pond
-pondReading s number a class floor l =
-    judgeArea (length s) number a (λ r.
+-- the pixels of register v, of which there are so many
+unfoldable pub entryCounts : Legend → ℕ → ℕ → ℕ → ℕ → PondCounts
+entryCounts l class floor v count = record {
+  sure = isSure l class floor v * count;
+  unsure = isUnsure l class floor v * count;
+  other = isOther l class v * count;
+}
+
+-- the pixels of a rectangle from the counts of registers 0 to 15
+unfoldable pub pondFrom : List ℕ → ℕ → ℕ → Legend → PondCounts
+pondFrom counts class floor l = record {
+  sure = sum 16 (λ v. entryCounts l class floor v (getD counts v 0) .sure);
+  unsure = sum 16 (λ v. entryCounts l class floor v (getD counts v 0) .unsure);
+  other = sum 16 (λ v. entryCounts l class floor v (getD counts v 0) .other);
+}
+
+-- a floor or any confidence above 100 gets 10
+abbrev pub judgeLegend : {A : Type 0} → ℕ → Legend → Outcome A → Outcome A
+judgeLegend floor l further =
     refuseIf (ltb 100 floor) outOfRange
-    (refuseIf (not (confidencesFit l 16)) outOfRange
-    (accepted (pondOf s r a class floor l))))
+    (refuseIf (not (confidencesFit (l .confidences) 16)) outOfRange
+    further)
+
+-- screen, resolution and rectangle are judged as for a tally, then floor and legend
+unfoldable pub pondReading : List ℕ → ℕ → Rectangle → ℕ → ℕ → Legend → Outcome PondCounts
+pondReading s number a class floor l = judgeArea (length s) number a (λ r. judgeLegend floor l (accepted (pondOf s r a class floor l)))
 
 -- a refusal gives its number, its place, and 0 in all else
-abbrev pub pondAnswer : Outcome Pond → PondAnswer
+abbrev pub pondAnswer : Outcome PondCounts → PondAnswer
 pondAnswer (accepted p) = record { number = 0; place = 0; sure = p .sure; unsure = p .unsure; other = p .other }
 pondAnswer (refused number place) = record { number = number; place = place; sure = 0; unsure = 0; other = 0 }

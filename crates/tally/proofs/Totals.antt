@@ -2,32 +2,36 @@
 -- Assumes nothing.
 use mathlib.Core.Path.{_≡_, refl, sym, ap, _∙_}
 use mathlib.Core.List.{List, []}
-use mathlib.Core.Bool.{true, not}
+use mathlib.Core.Bool.{Bool, true, false, not, cond}
 use mathlib.Core.Logic.{_⊎_, inl, inr}
 use Prim.Native.Nat.{ℕ, zero, suc, _+_, _*_, _≤_, _<_}
 use native.Mathlib.Nat.{add-zero, zero-add, mul-comm, not-suc-le-zero, le-of-suc-le-suc, eq-or-lt-of-le}
 use native.Mathlib.Omega.{arith}
-use lib.Dec.{ltb}
-use lib.ListN.{length, getD}
+use lib.Dec.{ltb, eqb}
+use lib.ListN.{length, getD, replicate}
 use borrow.Author.Tests.{eq-eqb, ne-eqb, not-false, le-leb, le-ltb}
 use Rattle.lists.specs.Sum.{sum}
 use Rattle.lists.specs.Tabulate.{tabulate}
 use Rattle.lists.proofs.Sum.{sum-ext, sum-const, sum-mul, sum-swap}
-use Rattle.lists.proofs.Tabulate.{getD-tabulate, tabulate-ext}
-use Rattle.outcome.specs.Outcome.{accepted, later}
+use Rattle.lists.proofs.Tabulate.{getD-tabulate, tabulate-ext, tabulate-le}
+use Rattle.outcome.specs.Outcome.{Outcome, accepted, refused, refuseIf, later}
 use Rattle.outcome.specs.Refusal.{areaTooShort, outOfRange}
 use Rattle.resolution.specs.declared.Resolution.{Resolution}
 use Rattle.resolution.specs.declared.Resolution.the-variants.{Low, Medium, High}
-use Rattle.resolution.specs.declared.Chosen.the-variants.{Known}
-use Rattle.resolution.specs.Choice.{chosen}
+use Rattle.resolution.specs.declared.Chosen.{Chosen}
+use Rattle.resolution.specs.declared.Chosen.the-variants.{Known, Unknown}
+use Rattle.resolution.specs.Choice.{chosen, judgeWith}
 use Rattle.resolution.specs.Shapes.{screenBytes, widthOf, heightOf, registersOf}
+use Rattle.resolution.proofs.Shapes.{width-le, height-le}
 use Rattle.screen.specs.Registers.{register}
 use Rattle.screen.proofs.Registers.{register-lt}
 use Rattle.lines.proofs.Lines.{passed, by-resolution}
 use Rattle.tally.specs.declared.Rectangle.{Rectangle}
-use Rattle.tally.specs.Area.{fits, lineSum, areaSum}
-use Rattle.tally.specs.Counts.{isRegister, counts, talliedAt, tallied}
+use Rattle.tally.specs.declared.TallyAnswer.{TallyAnswer}
+use Rattle.tally.specs.Area.{fits, judgeAreaAt, judgeArea, lineSum, areaSum}
+use Rattle.tally.specs.Counts.{isRegister, counts, talliedAt, tallied, tallyAnswer}
 use Rattle.tally.proofs.Area.{fits-within}
+use Rattle.tally.proofs.Counts.{countsOf-le}
 
 -- ---- sums over registers
 
@@ -156,3 +160,46 @@ module _ (s : List ℕ) (number : ℕ) (a : Rectangle) (c : List ℕ) (e : talli
       let p = passed (ltb (length s) screenBytes) areaTooShort _ c e in
       areaSum-counts s r a f
       ∙ ap (λ (l : List ℕ). sum 16 (λ v. f v * getD l v 0)) (accepted-counts s r a c (rw known at (p .1)) .1)
+
+-- ---- answers
+
+-- what is judged after a tally's answer: its counts, or its refusal again
+abbrev pub afterTally : {A : Type 0} → TallyAnswer → (List ℕ → Outcome A) → Outcome A
+afterTally t further = cond (eqb (t .number) 0) (further (t .counts)) (refused (t .number) (t .place))
+
+-- what judges the same rectangle, and then only what its counts tell, can be judged after a tally
+pub after-tally : {A : Type 0} (s : List ℕ) (number : ℕ) (a : Rectangle) (f : Resolution → Outcome A) (g : List ℕ → Outcome A)
+    → ((r : Resolution) → f r ≡ g (counts s r a)) → judgeArea (length s) number a f ≡ afterTally (tallyAnswer (tallied s number a)) g
+unfolding tallied
+after-tally s number a f g e = go (ltb (length s) screenBytes) (chosen number)
+  where
+    at : (r : Resolution) (b : Bool)
+        → refuseIf (not b) outOfRange (f r) ≡ afterTally (tallyAnswer (refuseIf (not b) outOfRange (accepted (counts s r a)))) g
+    at r true = e r
+    at r false = refl
+
+    go : (b : Bool) (c : Chosen) → refuseIf b areaTooShort (judgeWith c (λ r. judgeAreaAt r a (f r)))
+        ≡ afterTally (tallyAnswer (refuseIf b areaTooShort (judgeWith c (λ r. talliedAt s r a)))) g
+    go true c = refl
+    go false Unknown = refl
+    go false (Known r) = at r (fits r a)
+
+-- a count is at most all pixels of the largest screen
+pub tally-le : (s : List ℕ) (number : ℕ) (a : Rectangle) (v : ℕ) → getD (tallyAnswer (tallied s number a) .counts) v 0 ≤ 256000
+unfolding tallied tabulate
+tally-le s number a v = go (ltb (length s) screenBytes) (chosen number)
+  where
+    none : getD (replicate 16 0) v 0 ≤ 256000
+    none = tabulate-le 16 (λ v. 0) 256000 (λ v. omega arith) v
+
+    at : (r : Resolution) (b : Bool) → fits r a ≡ b
+        → getD (tallyAnswer (refuseIf (not b) outOfRange (accepted (counts s r a))) .counts) v 0 ≤ 256000
+    at r true e =
+        let w = fits-within r a e in
+        countsOf-le s r (a .left) (a .columns) (a .top) (a .lines) (omega (arith, w .0, width-le r)) (omega (arith, w .1, height-le r)) v
+    at r false e = none
+
+    go : (b : Bool) (c : Chosen) → getD (tallyAnswer (refuseIf b areaTooShort (judgeWith c (λ r. talliedAt s r a))) .counts) v 0 ≤ 256000
+    go true c = none
+    go false Unknown = none
+    go false (Known r) = at r (fits r a) refl

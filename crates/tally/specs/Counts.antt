@@ -23,7 +23,6 @@ counts s r a = tabulate 16 (λ v. areaSum s r a (isRegister v))
 
 -- counts with those of n registers f 0, .., f (n - 1) added
 unfoldable pub counted : List ℕ → (ℕ → ℕ) → ℕ → List ℕ
-unfolding isRegister
 counted c f n = tabulate 16 (λ v. getD c v 0 + sum n (λ i. isRegister v (f i)))
 
 -- tally at a resolution

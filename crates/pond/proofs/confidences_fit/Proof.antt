@@ -1,0 +1,53 @@
+-- `pond::confidences_fit` meets its contract: the first v confidences are judged. Assumes nothing.
+use mathlib.Core.Path.{_≡_, refl, _∙_}
+use mathlib.Core.Logic.{⊎-elim}
+use native.Mathlib.Omega.{arith}
+use native.Mathlib.Numerals.{add-one}
+use Prim.Native.Nat.{_≤_, _-_}
+use borrow.Author.Needs.{needs}
+use borrow.Author.Tests.{le-leb, lt-leb}
+use Rattle.pond.specs.Entries.{confidencesFit}
+use Rattle.pond.proofs.confidences_fit.Statement.{statement}
+use Rattle.pond.proofs.confidences_fit.Tie as tie
+
+abbrev Inv-loop : tie.InvT-loop
+Inv-loop confidences fit₀ v₀ fit v = (v ≤ 16) × (fit ≡ confidencesFit confidences v)
+
+abbrev μ-loop : tie.MeasureT-loop
+μ-loop confidences fit₀ v₀ fit v = 16 - v
+
+loop-holds : tie.Need-loop-holds Inv-loop μ-loop
+unfolding confidencesFit
+loop-holds c = (search needs, refl)
+
+array-read-if1 : tie.Need-array-read-if1 Inv-loop μ-loop
+array-read-if1 c = search needs
+
+add-v : tie.Need-add-v Inv-loop μ-loop
+add-v c = omega arith
+
+loop-less : tie.Need-loop-less Inv-loop μ-loop
+loop-less c = omega arith
+
+loop-again : tie.Need-loop-again Inv-loop μ-loop
+unfolding confidencesFit
+loop-again c =
+    let l = c .before .before .loop in (
+      omega arith,
+      rw (add-one (l .v))
+          (⊎-elim
+          (λ w. w .1 ∙ simp (lt-leb _ _ (w .0 .taken)))
+          (λ w. w .1 ∙ simp (le-leb _ _ (w .0 .left)) (l .inv .1))
+          (c .if1 .came)),
+    )
+
+returns : tie.Need-returns Inv-loop μ-loop
+returns c =
+    let l = c .before .loop in
+    let e : l .v ≡ 16 = omega arith in
+    l .inv .1 ∙ rw e
+
+pub confidences-fit-spec : {M : Type 1} → statement M
+confidences-fit-spec =
+    tie.close
+    (tie.spec Inv-loop μ-loop loop-holds array-read-if1 add-v loop-less loop-again returns)
