@@ -10,6 +10,7 @@ use tally::Rectangle;
 use tally::tally;
 
 // What each of 16 registers stands for: a class, and a confidence of 0 to 100.
+#[repr(C)]
 pub struct Legend {
     pub classes: [u8; 16],
     pub confidences: [u8; 16],
@@ -17,6 +18,7 @@ pub struct Legend {
 
 // The answer of a pond reading: how many pixels are sure, unsure and of another class. A refusal has its number, place 0, and 0 in
 // all else.
+#[repr(C)]
 pub struct PondAnswer {
     pub number: u8,
     pub place: usize,

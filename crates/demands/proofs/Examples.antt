@@ -1,0 +1,109 @@
+-- The examples of document 01 that are marked P hold: one test, which antt computes over the table, and one law at each entry. Assumes
+-- nothing.
+use mathlib.Core.Path.{_≡_, refl, ap₂, subst}
+use mathlib.Core.Bool.{Bool, true, false, _&&_}
+use mathlib.Core.List.{List, [], _∷_, flatten}
+use Prim.Native.Nat.{ℕ, zero, suc, _<_}
+use native.Mathlib.Nat.{le-of-suc-le-suc, not-suc-le-zero}
+use lib.ListN.{length, getD}
+use lib.Dec.{T, leb, eqb, leb→le, eqb→eq}
+use Rattle.lists.specs.Sum.{sum}
+use Rattle.outcome.specs.Outcome.{Outcome, accepted, refused}
+use Rattle.words.specs.Word.{wordAt, wordBytes, wordsBytes}
+use Rattle.packbits.specs.Records.{control, recordAt}
+use Rattle.packbits.specs.Row.{Row, done}
+use Rattle.packbits.specs.Unpack.{progressWithin, progress, outcomeOf, unpackRow}
+use Rattle.packbits.specs.Unpack as unpacking
+use Rattle.pack.specs.IsLeast.{IsLeast}
+use Rattle.pack.specs.Least.{least, leastRecords, scan}
+use Rattle.pack.specs.Least as packing
+use Rattle.pack.proofs.Valid.{least-is-least}
+use Rattle.resolution.specs.declared.Resolution.the-variants.{Low}
+use Rattle.screen.specs.Registers.{groupOffset, wordOffset, pixelBit, register}
+use Rattle.colour.specs.Palette.{Rgb, level, field, wordColour}
+use Rattle.demands.specs.Examples.{Example, leastBody, unpacked, coloured, firstRegister, Holds, table}
+
+-- ---- tests of equality
+
+both : (a b : Bool) → T (a && b) → T a × T b
+both true b t = (tt, t)
+both false b t = absurd t
+
+abbrev same : List ℕ → List ℕ → Bool
+same [] [] = true
+same [] (y ∷ ys) = false
+same (x ∷ xs) [] = false
+same (x ∷ xs) (y ∷ ys) = eqb x y && same xs ys
+
+same-list : (xs ys : List ℕ) → T (same xs ys) → xs ≡ ys
+same-list [] [] t = refl
+same-list [] (y ∷ ys) t = absurd t
+same-list (x ∷ xs) [] t = absurd t
+same-list (x ∷ xs) (y ∷ ys) t =
+    let h = both (eqb x y) (same xs ys) t in
+    ap₂ (λ (a : ℕ) (l : List ℕ). a ∷ l) (eqb→eq x y (h .0)) (same-list xs ys (h .1))
+
+abbrev sameOutcome : Outcome Row → Outcome Row → Bool
+sameOutcome (accepted r) (accepted s) = same (r .bytes ∷ r .records ∷ r .made) (s .bytes ∷ s .records ∷ s .made)
+sameOutcome (accepted r) (refused m p) = false
+sameOutcome (refused n o) (accepted s) = false
+sameOutcome (refused n o) (refused m p) = same (n ∷ o ∷ []) (m ∷ p ∷ [])
+
+same-outcome : (a b : Outcome Row) → T (sameOutcome a b) → a ≡ b
+same-outcome (accepted r) (accepted s) t =
+    row (r .bytes) (s .bytes) (r .records) (s .records) (r .made) (s .made) (same-list (r .bytes ∷ r .records ∷ r .made) (s .bytes ∷ s .records ∷ s .made) t)
+  where
+    row : (u v n m : ℕ) (l k : List ℕ) → (u ∷ n ∷ l) ≡ (v ∷ m ∷ k) → done u n l ≡ done v m k
+    row u v n m l k e = cc
+same-outcome (accepted r) (refused m p) t = absurd t
+same-outcome (refused n o) (accepted s) t = absurd t
+same-outcome (refused n o) (refused m p) t =
+    let e : (n ∷ o ∷ []) ≡ (m ∷ p ∷ []) = same-list (n ∷ o ∷ []) (m ∷ p ∷ []) t in
+    cc
+
+-- ---- the test of an example, and what it tells
+
+abbrev levels : Rgb → List ℕ
+levels c = c .red ∷ c .green ∷ c .blue ∷ []
+
+same-colour : (c : Rgb) (red green blue : ℕ) → levels c ≡ (red ∷ green ∷ blue ∷ []) → c ≡ record { red = red; green = green; blue = blue }
+same-colour c red green blue e = go (c .red) (c .green) (c .blue) e
+  where
+    go : (r g b : ℕ) → (r ∷ g ∷ b ∷ []) ≡ (red ∷ green ∷ blue ∷ []) → _≡_ {A = Rgb} (record { red = r; green = g; blue = b }) (record { red = red; green = green; blue = blue })
+    go r g b f = cc
+
+unfoldable test : Example → Bool
+test (leastBody row body) = leb (length row) 128 && same (least row) body
+test (unpacked packed width outcome) = sameOutcome (unpackRow packed width width) outcome
+test (coloured word red green blue) = same (levels (wordColour word)) (red ∷ green ∷ blue ∷ [])
+test (firstRegister words v) = eqb (register (wordsBytes words) Low 0 0) v
+
+test-holds : (e : Example) → T (test e) → Holds e
+unfolding test
+test-holds (leastBody row body) t =
+    let h = both (leb (length row) 128) (same (least row) body) t in
+    (leastRecords row, subst (λ (b : List ℕ). IsLeast row b (leastRecords row)) (same-list (least row) body (h .1)) (least-is-least row (leb→le (length row) 128 (h .0))))
+test-holds (unpacked packed width outcome) t = same-outcome (unpackRow packed width width) outcome t
+test-holds (coloured word red green blue) t =
+    same-colour (wordColour word) red green blue (same-list (levels (wordColour word)) (red ∷ green ∷ blue ∷ []) t)
+test-holds (firstRegister words v) t = eqb→eq (register (wordsBytes words) Low 0 0) v t
+
+-- ---- the table
+
+unfoldable every : List Example → Bool
+every [] = true
+every (e ∷ es) = test e && every es
+
+at : (es : List Example) → T (every es) → (k : ℕ) → k < length es → (d : Example) → Holds (getD es k d)
+unfolding every
+at [] t k h d = absurd (not-suc-le-zero h)
+at (e ∷ es) t zero h d = test-holds e (both (test e) (every es) t .0)
+at (e ∷ es) t (suc k) h d = at es (both (test e) (every es) t .1) k (le-of-suc-le-suc h) d
+
+all : T (every table)
+unfolding every test scan packing.step unpackRow outcomeOf progress progressWithin unpacking.step recordAt control wordColour field level register wordsBytes wordBytes wordAt groupOffset wordOffset pixelBit sum flatten
+all = tt
+
+-- "The twelve marked P (bytes in hex) form a single table, proved once as a whole against the definitions."
+pub examples : (k : ℕ) → k < 12 → (d : Example) → Holds (getD table k d)
+examples = at table all

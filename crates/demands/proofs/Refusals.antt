@@ -1,0 +1,72 @@
+-- Demand 1: "Bad input gets the refusal number that document 01 gives for it, and then no byte of any lent area has changed." Which number
+-- it is, the contracts' definitions say; here, for each public operation, what any refusal leaves and gives. Assumes nothing.
+use mathlib.Core.Path.{_≡_, refl}
+use mathlib.Core.List.{List}
+use Prim.Native.Nat.{ℕ}
+use lib.ListN.{length}
+use Rattle.outcome.specs.Outcome.{Outcome, accepted, refused}
+use Rattle.packbits.specs.Row.{Row}
+use Rattle.packbits.specs.Unpack.{unpackRow}
+use Rattle.pack.specs.Pack.{packRow}
+use Rattle.lines.specs.Lines.{lineOut, lineIn}
+use Rattle.tally.specs.declared.Rectangle.{Rectangle}
+use Rattle.tally.specs.Counts.{tallied}
+use Rattle.colour.specs.Palette.{Rgb}
+use Rattle.colour.specs.Shown.{shown}
+use Rattle.pond.specs.declared.Legend.{Legend}
+use Rattle.pond.specs.Reading.{Pond, pondReading}
+use Rattle.reader.specs.Reading.{Reading, readFile}
+use Rattle.demands.specs.Refusals.{Kept, RowRefusal, TallyRefusal, ColourRefusal, PondRefusal, ReadRefusal}
+
+-- ---- any outcome
+
+kept : {A B : Type 0} (o : Outcome A) (gives : A → B) (area : B) → Kept o gives area
+kept (accepted a) gives area h = absurd (h refl)
+kept (refused number place) gives area h = refl
+
+row-refusal : (o : Outcome Row) (out : List ℕ) → RowRefusal o out
+row-refusal (accepted r) out h = absurd (h refl)
+row-refusal (refused number place) out h = (refl, refl, refl)
+
+tally-refusal : (o : Outcome (List ℕ)) → TallyRefusal o
+tally-refusal (accepted c) h = absurd (h refl)
+tally-refusal (refused number place) h = refl
+
+colour-refusal : (o : Outcome Rgb) → ColourRefusal o
+colour-refusal (accepted c) h = absurd (h refl)
+colour-refusal (refused number place) h = (refl, refl, refl)
+
+pond-refusal : (o : Outcome Pond) → PondRefusal o
+pond-refusal (accepted p) h = absurd (h refl)
+pond-refusal (refused number place) h = (refl, refl, refl)
+
+read-refusal : (o : Outcome Reading) (area : List ℕ) → ReadRefusal o area
+read-refusal (accepted q) area h = absurd (h refl)
+read-refusal (refused number place) area h = (refl, refl, refl, refl)
+
+-- ---- each public operation
+
+pub read-refused : (kind : ℕ) (file area : List ℕ) → ReadRefusal (readFile kind file (length area)) area
+read-refused kind file area = read-refusal (readFile kind file (length area)) area
+
+pub pack-refused : (row out : List ℕ) → RowRefusal (packRow row (length out)) out
+pack-refused row out = row-refusal (packRow row (length out)) out
+
+pub unpack-refused : (packed : List ℕ) (width : ℕ) (out : List ℕ) → RowRefusal (unpackRow packed width (length out)) out
+unpack-refused packed width out = row-refusal (unpackRow packed width (length out)) out
+
+-- line out may change its output, and line in its screen, in whichever way an accepted line does
+pub line-out-refused : (screen : List ℕ) (number y : ℕ) (out : List ℕ) (gives : List ℕ → List ℕ) → Kept (lineOut screen number y (length out)) gives out
+line-out-refused screen number y out gives = kept (lineOut screen number y (length out)) gives out
+
+pub line-in-refused : (screen : List ℕ) (number y : ℕ) (line : List ℕ) (gives : List ℕ → List ℕ) → Kept (lineIn screen number y line) gives screen
+line-in-refused screen number y line gives = kept (lineIn screen number y line) gives screen
+
+pub colour-refused : (number : ℕ) (palette : List ℕ) (register : ℕ) → ColourRefusal (shown number palette register)
+colour-refused number palette register = colour-refusal (shown number palette register)
+
+pub tally-refused : (screen : List ℕ) (number : ℕ) (a : Rectangle) → TallyRefusal (tallied screen number a)
+tally-refused screen number a = tally-refusal (tallied screen number a)
+
+pub pond-refused : (screen : List ℕ) (number : ℕ) (a : Rectangle) (class floor : ℕ) (l : Legend) → PondRefusal (pondReading screen number a class floor l)
+pond-refused screen number a class floor l = pond-refusal (pondReading screen number a class floor l)

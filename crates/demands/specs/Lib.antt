@@ -1,0 +1,4 @@
+pub mod Accepted
+pub mod Examples
+pub mod Refusals
+pub mod Screens
