@@ -1,6 +1,6 @@
 -- Demand 1: "Bad input gets the refusal number that document 01 gives for it, and then no byte of any lent area has changed." Which number
 -- it is, the contracts' definitions say; here, for each public operation, what any refusal leaves and gives. Assumes nothing.
-use mathlib.Core.Path.{_≡_, refl}
+use mathlib.Core.Path.{refl}
 use mathlib.Core.List.{List}
 use Prim.Native.Nat.{ℕ}
 use lib.ListN.{length}

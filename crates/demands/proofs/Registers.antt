@@ -1,22 +1,22 @@
 -- Demand 2: every register of every pixel, as the lent area holds it after an accepted reading. Assumes nothing.
-use mathlib.Core.Path.{_≡_, refl, sym, ap, _∙_}
+use mathlib.Core.Path.{_≡_, refl, ap, _∙_}
 use mathlib.Core.Logic.{inl, inr}
 use mathlib.Core.Bool.{Bool, true, false, true≢false, false≢true}
-use mathlib.Core.List.{List, []}
+use mathlib.Core.List.{List}
 use Prim.Native.Nat.{ℕ, _+_, _*_, _≤_, _<_}
 use native.Mathlib.Omega.{arith}
 use lib.ListN.{length, getD, take, drop, length-drop}
 use lib.Seq.{getD-take, length-take-le, drop-at}
 use Rattle.lists.specs.Over.{over}
 use Rattle.lists.proofs.Over.{getD-over-in}
-use Rattle.outcome.specs.Outcome.{Outcome, accepted}
+use Rattle.outcome.specs.Outcome.{Outcome}
 use Rattle.resolution.specs.declared.Resolution.{Resolution}
-use Rattle.resolution.specs.Shapes.{screenBytes, widthOf, heightOf, planesOf, planeRowsOf}
+use Rattle.resolution.specs.Shapes.{screenBytes, widthOf, heightOf, planesOf}
 use Rattle.screen.specs.Registers.{register}
 use Rattle.screen.specs.PlaneRows.{planeRow, planeRows}
 use Rattle.screen.proofs.PlaneRows.{rowsRegister, register-of-rows}
 use Rattle.reader.specs.Reading.{Reading, degasPacked, readFile, readArea}
-use Rattle.demands.specs.Accepted.{RawFits, PackedFits, DegasFits, AcceptsDegas, AcceptsNeo, Accepts, degasGiven, given}
+use Rattle.demands.specs.Accepted.{PackedFits, DegasFits, AcceptsDegas, AcceptsNeo, Accepts, degasGiven, given}
 use Rattle.demands.proofs.Screens.{planeRows-front, register-front}
 use Rattle.demands.proofs.Acceptance.{packed-unique, file-complete}
 

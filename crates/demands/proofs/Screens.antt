@@ -1,14 +1,11 @@
 -- Laws of a byte string that unpacks to a screen, and of screens that agree in their first 32,000 bytes. Assumes nothing.
-use mathlib.Core.Path.{_≡_, refl, sym, ap, _∙_, subst}
-use mathlib.Core.List.{List, [], _∷_, _++_}
-use Prim.Native.Nat.{ℕ, zero, suc, _+_, _*_, _≤_, _<_}
+use mathlib.Core.Path.{_≡_, sym, ap, _∙_, subst}
+use mathlib.Core.List.{List, _++_}
+use Prim.Native.Nat.{ℕ, zero, suc, _≤_, _<_}
 use native.Mathlib.Omega.{arith}
-use lib.ListN.{length, getD, take, drop}
-use lib.Seq.{getD-take}
+use lib.ListN.{length, getD, take}
 use Rattle.lists.specs.Bytes.{Bytes}
-use Rattle.lists.specs.Over.{over}
 use Rattle.lists.specs.Tabulate.{tabulate}
-use Rattle.lists.proofs.Over.{getD-over-in}
 use Rattle.lists.proofs.Tabulate.{tabulate-ext}
 use Rattle.outcome.specs.Outcome.{accepted}
 use Rattle.unpack_rows.specs.UnpackRows.{Rows, unpackRows}
@@ -16,10 +13,10 @@ use Rattle.unpack_rows.specs.UnpacksRows.{UnpacksRows, Wide}
 use Rattle.unpack_rows.proofs.UnpackRows.{wide-at}
 use Rattle.unpack_rows.proofs.Exact.{doneRows, complete-rows, exact-rows}
 use Rattle.resolution.specs.declared.Resolution.{Resolution}
-use Rattle.resolution.specs.Shapes.{screenBytes, widthOf, heightOf, planesOf, rowBytesOf, planeRowsOf}
+use Rattle.resolution.specs.Shapes.{screenBytes, widthOf, heightOf, rowBytesOf, planeRowsOf}
 use Rattle.screen.specs.Registers.{register}
 use Rattle.screen.specs.PlaneRows.{rowOffset, planeRow, planeRows, screenOf}
-use Rattle.screen.proofs.Places.{row-within, plane-row}
+use Rattle.screen.proofs.Places.{row-within}
 use Rattle.screen.proofs.PlaneRows.{length-planeRow, length-planeRows, rows-of-screen, registers-ext}
 use Rattle.demands.specs.Screens.{UnpacksScreen}
 

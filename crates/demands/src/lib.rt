@@ -1,1 +1,1 @@
-// What is promised, in the order of the user's demands: definitions (specs/) and theorems (proofs/). It has no function.
+// What is promised, as theorems: demand 1 in proofs/Refusals.antt, demand 2 in Acceptance and Registers, document 01's examples in Examples.

@@ -1,0 +1,224 @@
+//! One call at a time, made to the reference and to the library.
+//!
+//! Both get equal inputs and equally filled areas. The whole answers must agree,
+//! every byte of the lent areas and of the guard bytes around them must agree,
+//! and the library must leave its inputs as they were.
+
+use crate::operations::Operations;
+use crate::reference;
+use crate::report::Report;
+use crate::types::*;
+use std::fmt::Debug;
+
+const GUARD: usize = 64;
+const LONGEST_AREA: usize = 40_000;
+const PATTERN_SHIFTS: usize = 251;
+
+/// A lent area between guard bytes.
+#[derive(Default)]
+struct Area {
+    bytes: Vec<u8>,
+}
+
+impl Area {
+    /// Guards from the pattern's start and end, the content between them.
+    fn fill(&mut self, content: &[u8], pattern: &[u8]) {
+        self.bytes.clear();
+        self.bytes.extend_from_slice(&pattern[..GUARD]);
+        self.bytes.extend_from_slice(content);
+        self.bytes.extend_from_slice(&pattern[pattern.len() - GUARD..]);
+    }
+
+    fn lent(&mut self) -> &mut [u8] {
+        let end = self.bytes.len() - GUARD;
+        &mut self.bytes[GUARD..end]
+    }
+
+    /// The first offset at which two areas differ, negative before the area.
+    fn difference(&self, other: &Area) -> Option<isize> {
+        if self.bytes == other.bytes {
+            return None;
+        }
+        let at = self.bytes.iter().zip(&other.bytes).position(|(a, b)| a != b);
+        at.map(|index| index as isize - GUARD as isize)
+    }
+}
+
+/// Bytes without a short period, to fill areas with.
+fn pattern_bytes() -> Vec<u8> {
+    let mut random = crate::random::Random::seeded(0x5041_5454);
+    random.bytes(LONGEST_AREA + PATTERN_SHIFTS)
+}
+
+pub struct Comparison<'a> {
+    library: &'a dyn Operations,
+    report: &'a mut Report,
+    pattern: Vec<u8>,
+    calls: usize,
+    expected_area: Area,
+    actual_area: Area,
+    input: Vec<u8>,
+}
+
+impl<'a> Comparison<'a> {
+    pub fn new(library: &'a dyn Operations, report: &'a mut Report) -> Comparison<'a> {
+        Comparison {
+            library,
+            report,
+            pattern: pattern_bytes(),
+            calls: 0,
+            expected_area: Area::default(),
+            actual_area: Area::default(),
+            input: Vec::new(),
+        }
+    }
+
+    pub fn section(&mut self, name: &str) {
+        self.report.section(name);
+    }
+
+    pub fn check(&mut self, holds: bool, details: impl FnOnce() -> String) {
+        self.report.check(holds, details);
+    }
+
+    /// Fills both areas, from the pattern's next shift, and copies the input.
+    fn prepare(&mut self, input: &[u8], area_len: usize) {
+        self.calls += 1;
+        let shift = self.calls % PATTERN_SHIFTS;
+        self.input.clear();
+        self.input.extend_from_slice(input);
+        let content = &self.pattern[shift..shift + area_len];
+        self.expected_area.fill(content, &self.pattern);
+        self.actual_area.fill(content, &self.pattern);
+    }
+
+    /// Counts the comparison of two answers and of the areas behind them.
+    fn judge<A: PartialEq + Debug>(
+        &mut self,
+        expected: A,
+        actual: A,
+        input: &[u8],
+        call: impl FnOnce() -> String,
+    ) {
+        let input_kept = self.input == input;
+        let difference = self.expected_area.difference(&self.actual_area);
+        let holds = expected == actual && input_kept && difference.is_none();
+        self.report.check(holds, || {
+            let area = match difference {
+                Some(offset) => format!("; area differs from byte {offset}"),
+                None => String::new(),
+            };
+            let kept = if input_kept { "" } else { "; input was changed" };
+            format!("{}\n  expected {expected:?}\n  answered {actual:?}{area}{kept}", call())
+        });
+    }
+
+    pub fn unpack_row(&mut self, packed: &[u8], width: usize, out_len: usize) {
+        self.prepare(packed, out_len);
+        let expected = reference::unpack_row(packed, width, self.expected_area.lent());
+        let actual = self.library.unpack_row(&self.input, width, self.actual_area.lent());
+        self.judge(expected, actual, packed, || {
+            format!("packed {}, width {width}, output of {out_len}", shown(packed))
+        });
+    }
+
+    pub fn pack_row(&mut self, row: &[u8], out_len: usize) {
+        self.prepare(row, out_len);
+        let expected = reference::pack_row(row, self.expected_area.lent());
+        let actual = self.library.pack_row(&self.input, self.actual_area.lent());
+        self.judge(expected, actual, row, || format!("row {}, output of {out_len}", shown(row)));
+    }
+
+    pub fn line_out(&mut self, screen: &[u8], resolution: u16, line: usize, out_len: usize) {
+        self.prepare(screen, out_len);
+        let expected = reference::line_out(screen, resolution, line, self.expected_area.lent());
+        let actual = self.library.line_out(&self.input, resolution, line, self.actual_area.lent());
+        self.judge(expected, actual, screen, || {
+            let screen = shown(screen);
+            format!("screen {screen}, resolution {resolution}, line {line}, output of {out_len}")
+        });
+    }
+
+    /// The screen is the lent area here, and has the content given.
+    pub fn line_in(&mut self, screen: &[u8], resolution: u16, line: usize, registers: &[u8]) {
+        self.prepare(registers, 0);
+        self.expected_area.fill(screen, &self.pattern);
+        self.actual_area.fill(screen, &self.pattern);
+        let lent = self.expected_area.lent();
+        let expected = reference::line_in(lent, resolution, line, registers);
+        let lent = self.actual_area.lent();
+        let actual = self.library.line_in(lent, resolution, line, &self.input);
+        self.judge(expected, actual, registers, || {
+            let (length, registers) = (screen.len(), shown(registers));
+            format!(
+                "screen of {length}, resolution {resolution}, line {line}, registers {registers}"
+            )
+        });
+    }
+
+    pub fn tally(&mut self, screen: &[u8], resolution: u16, area: Rectangle) {
+        self.prepare(screen, 0);
+        let expected = reference::tally(screen, resolution, area);
+        let actual = self.library.tally(&self.input, resolution, area);
+        self.judge(expected, actual, screen, || {
+            format!("screen {}, resolution {resolution}, {area:?}", shown(screen))
+        });
+    }
+
+    pub fn colour(&mut self, resolution: u16, palette: Palette, register: u8) {
+        self.prepare(&[], 0);
+        let expected = reference::colour(resolution, palette, register);
+        let actual = self.library.colour(resolution, palette, register);
+        self.judge(expected, actual, &[], || {
+            format!("resolution {resolution}, register {register}, {palette:04X?}")
+        });
+    }
+
+    pub fn pond(
+        &mut self,
+        screen: &[u8],
+        resolution: u16,
+        area: Rectangle,
+        class: u8,
+        floor: u8,
+        legend: Legend,
+    ) {
+        self.prepare(screen, 0);
+        let expected = reference::pond(screen, resolution, area, class, floor, legend);
+        let actual = self.library.pond(&self.input, resolution, area, class, floor, legend);
+        self.judge(expected, actual, screen, || {
+            let screen = shown(screen);
+            format!(
+                "screen {screen}, resolution {resolution}, {area:?}, class {class}, \
+                 floor {floor}, {legend:?}"
+            )
+        });
+    }
+
+    pub fn read(&mut self, kind: u8, file: &[u8], area_len: usize) {
+        self.prepare(file, area_len);
+        let expected = reference::read(kind, file, self.expected_area.lent());
+        let actual = self.library.read(kind, &self.input, self.actual_area.lent());
+        self.judge(expected, actual, file, || {
+            format!("kind {kind}, file {}, area of {area_len}", shown(file))
+        });
+    }
+
+    pub fn write(&mut self, form: u8, picture: Picture, screen: &[u8], out_len: usize) {
+        self.prepare(screen, out_len);
+        let expected = reference::write(form, picture, screen, self.expected_area.lent());
+        let actual = self.library.write(form, picture, &self.input, self.actual_area.lent());
+        self.judge(expected, actual, screen, || {
+            let screen = shown(screen);
+            format!("form {form}, {picture:04X?}, screen {screen}, output of {out_len}")
+        });
+    }
+}
+
+/// A byte string's length and first bytes.
+fn shown(bytes: &[u8]) -> String {
+    const SHOWN: usize = 48;
+    let hex: Vec<String> = bytes.iter().take(SHOWN).map(|byte| format!("{byte:02X}")).collect();
+    let more = if bytes.len() > SHOWN { " ..." } else { "" };
+    format!("({} bytes) {}{more}", bytes.len(), hex.join(" "))
+}

@@ -1,0 +1,62 @@
+//! Compares the Kutimuq library with the reference.
+//!
+//! Usage: kutimuq-tests [--layout] [--seed N]
+//! With KUTIMUQ_SUMMARY set, the summary program it names is run as well.
+
+use kutimuq_tests::report::Report;
+use kutimuq_tests::{layout, program, selfcheck};
+use std::process::ExitCode;
+
+const DEFAULT_SEED: u64 = 1988;
+
+fn main() -> ExitCode {
+    let arguments: Vec<String> = std::env::args().skip(1).collect();
+    if arguments.iter().any(|argument| argument == "--layout") {
+        print!("{}", layout::table());
+        return ExitCode::SUCCESS;
+    }
+    let Some(seed) = seed_from(&arguments) else {
+        eprintln!("usage: kutimuq-tests [--layout] [--seed N]");
+        return ExitCode::from(2);
+    };
+    let mut report = Report::default();
+    println!("seed {seed}");
+    selfcheck::run(&mut report, seed);
+    check_library(&mut report, seed);
+    if let Ok(path) = std::env::var("KUTIMUQ_SUMMARY") {
+        program::run(&path, &mut report, seed);
+    }
+    if report.finish() {
+        ExitCode::SUCCESS
+    } else {
+        ExitCode::FAILURE
+    }
+}
+
+/// The seed named, or the default one; nothing if the arguments make no sense.
+fn seed_from(arguments: &[String]) -> Option<u64> {
+    match arguments {
+        [] => Some(DEFAULT_SEED),
+        [option, number] if option == "--seed" => number.parse().ok(),
+        _ => None,
+    }
+}
+
+#[cfg(not(no_library))]
+fn check_library(report: &mut Report, seed: u64) {
+    use kutimuq_tests::{cases, compare::Comparison, examples, ffi::Library, roundtrip};
+    examples::run(&Library, report);
+    roundtrip::run(&Library, report, seed + 1, 60);
+    cases::run_all(&mut Comparison::new(&Library, report), seed);
+}
+
+/// Without the library nothing is compared; only `standalone` accepts that.
+#[cfg(no_library)]
+fn check_library(report: &mut Report, _seed: u64) {
+    report.section("library");
+    if cfg!(feature = "standalone") {
+        println!("standalone: the library is left out, nothing was compared with it");
+    } else {
+        report.check(false, || "libcapi.a was not found when this was built".to_string());
+    }
+}

@@ -1,0 +1,78 @@
+//! The public operations, so that one check can run on any implementation.
+
+use crate::reference;
+use crate::types::*;
+
+pub trait Operations {
+    fn name(&self) -> &'static str;
+    fn unpack_row(&self, packed: &[u8], width: usize, out: &mut [u8]) -> RowAnswer;
+    fn pack_row(&self, row: &[u8], out: &mut [u8]) -> RowAnswer;
+    fn line_out(&self, screen: &[u8], resolution: u16, line: usize, out: &mut [u8]) -> Answer;
+    fn line_in(&self, screen: &mut [u8], resolution: u16, line: usize, registers: &[u8]) -> Answer;
+    fn tally(&self, screen: &[u8], resolution: u16, area: Rectangle) -> TallyAnswer;
+    fn colour(&self, resolution: u16, palette: Palette, register: u8) -> ColourAnswer;
+    fn pond(
+        &self,
+        screen: &[u8],
+        resolution: u16,
+        area: Rectangle,
+        class: u8,
+        floor: u8,
+        legend: Legend,
+    ) -> PondAnswer;
+    fn read(&self, kind: u8, file: &[u8], area: &mut [u8]) -> ReadAnswer;
+    fn write(&self, form: u8, picture: Picture, screen: &[u8], out: &mut [u8]) -> WriteAnswer;
+}
+
+/// The reference implementation.
+pub struct Reference;
+
+impl Operations for Reference {
+    fn name(&self) -> &'static str {
+        "reference"
+    }
+
+    fn unpack_row(&self, packed: &[u8], width: usize, out: &mut [u8]) -> RowAnswer {
+        reference::unpack_row(packed, width, out)
+    }
+
+    fn pack_row(&self, row: &[u8], out: &mut [u8]) -> RowAnswer {
+        reference::pack_row(row, out)
+    }
+
+    fn line_out(&self, screen: &[u8], resolution: u16, line: usize, out: &mut [u8]) -> Answer {
+        reference::line_out(screen, resolution, line, out)
+    }
+
+    fn line_in(&self, screen: &mut [u8], resolution: u16, line: usize, registers: &[u8]) -> Answer {
+        reference::line_in(screen, resolution, line, registers)
+    }
+
+    fn tally(&self, screen: &[u8], resolution: u16, area: Rectangle) -> TallyAnswer {
+        reference::tally(screen, resolution, area)
+    }
+
+    fn colour(&self, resolution: u16, palette: Palette, register: u8) -> ColourAnswer {
+        reference::colour(resolution, palette, register)
+    }
+
+    fn pond(
+        &self,
+        screen: &[u8],
+        resolution: u16,
+        area: Rectangle,
+        class: u8,
+        floor: u8,
+        legend: Legend,
+    ) -> PondAnswer {
+        reference::pond(screen, resolution, area, class, floor, legend)
+    }
+
+    fn read(&self, kind: u8, file: &[u8], area: &mut [u8]) -> ReadAnswer {
+        reference::read(kind, file, area)
+    }
+
+    fn write(&self, form: u8, picture: Picture, screen: &[u8], out: &mut [u8]) -> WriteAnswer {
+        reference::write(form, picture, screen, out)
+    }
+}

@@ -1,0 +1,57 @@
+//! Writing a picture and reading it back, within one implementation.
+
+use crate::generate::{picture, screen, RESOLUTIONS};
+use crate::operations::Operations;
+use crate::random::Random;
+use crate::reference::*;
+use crate::report::Report;
+use crate::types::*;
+
+pub fn run(operations: &dyn Operations, report: &mut Report, seed: u64, rounds: usize) {
+    report.section(&format!("write then read: {}", operations.name()));
+    let mut random = Random::seeded(seed);
+    for _ in 0..rounds {
+        for resolution in RESOLUTIONS {
+            let screen = screen(&mut random, resolution);
+            let picture = picture(&mut random, resolution);
+            for form in FORM_PLAIN..=FORM_NEO {
+                one_form(operations, report, form, picture, &screen);
+            }
+        }
+    }
+}
+
+/// The picture that reading finds in the file of a form.
+fn picture_read_back(form: u8, picture: Picture) -> Picture {
+    match form {
+        FORM_ELITE_RAW | FORM_ELITE_PACKED => Picture { tailed: true, ..picture },
+        _ => Picture { tailed: false, tail: Default::default(), ..picture },
+    }
+}
+
+fn one_form(
+    operations: &dyn Operations,
+    report: &mut Report,
+    form: u8,
+    picture: Picture,
+    screen: &[u8],
+) {
+    let mut out = vec![0; WRITE_AREA_BYTES];
+    let written = operations.write(form, picture, screen, &mut out);
+    if written.number == number::NO_PACKED_BODY && form == FORM_ELITE_PACKED {
+        report.check(written.length == 0, || format!("{written:?}"));
+        return;
+    }
+    let kind = if form == FORM_NEO { KIND_NEO } else { KIND_DEGAS };
+    let mut area = vec![0; SCREEN_BYTES];
+    let found = operations.read(kind, &out[..written.length], &mut area);
+    let expected = ReadAnswer {
+        picture: picture_read_back(form, picture),
+        body: written.body,
+        records: written.records,
+        ..ReadAnswer::default()
+    };
+    let lengths_fit = form != FORM_ELITE_PACKED || written.length == 66 + written.body;
+    let holds = written.number == 0 && found == expected && area == screen && lengths_fit;
+    report.check(holds, || format!("form {form}: {written:?}, then {found:?}, not {expected:?}"));
+}

@@ -1,0 +1,39 @@
+//! Checks that need no library: the reference against itself and the fast packer.
+
+use crate::generate::{row, screen, shape_of, RESOLUTIONS};
+use crate::random::Random;
+use crate::reference::{least_body, least_row_body, WIDEST_ROW};
+use crate::report::Report;
+use crate::{examples, fast, operations::Reference, roundtrip};
+
+pub fn run(report: &mut Report, seed: u64) {
+    examples::run(&Reference, report);
+    roundtrip::run(&Reference, report, seed, 30);
+    fast_packer(report, seed);
+}
+
+/// The fast packer writes the same bodies as the reference.
+fn fast_packer(report: &mut Report, seed: u64) {
+    report.section("fast packer: rows");
+    let mut random = Random::seeded(seed);
+    for _ in 0..20_000 {
+        let width = random.between(1, WIDEST_ROW);
+        let row = row(&mut random, width);
+        let mut out = [0; WIDEST_ROW + 1];
+        let (bytes, records) = fast::pack_row(&row, &mut out);
+        let expected = least_row_body(&row);
+        let holds = (&out[..bytes], records) == (expected.0.as_slice(), expected.1);
+        report.check(holds, || format!("row {row:02X?}"));
+    }
+    report.section("fast packer: screens");
+    for round in 0..90 {
+        let resolution = RESOLUTIONS[round % 3];
+        let screen = screen(&mut random, resolution);
+        let shape = shape_of(resolution);
+        let mut out = vec![0; 33_000];
+        let (bytes, records) = fast::pack_screen(&shape, &screen, &mut out);
+        let expected = least_body(&shape, &screen);
+        let holds = (&out[..bytes], records) == (expected.0.as_slice(), expected.1);
+        report.check(holds, || format!("screen {round}"));
+    }
+}

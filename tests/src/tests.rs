@@ -1,0 +1,193 @@
+//! The reference's own tests.
+
+use crate::compare::Comparison;
+use crate::operations::Reference;
+use crate::random::Random;
+use crate::reference::*;
+use crate::report::Report;
+use crate::types::*;
+use crate::{cases, examples, fast, generate, layout, roundtrip, selfcheck};
+
+fn assert_all_pass(run: impl FnOnce(&mut Report)) {
+    let mut report = Report::default();
+    run(&mut report);
+    assert!(report.finish());
+}
+
+#[test]
+fn examples_of_document_01() {
+    assert_all_pass(|report| examples::run(&Reference, report));
+}
+
+#[test]
+fn write_then_read() {
+    assert_all_pass(|report| roundtrip::run(&Reference, report, 7, 4));
+}
+
+#[test]
+fn fast_packer_and_self_checks() {
+    assert_all_pass(|report| selfcheck::run(report, 8));
+}
+
+/// Collects every byte string without do-nothing records that unpacks to `row`,
+/// each after what `body` holds already.
+fn every_body(row: &[u8], body: &mut Vec<u8>, found: &mut Vec<Vec<u8>>) {
+    if row.is_empty() {
+        found.push(body.clone());
+        return;
+    }
+    for length in 1..=row.len() {
+        let before = body.len();
+        body.push((length - 1) as u8);
+        body.extend_from_slice(&row[..length]);
+        every_body(&row[length..], body, found);
+        body.truncate(before);
+        if length >= 2 && row[..length].iter().all(|byte| *byte == row[0]) {
+            body.extend([(257 - length) as u8, row[0]]);
+            every_body(&row[length..], body, found);
+            body.truncate(before);
+        }
+    }
+}
+
+#[test]
+fn least_row_body_is_the_first_of_all_bodies() {
+    for width in 1..=9_u32 {
+        for code in 0..1 << width {
+            let row: Vec<u8> = (0..width).map(|bit| (code >> bit & 1) as u8).collect();
+            let mut found = Vec::new();
+            every_body(&row, &mut Vec::new(), &mut found);
+            let first = found.into_iter().min_by_key(|body| (body.len(), body.clone()));
+            assert_eq!(Some(least_row_body(&row).0), first, "row {row:?}");
+        }
+    }
+}
+
+#[test]
+fn least_row_body_unpacks_with_its_records() {
+    let mut random = Random::seeded(3);
+    for _ in 0..3000 {
+        let width = random.between(1, 128);
+        let row = generate::row(&mut random, width);
+        let (body, records) = least_row_body(&row);
+        let mut out = vec![0; width];
+        let answer = unpack_row(&body, width, &mut out);
+        let expected = RowAnswer { bytes: body.len(), records, ..RowAnswer::default() };
+        assert_eq!((answer, &out), (expected, &row));
+        assert!(body.len() <= width + 1);
+        let mut fast_out = [0; 129];
+        assert_eq!(fast::pack_row(&row, &mut fast_out), (body.len(), records));
+        assert_eq!(&fast_out[..body.len()], body);
+    }
+}
+
+#[test]
+fn line_in_then_line_out() {
+    let mut random = Random::seeded(4);
+    for resolution in generate::RESOLUTIONS {
+        let shape = generate::shape_of(resolution);
+        let before = random.bytes(SCREEN_BYTES);
+        for line in 0..shape.height {
+            let mut screen = before.clone();
+            let registers: Vec<u8> =
+                (0..shape.width).map(|_| random.below(shape.registers()) as u8).collect();
+            assert_eq!(line_in(&mut screen, resolution, line, &registers), Answer::default());
+            let mut out = vec![0; shape.width];
+            assert_eq!(line_out(&screen, resolution, line, &mut out), Answer::default());
+            assert_eq!(out, registers);
+            let start = line * shape.line_bytes();
+            let end = start + shape.line_bytes();
+            assert_eq!(screen[..start], before[..start]);
+            assert_eq!(screen[end..], before[end..]);
+        }
+    }
+}
+
+#[test]
+fn bodies_have_the_length_asked_for() {
+    let mut random = Random::seeded(5);
+    for resolution in generate::RESOLUTIONS {
+        let shape = generate::shape_of(resolution);
+        for body in (31_985..=32_005).chain([31_900, 32_400]) {
+            let screen = generate::screen_with_body(&mut random, resolution, body);
+            assert_eq!(least_body(&shape, &screen).0.len(), body);
+            let order = generate::DearRows::Mixed;
+            let screen = generate::screen_of_dear_rows(&mut random, resolution, body, order);
+            assert_eq!(least_body(&shape, &screen).0.len(), body);
+        }
+        for body in [31_999, 32_000] {
+            let file = generate::padded_file(&mut random, resolution, body);
+            assert_eq!(file.len(), 66 + body);
+            let answer = read(KIND_DEGAS, &file, &mut vec![0; SCREEN_BYTES]);
+            assert_eq!(answer.number, if body < 32_000 { 0 } else { number::FILE_LENGTH });
+        }
+    }
+}
+
+#[test]
+fn even_files_read() {
+    for resolution in generate::RESOLUTIONS {
+        let mut area = vec![0; SCREEN_BYTES];
+        let answer = read(KIND_DEGAS, &generate::even_file(resolution, 9), &mut area);
+        assert_eq!((answer.number, answer.picture.resolution), (0, resolution));
+        assert!(area.iter().all(|byte| *byte == 9));
+    }
+}
+
+#[test]
+fn judging_order_of_reading() {
+    let mut area = vec![0; SCREEN_BYTES];
+    let number_of = |kind, file: &[u8], area: &mut [u8]| read(kind, file, area).number;
+    assert_eq!(number_of(9, &[], &mut area[..31_999]), 1);
+    assert_eq!(number_of(9, &[], &mut area), 2);
+    assert_eq!(number_of(KIND_DEGAS, &[0xFF; 33], &mut area), 3);
+    assert_eq!(number_of(KIND_DEGAS, &[0xFF; 34], &mut area), 5);
+    assert_eq!(number_of(KIND_DEGAS, &[0xFF; 40_000], &mut area), 5);
+    assert_eq!(number_of(KIND_DEGAS, &[0x00; 34], &mut area), 3);
+    assert_eq!(number_of(KIND_DEGAS, &[0xFE; 32_066], &mut area), 3);
+    assert_eq!(number_of(KIND_NEO, &[0xFF; 32_127], &mut area), 3);
+    assert_eq!(number_of(KIND_NEO, &[0xFF; 32_128], &mut area), 4);
+    let mut neo = vec![0; 32_128];
+    neo[3] = 3;
+    assert_eq!(number_of(KIND_NEO, &neo, &mut area), 5);
+    assert!(area.iter().all(|byte| *byte == 0));
+}
+
+#[test]
+fn rectangles_add_up_as_whole_numbers() {
+    let screen = vec![0; SCREEN_BYTES];
+    let number_of = |left, columns| {
+        let area = Rectangle { left, top: 0, columns, lines: 1 };
+        tally(&screen, 0, area).number
+    };
+    assert_eq!(number_of(usize::MAX, 1), 10);
+    assert_eq!(number_of(1, usize::MAX), 10);
+    assert_eq!(number_of(320, 0), 0);
+    assert_eq!(number_of(321, 0), 10);
+}
+
+#[test]
+fn neo_header_as_written() {
+    let picture = Picture { resolution: 2, palette: [0x1234; 16], ..Picture::default() };
+    let mut out = vec![0xEE; WRITE_AREA_BYTES];
+    let answer = write(FORM_NEO, picture, &[0x77; SCREEN_BYTES], &mut out);
+    assert_eq!(answer, WriteAnswer { length: 32_128, ..WriteAnswer::default() });
+    assert_eq!(out[..6], [0, 0, 0, 2, 0x12, 0x34]);
+    assert_eq!(&out[36..48], b"        .   ");
+    assert_eq!(out[48..58], [0; 10]);
+    assert_eq!(out[58..62], [1, 64, 0, 200]);
+    assert_eq!(out[62..128], [0; 66]);
+    assert!(out[128..].iter().all(|byte| *byte == 0x77));
+}
+
+#[test]
+fn layout_names_every_struct() {
+    let table = layout::table();
+    assert_eq!(table.lines().filter(|line| line.contains(" size ")).count(), 12);
+}
+
+/// The comparison itself, with the reference in the library's place.
+#[test]
+fn comparison_accepts_the_reference() {
+    assert_all_pass(|report| cases::run_all(&mut Comparison::new(&Reference, report), 6));
+}
