@@ -63,7 +63,8 @@ counted-none c f e =
     ∙ tabulate-ext 16 _ _ (λ v h. sym (add-zero (getD c v 0)))
 
 -- a turn of the loop that counts
-pub counted-turn : (c out : List ℕ) (f : ℕ → ℕ) (n k : ℕ) → out ≡ counted c f n → k ≡ f n → k < 16 → set out k (getD out k 0 + 1) ≡ counted c f (n + 1)
+pub counted-turn : (c out : List ℕ) (f : ℕ → ℕ) (n k : ℕ) → out ≡ counted c f n → k ≡ f n → k < 16
+    → set out k (getD out k 0 + 1) ≡ counted c f (n + 1)
 unfolding counted sum
 counted-turn c out f n k is e h =
     let g : ℕ → ℕ = λ v. getD c v 0 + sum n (λ i. isRegister v (f i)) in

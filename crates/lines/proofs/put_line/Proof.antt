@@ -19,7 +19,8 @@ use Rattle.lines.proofs.put_line.Tie as tie
 
 abbrev Inv-loop : tie.InvT-loop
 Inv-loop screen₀ r line registers size start i₀ screen i =
-    (screenBytes ≤ length screen₀) × (size ≡ lineBytesOf r) × (start ≡ line * lineBytesOf r) × (start + size ≤ screenBytes) × (widthOf r ≤ length registers) × (size ≤ 160)
+    (screenBytes ≤ length screen₀) × (size ≡ lineBytesOf r) × (start ≡ line * lineBytesOf r)
+    × (start + size ≤ screenBytes) × (widthOf r ≤ length registers) × (size ≤ 160)
     × (i ≤ size) × (length screen ≡ length screen₀) × (screen ≡ overAt (line * lineBytesOf r) (take i (lineBytes r registers)) screen₀)
 
 abbrev μ-loop : tie.MeasureT-loop

@@ -43,7 +43,13 @@ returns-3 c =
     let t = c .before .before .before .before .before .before .tally in
     let d = pond-determined (now (a .screen)) (a .resolution) (a .area) (a .class) (a .floor) (a .legend) in
     let f = c .before .before .confidences-fit in
-    rw (d, ← t .ensures, eq-eqb _ _ (c .before .before .before .before .if1 .left), le-ltb _ _ (c .before .before .before .if2 .left), sym (f .ensures) ∙ not-true (f .result) (c .before .if3 .taken))
+    rw (
+      d,
+      ← t .ensures,
+      eq-eqb _ _ (c .before .before .before .before .if1 .left),
+      le-ltb _ _ (c .before .before .before .if2 .left),
+      sym (f .ensures) ∙ not-true (f .result) (c .before .if3 .taken),
+    )
     (c .refused-pond3 .ensures)
 
 pond-counts-requires : tie.Need-pond-counts-requires
@@ -57,7 +63,14 @@ returns-4 c =
     let t = c .before .before .before .before .before .before .before .tally in
     let d = pond-determined (now (a .screen)) (a .resolution) (a .area) (a .class) (a .floor) (a .legend) in
     let f = c .before .before .before .confidences-fit in
-    rw (d, ← t .ensures, eq-eqb _ _ (c .before .before .before .before .before .if1 .left), le-ltb _ _ (c .before .before .before .before .if2 .left), sym (f .ensures) ∙ not-false (f .result) (c .before .before .if3 .left), ← c .pond-counts .ensures)
+    rw (
+      d,
+      ← t .ensures,
+      eq-eqb _ _ (c .before .before .before .before .before .if1 .left),
+      le-ltb _ _ (c .before .before .before .before .if2 .left),
+      sym (f .ensures) ∙ not-false (f .result) (c .before .before .if3 .left),
+      ← c .pond-counts .ensures,
+    )
 
 pub read-pond-spec : {M : Type 1} → statement M
 read-pond-spec =

@@ -13,7 +13,8 @@ use Rattle.tally.proofs.count_pixels.Tie as tie
 
 abbrev Inv-loop : tie.InvT-loop
 Inv-loop counts₀ bytes x n i₀ counts i =
-    ((v : ℕ) → getD counts₀ v 0 ≤ 300000) × (x < 640) × (n ≤ 8) × (i ≤ n) × (length counts ≡ 16) × (counts ≡ counted counts₀ (λ i. columnRegister bytes (x + i)) i)
+    ((v : ℕ) → getD counts₀ v 0 ≤ 300000) × (x < 640) × (n ≤ 8) × (i ≤ n)
+    × (length counts ≡ 16) × (counts ≡ counted counts₀ (λ i. columnRegister bytes (x + i)) i)
 
 abbrev μ-loop : tie.MeasureT-loop
 μ-loop counts₀ bytes x n i₀ counts i = n - i
