@@ -136,20 +136,21 @@ module _ (s : List ℕ) (r : Resolution) (out₀ out : List ℕ) (n end records 
   row-fits = piece-fits (least (planeRow s r n)) (leastRows (drop (n + 1) (planeRows s r))) fits row-writing
 
   -- and is given back with that body over its front
-  pub row-written : (last : List ℕ) → last ≡ over (least (planeRow s r n)) (take (length out - end) (drop end out))
-      → RowsWritten s r out₀ (putMid end (length out - end) out last) (n + 1) (end + length (least (planeRow s r n))) (records + leastRecords (planeRow s r n))
-  row-written last e =
+  pub row-written : (last : List ℕ) (bytes more : ℕ) → bytes ≡ length (least (planeRow s r n)) → more ≡ leastRecords (planeRow s r n)
+      → last ≡ over (least (planeRow s r n)) (take (length out - end) (drop end out))
+      → RowsWritten s r out₀ (putMid end (length out - end) out last) (n + 1) (end + bytes) (records + more)
+  row-written last bytes more b m e =
       record {
         bound = omega (arith, w .bound, row-bound s r n);
         few = omega (arith, w .few, row-records s r n);
         counted = omega (arith, w .counted, records-next s r n h);
-        writing = writing-more (least (planeRow s r n)) (leastRows (drop (n + 1) (planeRows s r))) fits row-writing last e;
+        writing = rw b (writing-more (least (planeRow s r n)) (leastRows (drop (n + 1) (planeRows s r))) fits row-writing last e);
       }
 
 pub rows-end : (s : List ℕ) (r : Resolution) (out₀ out : List ℕ) (n end records : ℕ) → planeRowsOf r ≤ n → RowsWritten s r out₀ out n end records
     → (records ≡ leastRowsRecords (planeRows s r)) × (out ≡ over (leastRows (planeRows s r)) out₀)
 rows-end s r out₀ out n end records h w =
-    let past : length (planeRows s r) ≤ n = omega (arith, length-planeRows s r) in (
+    let past = none-left s r n h in (
       omega (arith, w .counted, leastRowsRecords-past (planeRows s r) n past),
       writing-end (subst (λ (rest : List ℕ). Writing (leastRows (planeRows s r)) rest out₀ out end) (leastRows-past (planeRows s r) n past) (w .writing)) .all,
     )

@@ -31,6 +31,9 @@ pub const NEOCHROME: u8 = 4;
 // The least output: the longest file of any form.
 pub const FILE_BYTES: usize = 32128;
 
+// A packed body is shorter than this.
+const BODY_LIMIT: usize = 32000;
+
 // The answer of a writing: the file's length, the packed body's length and its records. A refusal has its number, place 0, and 0 in
 // all else.
 #[repr(C)]
@@ -102,7 +105,7 @@ fn write_packed(r: Resolution, picture: Picture, screen: &[u8], out: &mut [u8]) 
     ensures { λ _. ⌜ now (out .exit) ≡ writeOutput (writePacked r picture (now (screen .entry))) (now (out .entry)) ⌝ }
 {
     let body = body::body_len(screen, r);
-    if SCREEN_BYTES <= body {
+    if BODY_LIMIT <= body {
         return refused(NO_PACKED_BODY);
     }
     let end = 34 + body;

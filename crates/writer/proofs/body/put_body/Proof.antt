@@ -71,8 +71,8 @@ loop-again c =
     let more : l .n < planeRowsOf (s .args .r) = omega (arith, l .inv .0, p .before .before .loop-test .taken) in (
       l .inv .0,
       omega (arith, more, planeRows-le (s .args .r)),
-      rw (p .put-row .ensures .0 .0, p .put-row .ensures .0 .1)
-          (row-written (now (s .args .screen)) (s .args .r) (now (s .args .out)) (l .out) (l .n) (l .end) (l .records) (s .pre .1) (l .inv .2) more _ (p .put-row .ensures .1)),
+      row-written (now (s .args .screen)) (s .args .r) (now (s .args .out)) (l .out) (l .n) (l .end) (l .records) (s .pre .1) (l .inv .2) more
+          _ _ _ (p .put-row .ensures .0 .0) (p .put-row .ensures .0 .1) (p .put-row .ensures .1),
     )
 
 same-length : tie.Need-same-length Inv-loop μ-loop

@@ -1,6 +1,7 @@
 -- `writer::parts::put_neo_middle` meets its contract: the name, and after it the rest. Assumes nothing.
 use mathlib.Core.Path.{refl}
-use mathlib.Core.List.{_∷_, _++_}
+use mathlib.Core.List.{List, _∷_, _++_}
+use Prim.Native.Nat.{ℕ}
 use denote.Ref.{now}
 use lib.ListN.{replicate}
 use Rattle.words.specs.Word.{wordBytes}
@@ -49,7 +50,9 @@ returns : tie.Need-returns
 unfolding wordBytes
 returns c =
     let a = c .before .before .before .before .before .before .before .before .before .before .before .args in
-    over-append (now (a .out)) (replicate 8 32 ++ (46 ∷ replicate 3 32)) (replicate 10 0 ++ wordBytes 320 ++ wordBytes 200 ++ replicate 66 0) _ _ 12 (c .before .before .before .before .before .before .before .copy .ensures .1) refl (c .before .before .copy2 .ensures .1)
+    let name : List ℕ = replicate 8 32 ++ (46 ∷ replicate 3 32) in
+    let rest : List ℕ = replicate 10 0 ++ wordBytes 320 ++ wordBytes 200 ++ replicate 66 0 in
+    over-append (now (a .out)) name rest _ _ 12 (c .before .before .before .before .before .before .before .copy .ensures .1) refl (c .before .before .copy2 .ensures .1)
 
 pub put-neo-middle-spec : {M : Type 1} → statement M
 put-neo-middle-spec =
