@@ -1,0 +1,3 @@
+pub mod LeastBodies
+pub mod Pictures
+pub mod Screens
