@@ -1,3 +1,5 @@
 pub mod Files
 pub mod LeastBodies
+pub mod RoundTrips
 pub mod Screens
+pub mod Words

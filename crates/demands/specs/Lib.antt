@@ -1,3 +1,4 @@
 pub mod LeastBodies
 pub mod Pictures
+pub mod RoundTrips
 pub mod Screens
