@@ -1,5 +1,9 @@
 pub mod Acceptance
 pub mod Examples
+pub mod Files
+pub mod LeastBodies
 pub mod Refusals
 pub mod Registers
+pub mod RoundTrips
 pub mod Screens
+pub mod Words
