@@ -1,0 +1,54 @@
+-- `report::text::put_decimal` meets its contract: the kit's digits are those of `decimal`. Assumes nothing.
+use mathlib.Core.Path.{_≡_, ap, _∙_}
+use mathlib.Core.List.{List, _++_}
+use Prim.Native.Nat.{ℕ, _≤_}
+use native.Mathlib.Omega.{arith}
+use lib.ListN.{length, take, drop}
+use lib.Seq.{take-length}
+use Rattle.lists.specs.Over.{over}
+use Rattle.report.specs.Decimal.{decimal}
+use Rattle.report.proofs.Decimal.{fewest-le, digits-decimal, length-decimal}
+use borrow.Author.Needs.{needs}
+use Rattle.report.proofs.text.put_decimal.Statement.{statement}
+use Rattle.report.proofs.text.put_decimal.Tie as tie
+
+-- the digits that are copied
+digits-here : (d : tie.After-decimal) → take (d .decimal .result) (d .decimal .last .1 .0) ≡ decimal (d .before .before .before .args .n)
+digits-here d =
+    let start = d .before .before .before in
+    let few = fewest-le (d .decimal .result) (start .args .n) (omega arith) (d .decimal .ensures .1 .0) in
+    d .decimal .ensures .1 .1 ∙ digits-decimal (d .decimal .result) _ few (d .decimal .ensures .1 .0)
+
+decimal-requires : tie.Need-decimal-requires
+decimal-requires c κs = search needs
+
+array-share-prefix-digits : tie.Need-array-share-prefix-digits
+array-share-prefix-digits c = search needs
+
+slice-aggregate-copy : tie.Need-slice-aggregate-copy
+slice-aggregate-copy c = search needs
+
+copy-requires : tie.Need-copy-requires
+copy-requires c κs =
+    let d = c .before .before in
+    omega (arith, ap length (digits-here d), length-decimal (d .before .before .before .args .n))
+
+same-length : tie.Need-same-length
+same-length c = search needs
+
+returns : tie.Need-returns
+returns c =
+    let y = c .before .before in
+    let d = y .before .before .before in
+    let a = d .before .before .before .args in
+    let part : List ℕ = take (d .decimal .result) (d .decimal .last .1 .0) in
+    let few : y .copy .result ≤ 20 = omega (arith, y .copy .ensures .0, ap length (digits-here d), length-decimal (a .n)) in
+    (
+      (y .copy .ensures .0 ∙ ap length (digits-here d), few),
+      y .copy .ensures .1
+      ∙ ap (λ (l : List ℕ). l ++ drop (length part) (a .out .now)) (take-length part)
+      ∙ ap (λ (l : List ℕ). over l (a .out .now)) (digits-here d),
+    )
+
+pub put-decimal-spec : {M : Type 1} → statement M
+put-decimal-spec = tie.close (tie.spec decimal-requires array-share-prefix-digits slice-aggregate-copy copy-requires same-length returns)
