@@ -1,1 +1,256 @@
-// A scan line of registers taken from a screen or put into it. Definitions: specs/Lines.antt.
+// A scan line of registers taken from a screen or put into it. Definitions: specs/.
+ghost use mathlib.Core.Path.{_≡_};
+ghost use Prim.Native.Nat.{_+_, _*_, _/_, _%_, _<_, _≤_};
+ghost use mathlib.Core.Bool.{cond};
+ghost use lib.ListN.{length, getD};
+ghost use Rattle.lists.specs.Over.{over, overAt};
+ghost use Rattle.lists.specs.Tabulate.{tabulate};
+ghost use Rattle.outcome.specs.Outcome.{answer, later};
+ghost use Rattle.words.specs.Word.{wordBytes};
+ghost use Rattle.resolution.specs.Shapes.{widthOf, heightOf, planesOf, lineBytesOf, screenBytes};
+ghost use Rattle.screen.specs.Registers.{scanLine, wordOf, withLine};
+ghost use Rattle.lines.specs.Columns.{columnOffset, planeBytes, columnBytes, columnRegister, planeByte};
+ghost use Rattle.lines.specs.Lines.{allBelow, lineOutAt, lineInAt, lineOut, lineIn};
+use outcome::AREA_TOO_SHORT;
+use outcome::Answer;
+use outcome::OUT_OF_RANGE;
+use outcome::UNKNOWN_RESOLUTION;
+use resolution::Chosen;
+use resolution::Resolution;
+use resolution::SCREEN_BYTES;
+use words::byte_at;
+
+// The bytes that hold eight pixels, one for each plane; 0 for a plane that is not there.
+pub struct PlaneBytes {
+    pub first: u8,
+    pub second: u8,
+    pub third: u8,
+    pub fourth: u8,
+}
+
+// The byte of a plane, or 0 where the plane is not there.
+fn present_byte(screen: &[u8], at: usize, present: bool) -> u8
+    ensures { λ v. ⌜ v ≡ cond present (getD (now (screen .entry)) at 0) 0 ⌝ }
+{
+    if present { byte_at(screen, at) } else { 0 }
+}
+
+// The bytes of a column of eight pixels, plane 0's at offset at.
+fn plane_bytes(screen: &[u8], at: usize, planes: usize) -> PlaneBytes
+    requires { ⌜ at < 100000000 ⌝ }
+    ensures { λ b. ⌜ b ≡ planeBytes (now (screen .entry)) at planes ⌝ }
+{
+    PlaneBytes {
+        first: byte_at(screen, at),
+        second: present_byte(screen, at + 2, 1 < planes),
+        third: present_byte(screen, at + 4, 2 < planes),
+        fourth: present_byte(screen, at + 6, 3 < planes),
+    }
+}
+
+// Where plane 0's byte of column h in a scan line stands.
+fn column_offset(r: Resolution, line: usize, h: usize) -> usize
+    requires { ⌜ (line < 65536) × (h < 65536) ⌝ }
+    ensures { λ v. ⌜ (v ≡ columnOffset r line h) × (v < 100000000) ⌝ }
+{
+    line * r.line_bytes() + h / 2 * (r.planes() * 2) + h % 2
+}
+
+// The bytes of column h of scan line y: they hold its pixels h * 8 to h * 8 + 7. A screen byte past the end counts as 0.
+pub fn column(screen: &[u8], r: Resolution, h: u16, y: u16) -> PlaneBytes
+    ensures { λ b. ⌜ b ≡ columnBytes (now (screen .entry)) r h y ⌝ }
+{
+    let at = column_offset(r, y as usize, h as usize);
+    plane_bytes(screen, at, r.planes())
+}
+
+// The register of pixel x of a scan line, from the bytes of its column: plane p adds 2^p.
+pub fn column_register(b: PlaneBytes, x: usize) -> u8
+    ensures { λ v. ⌜ (v ≡ columnRegister b x) × (v < 16) ⌝ }
+{
+    let shift = 7 - x % 8;
+    (b.first >> shift) % 2
+        + (b.second >> shift) % 2 * 2
+        + (b.third >> shift) % 2 * 4
+        + (b.fourth >> shift) % 2 * 8
+}
+
+// The registers of the eight pixels of a scan line from column x on into out, from offset x on.
+fn copy_column(bytes: PlaneBytes, out: &mut [u8], x: usize)
+    requires { ⌜ x + 8 ≤ length (now out) ⌝ }
+    ensures { λ _. ⌜ now (out .exit) ≡ overAt x (tabulate 8 (λ k. columnRegister bytes (x + k))) (now (out .entry)) ⌝ }
+{
+    let mut k: usize = 0;
+    while k < 8 {
+        out[x + k] = column_register(bytes, x + k);
+        k += 1;
+    }
+}
+
+// The registers of a scan line, from the left, into out.
+fn copy_line(screen: &[u8], r: Resolution, line: usize, out: &mut [u8])
+    requires { ⌜ (line < heightOf r) × (widthOf r ≤ length (now out)) ⌝ }
+    ensures { λ _. ⌜ now (out .exit) ≡ over (scanLine (now (screen .entry)) r line) (now (out .entry)) ⌝ }
+{
+    let columns = r.row_bytes();
+    let mut h: usize = 0;
+    while h < columns {
+        let bytes = column(screen, r, h as u16, line as u16);
+        copy_column(bytes, out, h * 8);
+        h += 1;
+    }
+}
+
+// Line out at a resolution.
+fn line_out_at(screen: &[u8], r: Resolution, line: usize, out: &mut [u8]) -> Answer
+    ensures { λ a. ⌜ a ≡ answer (lineOutAt (now (screen .entry)) r line (length (now (out .entry)))) ⌝ }
+    ensures { λ _. ⌜ now (out .exit) ≡ later (lineOutAt (now (screen .entry)) r line (length (now (out .entry)))) (λ l. over l (now (out .entry))) (now (out .entry)) ⌝ }
+{
+    if r.height() <= line {
+        return Answer {
+            number: OUT_OF_RANGE,
+            place: 0,
+        };
+    }
+    if out.len() < r.width() {
+        return Answer {
+            number: AREA_TOO_SHORT,
+            place: 0,
+        };
+    }
+    copy_line(screen, r, line, out);
+    Answer {
+        number: 0,
+        place: 0,
+    }
+}
+
+// Line out: the registers of a scan line into out, one byte a pixel.
+pub fn line_out(screen: &[u8], resolution: u16, line: usize, out: &mut [u8]) -> Answer
+    ensures { λ a. ⌜ a ≡ answer (lineOut (now (screen .entry)) resolution line (length (now (out .entry)))) ⌝ }
+    ensures { λ _. ⌜ now (out .exit) ≡ later (lineOut (now (screen .entry)) resolution line (length (now (out .entry)))) (λ l. over l (now (out .entry))) (now (out .entry)) ⌝ }
+{
+    if screen.len() < SCREEN_BYTES {
+        return Answer {
+            number: AREA_TOO_SHORT,
+            place: 0,
+        };
+    }
+    match Resolution::from_number(resolution) {
+        Chosen::Known(r) => line_out_at(screen, r, line, out),
+        Chosen::Unknown => Answer {
+            number: UNKNOWN_RESOLUTION,
+            place: 0,
+        },
+    }
+}
+
+// Whether each of the first n registers is below limit.
+fn all_below(registers: &[u8], n: usize, limit: u8) -> bool
+    requires { ⌜ n ≤ length (now registers) ⌝ }
+    ensures { λ v. ⌜ v ≡ allBelow n limit (now (registers .entry)) ⌝ }
+{
+    let mut fit = true;
+    let mut i: usize = 0;
+    while i < n {
+        if registers[i] >= limit {
+            fit = false;
+        }
+        i += 1;
+    }
+    fit
+}
+
+// Plane p's byte of the eight registers from at on.
+fn plane_byte(registers: &[u8], at: usize, p: usize) -> u8
+    requires { ⌜ (at + 8 ≤ length (now registers)) × (p < 8) ⌝ }
+    ensures { λ v. ⌜ v ≡ planeByte (now (registers .entry)) at p ⌝ }
+{
+    let mut byte: u8 = 0;
+    let mut k: usize = 0;
+    while k < 8 {
+        byte = byte * 2 + (registers[at + k] >> p) % 2;
+        k += 1;
+    }
+    byte
+}
+
+// Byte i of the scan line that the registers make.
+fn line_byte(registers: &[u8], r: Resolution, i: usize) -> u8
+    requires { ⌜ (i < 160) × (i < lineBytesOf r) × (widthOf r ≤ length (now registers)) ⌝ }
+    ensures { λ v. ⌜ v ≡ getD (wordBytes (wordOf (now (registers .entry)) (i / 2 / planesOf r) (i / 2 % planesOf r))) (i % 2) 0 ⌝ }
+{
+    let word = i / 2;
+    let half = i % 2 * 8;
+    match r {
+        Resolution::Low => plane_byte(registers, word / 4 * 16 + half, word % 4),
+        Resolution::Medium => plane_byte(registers, word / 2 * 16 + half, word % 2),
+        Resolution::High => plane_byte(registers, word * 16 + half, 0),
+    }
+}
+
+// The scan line that the registers make, into the screen.
+fn put_line(screen: &mut [u8], r: Resolution, line: usize, registers: &[u8])
+    requires { ⌜ (screenBytes ≤ length (now screen)) × (line < heightOf r) × (widthOf r ≤ length (now registers)) ⌝ }
+    ensures { λ _. ⌜ now (screen .exit) ≡ withLine (now (screen .entry)) r line (now (registers .entry)) ⌝ }
+{
+    let size = r.line_bytes();
+    let start = line * size;
+    let mut i: usize = 0;
+    while i < size {
+        screen[start + i] = line_byte(registers, r, i);
+        i += 1;
+    }
+}
+
+// Line in at a resolution.
+fn line_in_at(screen: &mut [u8], r: Resolution, line: usize, registers: &[u8]) -> Answer
+    requires { ⌜ screenBytes ≤ length (now screen) ⌝ }
+    ensures { λ a. ⌜ a ≡ answer (lineInAt (now (screen .entry)) r line (now (registers .entry))) ⌝ }
+    ensures { λ _. ⌜ now (screen .exit) ≡ later (lineInAt (now (screen .entry)) r line (now (registers .entry))) (λ s. s) (now (screen .entry)) ⌝ }
+{
+    if r.height() <= line {
+        return Answer {
+            number: OUT_OF_RANGE,
+            place: 0,
+        };
+    }
+    if registers.len() < r.width() {
+        return Answer {
+            number: AREA_TOO_SHORT,
+            place: 0,
+        };
+    }
+    let fit = all_below(registers, r.width(), r.registers());
+    if !fit {
+        return Answer {
+            number: OUT_OF_RANGE,
+            place: 0,
+        };
+    }
+    put_line(screen, r, line, registers);
+    Answer {
+        number: 0,
+        place: 0,
+    }
+}
+
+// Line in: a scan line of the screen from registers, one byte a pixel.
+pub fn line_in(screen: &mut [u8], resolution: u16, line: usize, registers: &[u8]) -> Answer
+    ensures { λ a. ⌜ a ≡ answer (lineIn (now (screen .entry)) resolution line (now (registers .entry))) ⌝ }
+    ensures { λ _. ⌜ now (screen .exit) ≡ later (lineIn (now (screen .entry)) resolution line (now (registers .entry))) (λ s. s) (now (screen .entry)) ⌝ }
+{
+    if screen.len() < SCREEN_BYTES {
+        return Answer {
+            number: AREA_TOO_SHORT,
+            place: 0,
+        };
+    }
+    match Resolution::from_number(resolution) {
+        Chosen::Known(r) => line_in_at(screen, r, line, registers),
+        Chosen::Unknown => Answer {
+            number: UNKNOWN_RESOLUTION,
+            place: 0,
+        },
+    }
+}

@@ -2,28 +2,27 @@
 use Prim.Native.Nat.{ℕ, _+_}
 use mathlib.Core.Bool.{Bool, not, _&&_}
 use mathlib.Core.List.{List}
-use lib.ListN.{length}
-use lib.Dec.{ltb, leb}
+use lib.Dec.{leb}
 use Rattle.lists.specs.Sum.{sum}
 use Rattle.outcome.specs.Outcome.{Outcome, refuseIf}
-use Rattle.outcome.specs.Refusal.{areaTooShort, outOfRange}
+use Rattle.outcome.specs.Refusal.{outOfRange}
 use Rattle.resolution.specs.declared.Resolution.{Resolution}
-use Rattle.resolution.specs.Shapes.{screenBytes, widthOf, heightOf}
-use Rattle.resolution.specs.Choice.{withResolution}
+use Rattle.resolution.specs.Shapes.{widthOf, heightOf}
 use Rattle.screen.specs.Registers.{register}
+use Rattle.lines.specs.Lines.{judgeScreen}
 use Rattle.tally.specs.declared.Rectangle.{Rectangle}
 
 -- left plus columns does not exceed the width, nor top plus lines the height, as whole numbers
 abbrev pub fits : Resolution → Rectangle → Bool
 fits r a = leb (a .left + a .columns) (widthOf r) && leb (a .top + a .lines) (heightOf r)
 
+-- a rectangle at a resolution
+abbrev pub judgeAreaAt : {A : Type 0} → Resolution → Rectangle → Outcome A → Outcome A
+judgeAreaAt r a further = refuseIf (not (fits r a)) outOfRange further
+
 -- the screen's length, the resolution's number and the rectangle, judged in this order
 abbrev pub judgeArea : {A : Type 0} → ℕ → ℕ → Rectangle → (Resolution → Outcome A) → Outcome A
-judgeArea screen number a further =
-    refuseIf (ltb screen screenBytes) areaTooShort
-    (withResolution number (λ r.
-    refuseIf (not (fits r a)) outOfRange
-    (further r)))
+judgeArea screen number a further = judgeScreen screen number (λ r. judgeAreaAt r a (further r))
 
 -- f of the register, summed over the n columns from left in scan line y
 unfoldable pub lineSum : List ℕ → Resolution → ℕ → ℕ → ℕ → (ℕ → ℕ) → ℕ

@@ -1,0 +1,97 @@
+-- Laws of byte columns: where they lie, and the registers that their bytes make. Assumes nothing.
+use mathlib.Core.Path.{_≡_, refl, sym, ap, _∙_}
+use mathlib.Core.List.{List}
+use Prim.Native.Nat.{ℕ, zero, suc, _+_, _-_, _*_, _/_, _%_, _^_, _≤_, _<_}
+use native.Mathlib.Nat.{add-zero, add-assoc, zero-div, div-add-mod'}
+use native.Mathlib.Omega.{arith}
+use lib.ListN.{getD}
+use lib.Arith.{digits-div, digits-mod}
+use Rattle.lists.specs.Bytes.{Bytes}
+use Rattle.lists.specs.Digits.{fromBits}
+use Rattle.lists.specs.Sum.{sum}
+use Rattle.lists.proofs.Digits.{fromBits-lt}
+use Rattle.lists.proofs.Sum.{sum-ext}
+use Rattle.resolution.specs.declared.Resolution.{Resolution}
+use Rattle.resolution.specs.declared.Resolution.the-variants.{Low, Medium, High}
+use Rattle.resolution.specs.Shapes.{planesOf, lineBytesOf}
+use Rattle.words.specs.Word.{wordBytes}
+use Rattle.screen.specs.Registers.{groupOffset, wordOffset, register, wordOf}
+use Rattle.screen.proofs.Registers.{register-byte}
+use Rattle.lines.specs.declared.PlaneBytes.{PlaneBytes}
+use Rattle.lines.specs.Columns.{columnOffset, planeBytes, columnBytes, columnRegister, planeByte}
+
+-- ---- offsets
+
+pub lineBytes-le : (r : Resolution) → lineBytesOf r ≤ 160
+lineBytes-le Low = omega arith
+lineBytes-le Medium = omega arith
+lineBytes-le High = omega arith
+
+pub columnOffset-lt : (r : Resolution) (y h : ℕ) → y < 65536 → h < 65536 → columnOffset r y h < 100000000
+unfolding columnOffset
+columnOffset-lt Low y h k l = omega arith
+columnOffset-lt Medium y h k l = omega arith
+columnOffset-lt High y h k l = omega arith
+
+-- plane p's byte stands p words further on
+plane-offset : (r : Resolution) (y h p : ℕ) → wordOffset r y (h / 2) p + h % 2 ≡ columnOffset r y h + p * 2
+unfolding columnOffset wordOffset groupOffset
+plane-offset Low y h p = omega arith
+plane-offset Medium y h p = omega arith
+plane-offset High y h p = omega arith
+
+-- ---- registers
+
+-- a column's pixel, by the planes that are there
+columnRegister-sum : (s : List ℕ) (r : Resolution) (at x : ℕ)
+    → columnRegister (planeBytes s at (planesOf r)) x ≡ sum (planesOf r) (λ p. getD s (at + p * 2) 0 / 2 ^ (7 - x % 8) % 2 * 2 ^ p)
+unfolding columnRegister sum
+columnRegister-sum s Low at x = rw (add-zero at) (omega arith)
+columnRegister-sum s Medium at x = rw (add-zero at) (omega (arith, zero-div (2 ^ (7 - x % 8))))
+columnRegister-sum s High at x = rw (add-zero at) (omega (arith, zero-div (2 ^ (7 - x % 8))))
+
+-- a pixel's register from the bytes of its column
+pub columnRegister-register : (s : List ℕ) (r : Resolution) (x y : ℕ) → Bytes s → columnRegister (columnBytes s r (x / 8) y) x ≡ register s r x y
+unfolding columnBytes
+columnRegister-register s r x y bytes =
+    let h : ℕ = x / 8 in
+    let k : ℕ = x % 8 in
+    columnRegister-sum s r (columnOffset r y h) x
+    ∙ sum-ext (planesOf r) _ (λ p. getD s (wordOffset r y (h / 2) p + h % 2) 0 / 2 ^ (7 - k) % 2 * 2 ^ p)
+    (λ p hp. ap (λ (o : ℕ). getD s o 0 / 2 ^ (7 - k) % 2 * 2 ^ p) (sym (plane-offset r y h p)))
+    ∙ sym (register-byte s r h k y bytes (omega arith))
+    ∙ ap (λ (n : ℕ). register s r n y) (div-add-mod' x 8)
+
+-- pixel x + j, from the bytes of the column h in which it stands
+pub same-column : (s : List ℕ) (r : Resolution) (h x y j : ℕ) (b : PlaneBytes) → b ≡ columnBytes s r h y → Bytes s → (x + j) / 8 ≡ h
+    → columnRegister b (x + j) ≡ register s r (x + j) y
+same-column s r h x y j b e bytes d =
+    ap (λ (c : PlaneBytes). columnRegister c (x + j)) (e ∙ ap (λ (h : ℕ). columnBytes s r h y) (sym d)) ∙ columnRegister-register s r (x + j) y bytes
+
+-- ---- a plane's byte of eight registers
+
+-- sixteen digits are two bytes
+fromBits-halves : (f : ℕ → ℕ) → fromBits 16 f ≡ fromBits 8 f * 256 + fromBits 8 (λ k. f (8 + k))
+unfolding fromBits
+fromBits-halves f = omega arith
+
+fromBits-first : (f : ℕ → ℕ) → fromBits 8 f ≡ fromBits 8 (λ k. f (0 * 8 + k))
+unfolding fromBits
+fromBits-first f = refl
+
+-- byte h of a word that is made of digits
+word-byte : (f : ℕ → ℕ) → ((k : ℕ) → f k < 2) → (h : ℕ) → h < 2 → getD (wordBytes (fromBits 16 f)) h 0 ≡ fromBits 8 (λ k. f (h * 8 + k))
+unfolding wordBytes
+word-byte f b zero l =
+    ap (λ (w : ℕ). w / 256) (fromBits-halves f)
+    ∙ digits-div (fromBits 8 f) (fromBits-lt 8 (λ k. f (8 + k)) (λ k. b (8 + k)))
+    ∙ fromBits-first f
+word-byte f b (suc zero) l =
+    ap (λ (w : ℕ). w % 256) (fromBits-halves f)
+    ∙ digits-mod (fromBits 8 f) (fromBits-lt 8 (λ k. f (8 + k)) (λ k. b (8 + k)))
+word-byte f b (suc (suc h)) l = absurd (omega arith)
+
+-- it is byte h of the word that group g of the registers makes
+pub planeByte-word : (line : List ℕ) (g p h : ℕ) → h < 2 → planeByte line (g * 16 + h * 8) p ≡ getD (wordBytes (wordOf line g p)) h 0
+unfolding planeByte wordOf
+planeByte-word line g p h l = simp add-assoc (sym (word-byte (λ k. getD line (g * 16 + k) 0 / 2 ^ p % 2) (λ k. omega arith) h l))
