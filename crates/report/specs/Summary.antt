@@ -54,16 +54,19 @@ abbrev pub screenCounts : List ℕ → Chosen → List ℕ
 screenCounts s (Known r) = counts s r (wholeScreen r)
 screenCounts s Unknown = replicate 16 0
 
--- the five lines of these numbers
-unfoldable pub readingText : ℕ → ℕ → ℕ → ℕ → List ℕ → List ℕ
-readingText resolution records body tail sums =
-    line resolutionLabel resolution ++ line recordsLabel records ++ line bodyLabel body ++ line tailLabel tail ++ tallyLine sums
+-- a line for each of these numbers
+unfoldable pub numbersText : ℕ → ℕ → ℕ → ℕ → List ℕ
+numbersText resolution records body tail = line resolutionLabel resolution ++ line recordsLabel records ++ line bodyLabel body ++ line tailLabel tail
 
--- five lines of an accepted reading, one of a refusal; the tail is 1 where present, else 0
+-- the five lines of a reading: the tail is 1 where present, else 0; the tally is that of the whole screen
+unfoldable pub readingText : Reading → List ℕ
+readingText q =
+    numbersText (q .picture .resolution) (q .records) (q .body) (cond (q .picture .tailed) 1 0)
+    ++ tallyLine (screenCounts (q .screen) (chosen (q .picture .resolution)))
+
+-- five lines of an accepted reading, one of a refusal
 abbrev pub summaryText : Outcome Reading → List ℕ
-summaryText (accepted q) =
-    readingText (q .picture .resolution) (q .records) (q .body) (cond (q .picture .tailed) 1 0)
-    (screenCounts (q .screen) (chosen (q .picture .resolution)))
+summaryText (accepted q) = readingText q
 summaryText (refused number place) = refusalLine number place
 
 -- the summary of a file, which is read as DEGAS

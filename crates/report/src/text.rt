@@ -78,7 +78,7 @@ pub(crate) fn put_tally(sums: [u32; 16], out: &mut [u8]) -> usize
 // The line of a refusal.
 pub(crate) fn put_refusal(number: u8, place: usize, out: &mut [u8]) -> usize
     requires { ⌜ 64 ≤ length (now out) ⌝ }
-    ensures { λ r. ⌜ r ≡ length (refusalLine number place) ⌝ }
+    ensures { λ r. ⌜ (r ≡ length (refusalLine number place)) × (r ≤ 64) ⌝ }
     ensures { λ _. ⌜ now (out .exit) ≡ over (refusalLine number place) (now (out .entry)) ⌝ }
 {
     let end = put_item(b"refused ", number as usize, out);

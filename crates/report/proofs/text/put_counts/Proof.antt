@@ -1,17 +1,15 @@
 -- `report::text::put_counts` meets its contract: a turn of the loop appends one count. Assumes nothing.
-use mathlib.Core.Path.{_≡_, refl, sym, ap, _∙_}
+use mathlib.Core.Path.{_≡_, refl, ap}
 use mathlib.Core.List.{List, flatten}
 use Prim.Native.Nat.{ℕ, _+_, _-_, _*_, _≤_}
 use native.Mathlib.Omega.{arith}
-use lib.ListN.{length, take, getD, length-append, length-drop}
+use lib.ListN.{length, take, getD, length-drop}
 use lib.Seq.{take-all}
-use denote.Ref.{now}
-use Rattle.lists.specs.Over.{over}
+use Rattle.lists.proofs.Parts.{tail-part}
+use Rattle.lists.proofs.Pieces.{Written}
 use Rattle.report.specs.Labels.{blank}
 use Rattle.report.specs.Summary.{item, items}
-use Rattle.lists.proofs.Over.{length-over}
-use Rattle.lists.proofs.Parts.{tail-part}
-use Rattle.report.proofs.Pieces.{over-more}
+use Rattle.report.proofs.Pieces.{written-length, written-more, written-as}
 use Rattle.report.proofs.Summary.{items-more}
 use borrow.Author.Needs.{needs}
 use Rattle.report.proofs.text.put_counts.Statement.{statement}
@@ -19,14 +17,14 @@ use Rattle.report.proofs.text.put_counts.Tie as tie
 
 abbrev Inv-loop : tie.InvT-loop
 Inv-loop out₀ sums end₀ i₀ out end i =
-    (i ≤ 16) × (end ≡ length (items (take i sums))) × (end ≤ i * 21) × (out ≡ over (items (take i sums)) out₀) × (length out ≡ length out₀)
+    (i ≤ 16) × (end ≤ i * 21) × Written (items (take i sums)) out₀ out end × (length out ≡ length out₀)
 
 abbrev μ-loop : tie.MeasureT-loop
 μ-loop out₀ sums end₀ i₀ out end i = 16 - i
 
 loop-holds : tie.Need-loop-holds Inv-loop μ-loop
 unfolding items flatten
-loop-holds c = (omega arith, refl, omega arith, refl, refl)
+loop-holds c = (omega arith, omega arith, record { bytes = refl; all = refl }, refl)
 
 mul-put-count : tie.Need-mul-put-count Inv-loop μ-loop
 mul-put-count c = search needs
@@ -63,21 +61,14 @@ loop-again c =
     let l = p .before .before .before .loop in
     let start = p .before .before .before .before .before in
     let sums : List ℕ = start .args .t1 in
-    let out : List ℕ = start .args .out .now in
     let full : length sums ≡ 16 = search needs in
-    let more = items-more sums (l .i) (omega arith) in
-    let end : l .end + p .put-count .result ≡ length (items (take (l .i + 1) sums)) =
-    omega (arith, l .inv .1, p .put-count .ensures .0 .0, length-append (items (take (l .i) sums)) (item blank (getD sums (l .i) 0)))
-    ∙ ap length more in
-    let text =
-    over-more (items (take (l .i) sums)) out (l .out) (l .end) (l .inv .1) (l .inv .3) (item blank (getD sums (l .i) 0)) (p .put-count .last .1 .0) (p .put-count .ensures .1)
-    ∙ ap (λ (t : List ℕ). over t out) more in
-    (
+    let w =
+    written-as (items (take (l .i + 1) sums)) (items-more sums (l .i) (omega arith))
+    (written-more (l .inv .2) (item blank (getD sums (l .i) 0)) (p .put-count .last .1 .0) (p .put-count .result) (p .put-count .ensures .0 .0) (p .put-count .ensures .1)) in (
       omega arith,
-      end,
       omega (arith, p .put-count .ensures .0 .1),
-      text,
-      ap length text ∙ length-over (items (take (l .i + 1) sums)) out (omega (arith, end, p .put-count .ensures .0 .1)),
+      w,
+      written-length w (omega (arith, w .bytes, p .put-count .ensures .0 .1)),
     )
 
 same-length : tie.Need-same-length Inv-loop μ-loop
@@ -87,10 +78,9 @@ returns : tie.Need-returns Inv-loop μ-loop
 returns c =
     let l = c .before .loop in
     let sums : List ℕ = c .before .before .before .args .t1 in
-    let out : List ℕ = c .before .before .before .args .out .now in
     let full : length sums ≡ 16 = search needs in
-    let all : items (take (l .i) sums) ≡ items sums = ap items (take-all (l .i) sums (omega arith)) in
-    ((l .inv .1 ∙ ap length all, omega arith), l .inv .3 ∙ ap (λ (t : List ℕ). over t out) all)
+    let w = written-as (items sums) (ap items (take-all (l .i) sums (omega arith))) (l .inv .2) in
+    ((w .bytes, omega arith), w .all)
 
 pub put-counts-spec : {M : Type 1} → statement M
 put-counts-spec =

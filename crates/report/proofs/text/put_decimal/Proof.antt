@@ -1,13 +1,10 @@
 -- `report::text::put_decimal` meets its contract: the kit's digits are those of `decimal`. Assumes nothing.
 use mathlib.Core.Path.{_≡_, ap, _∙_}
-use mathlib.Core.List.{List, _++_}
-use Prim.Native.Nat.{ℕ, _≤_}
 use native.Mathlib.Omega.{arith}
-use lib.ListN.{length, take, drop}
-use lib.Seq.{take-length}
-use Rattle.lists.specs.Over.{over}
+use lib.ListN.{length, take}
 use Rattle.report.specs.Decimal.{decimal}
 use Rattle.report.proofs.Decimal.{fewest-le, digits-decimal, length-decimal}
+use Rattle.report.proofs.Pieces.{written-copied, written-as}
 use borrow.Author.Needs.{needs}
 use Rattle.report.proofs.text.put_decimal.Statement.{statement}
 use Rattle.report.proofs.text.put_decimal.Tie as tie
@@ -40,15 +37,9 @@ returns : tie.Need-returns
 returns c =
     let y = c .before .before in
     let d = y .before .before .before in
-    let a = d .before .before .before .args in
-    let part : List ℕ = take (d .decimal .result) (d .decimal .last .1 .0) in
-    let few : y .copy .result ≤ 20 = omega (arith, y .copy .ensures .0, ap length (digits-here d), length-decimal (a .n)) in
-    (
-      (y .copy .ensures .0 ∙ ap length (digits-here d), few),
-      y .copy .ensures .1
-      ∙ ap (λ (l : List ℕ). l ++ drop (length part) (a .out .now)) (take-length part)
-      ∙ ap (λ (l : List ℕ). over l (a .out .now)) (digits-here d),
-    )
+    let n = d .before .before .before .args .n in
+    let w = written-as (decimal n) (digits-here d) (written-copied _ _ _ _ (y .copy .ensures .0) (y .copy .ensures .1)) in
+    ((w .bytes, omega (arith, w .bytes, length-decimal n)), w .all)
 
 pub put-decimal-spec : {M : Type 1} → statement M
 put-decimal-spec = tie.close (tie.spec decimal-requires array-share-prefix-digits slice-aggregate-copy copy-requires same-length returns)

@@ -1,14 +1,9 @@
 -- `report::text::put_item` meets its contract: the number's digits are written after the label. Assumes nothing.
-use mathlib.Core.Path.{_≡_, ap, _∙_}
-use mathlib.Core.List.{List, _++_}
-use Prim.Native.Nat.{ℕ}
 use native.Mathlib.Omega.{arith}
-use lib.ListN.{length, drop, length-append}
-use lib.Seq.{take-length}
 use denote.Ref.{now}
 use Rattle.report.specs.Decimal.{decimal}
 use Rattle.report.specs.Summary.{item}
-use Rattle.report.proofs.Pieces.{over-more}
+use Rattle.report.proofs.Pieces.{written-copied, written-more}
 use borrow.Author.Needs.{needs}
 use Rattle.report.proofs.text.put_item.Statement.{statement}
 use Rattle.report.proofs.text.put_item.Tie as tie
@@ -40,12 +35,11 @@ returns c =
     let p = c .before .before in
     let y = p .before .before .before .before in
     let a = y .before .before .before .before .args in
-    let label : List ℕ = now (a .label) in
-    let front = y .copy .ensures .1 ∙ ap (λ (l : List ℕ). l ++ drop (length label) (now (a .out))) (take-length label) in
-    (
-      (omega (arith, y .copy .ensures .0, p .put-decimal .ensures .0 .0, length-append label (decimal (a .n))), omega (arith, y .copy .ensures .0, p .put-decimal .ensures .0 .1)),
-      over-more label (now (a .out)) (y .copy .last .1 .0) (y .copy .result) (y .copy .ensures .0) front (decimal (a .n)) (p .put-decimal .last .1 .0) (p .put-decimal .ensures .1),
-    )
+    let front = written-copied (now (a .label)) (now (a .out)) (y .copy .last .1 .0) (y .copy .result) (y .copy .ensures .0) (y .copy .ensures .1) in
+    let w =
+    written-more front (decimal (a .n)) (p .put-decimal .last .1 .0)
+    (p .put-decimal .result) (p .put-decimal .ensures .0 .0) (p .put-decimal .ensures .1) in
+    ((w .bytes, omega (arith, y .copy .ensures .0, p .put-decimal .ensures .0 .1)), w .all)
 
 pub put-item-spec : {M : Type 1} → statement M
 put-item-spec =

@@ -1,12 +1,10 @@
 -- `report::text::put_refusal` meets its contract: the place's line is written after the number. Assumes nothing.
-use mathlib.Core.List.{List}
-use Prim.Native.Nat.{ℕ}
 use native.Mathlib.Omega.{arith}
-use lib.ListN.{length-append}
 use denote.Ref.{now}
+use Rattle.lists.proofs.Pieces.{Written}
 use Rattle.report.specs.Labels.{refusedLabel, atLabel}
 use Rattle.report.specs.Summary.{item, line, refusalLine}
-use Rattle.report.proofs.Pieces.{over-more}
+use Rattle.report.proofs.Pieces.{written-more}
 use borrow.Author.Needs.{needs}
 use Rattle.report.proofs.text.put_refusal.Statement.{statement}
 use Rattle.report.proofs.text.put_refusal.Tie as tie
@@ -44,11 +42,12 @@ returns c =
     let p = c .before .before in
     let y = p .before .before .before .before .before in
     let a = y .before .before .before .before .args in
-    (
-      omega (arith, y .put-item .ensures .0 .0, p .put-line .ensures .0 .0, length-append (item refusedLabel (a .number)) (line atLabel (a .place))),
-      over-more (item refusedLabel (a .number)) (now (a .out)) (y .put-item .last .1 .1 .0) (y .put-item .result) (y .put-item .ensures .0 .0) (y .put-item .ensures .1)
-      (line atLabel (a .place)) (p .put-line .last .1 .1 .0) (p .put-line .ensures .1),
-    )
+    let front : Written (item refusedLabel (a .number)) (now (a .out)) (y .put-item .last .1 .1 .0) (y .put-item .result) =
+    record { bytes = y .put-item .ensures .0 .0; all = y .put-item .ensures .1 } in
+    let w =
+    written-more front (line atLabel (a .place)) (p .put-line .last .1 .1 .0) (p .put-line .result) (p .put-line .ensures .0 .0)
+    (p .put-line .ensures .1) in
+    ((w .bytes, omega (arith, y .put-item .ensures .0 .1, p .put-line .ensures .0 .1)), w .all)
 
 pub put-refusal-spec : {M : Type 1} → statement M
 put-refusal-spec =

@@ -1,40 +1,40 @@
 -- `report::text::put_tally` meets its contract: label, counts and a newline, one after the other. Assumes nothing.
-use mathlib.Core.Path.{_≡_, ap, _∙_}
-use mathlib.Core.List.{List, _++_}
-use Prim.Native.Nat.{ℕ, _+_, _-_, _≤_}
+use Prim.Native.Nat.{_+_, _-_, _≤_}
 use native.Mathlib.Omega.{arith}
-use lib.ListN.{length, set, length-append}
+use lib.ListN.{length, set}
 use denote.Ref.{now}
 use borrow.Rule.Slice.PartMut.{putMid}
-use Rattle.lists.specs.Over.{over}
-use Rattle.lists.proofs.Over.{length-over}
-use Rattle.report.specs.Labels.{tallyLabel, newline}
+use Rattle.lists.proofs.Pieces.{Written}
+use Rattle.report.specs.Labels.{tallyLabel}
 use Rattle.report.specs.Summary.{items, tallyLine}
-use Rattle.report.proofs.Pieces.{over-more, over-snoc}
+use Rattle.report.proofs.Pieces.{written-copied, written-length, written-more, written-byte}
 use borrow.Author.Needs.{needs}
 use Rattle.report.proofs.text.put_tally.Statement.{statement}
 use Rattle.report.proofs.text.put_tally.Tie as tie
 
--- the line, and its length
+-- the line is written
 written : (c : tie.After-slice-known3) → let p = c .before .before in
     let y = p .before .before .before .before in
     let a = y .before .before .before .before .args in
-    (y .copy .result + p .put-counts .result + 1 ≡ length (tallyLine (a .sums)))
-    × (set (putMid (y .copy .result) (length (y .copy .last .1 .0) - y .copy .result) (y .copy .last .1 .0) (p .put-counts .last .1 .0)) (y .copy .result + p .put-counts .result) 10
-    ≡ over (tallyLine (a .sums)) (now (a .out)))
+    Written (tallyLine (a .sums)) (now (a .out))
+    (set (putMid (y .copy .result) (length (y .copy .last .1 .0) - y .copy .result) (y .copy .last .1 .0) (p .put-counts .last .1 .0)) (y .copy .result + p .put-counts .result) 10)
+    (y .copy .result + p .put-counts .result + 1)
 unfolding tallyLine
 written c =
     let p = c .before .before in
     let y = p .before .before .before .before in
     let a = y .before .before .before .before .args in
-    let front = over-more tallyLabel (now (a .out)) (y .copy .last .1 .0) (y .copy .result) (y .copy .ensures .0) (y .copy .ensures .1)
-    (items (a .sums)) (p .put-counts .last .1 .0) (p .put-counts .ensures .1) in
-    let end : y .copy .result + p .put-counts .result ≡ length (tallyLabel ++ items (a .sums)) =
-    omega (arith, y .copy .ensures .0, p .put-counts .ensures .0 .0, length-append tallyLabel (items (a .sums))) in
-    (
-      omega (arith, end, length-append (tallyLabel ++ items (a .sums)) newline),
-      over-snoc (tallyLabel ++ items (a .sums)) (now (a .out)) _ _ end front 10 (omega (arith, end, y .copy .ensures .0, p .put-counts .ensures .0 .1)),
-    )
+    let label = written-copied tallyLabel (now (a .out)) (y .copy .last .1 .0) (y .copy .result) (y .copy .ensures .0) (y .copy .ensures .1) in
+    let front =
+    written-more label (items (a .sums)) (p .put-counts .last .1 .0)
+    (p .put-counts .result) (p .put-counts .ensures .0 .0) (p .put-counts .ensures .1) in
+    written-byte front 10 (omega (arith, front .bytes, y .copy .ensures .0, p .put-counts .ensures .0 .1))
+
+-- in no more than 342 bytes
+short : (c : tie.After-slice-known3) → let p = c .before .before in
+    p .before .before .before .before .copy .result + p .put-counts .result + 1 ≤ 342
+short c = let p = c .before .before in
+    omega (arith, p .put-counts .ensures .0 .1, p .before .before .before .before .copy .ensures .0)
 
 slice-aggregate-copy : tie.Need-slice-aggregate-copy
 slice-aggregate-copy c = search needs
@@ -64,15 +64,10 @@ add-result : tie.Need-add-result
 add-result c = search needs
 
 same-length : tie.Need-same-length
-same-length c =
-    let p = c .before .before in
-    let a = p .before .before .before .before .before .before .before .before .args in
-    ap length (written c .1) ∙ length-over (tallyLine (a .sums)) (now (a .out)) (omega (arith, written c .0, p .put-counts .ensures .0 .1, p .before .before .before .before .copy .ensures .0))
+same-length c = written-length (written c) (omega (arith, written c .bytes, short c))
 
 returns : tie.Need-returns
-returns c =
-    let p = c .before .before in
-    ((written c .0, omega (arith, p .put-counts .ensures .0 .1, p .before .before .before .before .copy .ensures .0)), written c .1)
+returns c = ((written c .bytes, short c), written c .all)
 
 pub put-tally-spec : {M : Type 1} → statement M
 put-tally-spec =
