@@ -1,0 +1,5 @@
+pub mod Decimal
+pub mod Long
+pub mod Pieces
+pub mod Reading
+pub mod Summary

@@ -1,0 +1,63 @@
+-- What an accepted reading holds, and what a refused one. Assumes nothing.
+use mathlib.Core.Path.{_≡_, refl}
+use mathlib.Core.List.{List}
+use Prim.Native.Nat.{ℕ, _+_, _≤_}
+use native.Mathlib.Omega.{arith}
+use lib.ListN.{length, take, drop, length-drop}
+use lib.Seq.{length-take-le}
+use lib.Dec.{eqb}
+use Rattle.lists.proofs.Cond.{cond-elim, cond-ltb, cond-eqb}
+use Rattle.outcome.specs.Outcome.{Outcome, accepted, refused}
+use Rattle.packbits.specs.Unpack.{placed}
+use Rattle.unpack_rows.specs.UnpackRows.{Rows, unpackRows}
+use Rattle.unpack_rows.proofs.UnpackRows.{RowsBounded, rows-bounded}
+use Rattle.resolution.specs.declared.Chosen.{Chosen}
+use Rattle.resolution.specs.declared.Chosen.the-variants.{Known, Unknown}
+use Rattle.resolution.specs.declared.Resolution.{Resolution}
+use Rattle.resolution.specs.Shapes.{screenBytes, rowBytesOf, planeRowsOf}
+use Rattle.resolution.specs.Choice.{chosen, judgeWith}
+use Rattle.screen.proofs.PlaneRows.{length-screenOf}
+use Rattle.reader.specs.Reading.{Reading, degasResolution, degasPacked, tailAfter, readRaw, readPacked, readChosen, readDegas, readFile}
+use Rattle.reader.proofs.Reading.{file-degas}
+
+-- an accepted reading has a whole screen and a known resolution; a refusal has a number
+abbrev pub Sound : Outcome Reading → Type 0
+Sound (accepted q) = (length (q .screen) ≡ screenBytes) × ((r : Resolution) × (chosen (q .picture .resolution) ≡ Known r))
+Sound (refused number place) = number ≡ 0 → ⊥
+
+module _ (file : List ℕ) (r : Resolution) (known : chosen (degasResolution file) ≡ Known r) where
+  raw-sound : Sound (readRaw file)
+  unfolding readRaw
+  raw-sound =
+      cond-eqb Sound (length file) 32034 (λ h. (whole (omega arith), (r, known)))
+      (λ _. cond-eqb Sound (length file) 32066 (λ h. (whole (omega arith), (r, known))) (λ _ e. omega arith))
+    where
+      whole : 32034 ≤ length file → length (take screenBytes (drop 34 file)) ≡ screenBytes
+      whole h = length-take-le screenBytes (drop 34 file) (omega (arith, length-drop 34 file))
+
+  tail-sound : (input : List ℕ) (width n : ℕ) (o : Outcome Rows) → RowsBounded input width n o → Sound (tailAfter file r (placed 34 o))
+  tail-sound input width n (accepted q) b =
+      cond-elim Sound (eqb (length file) (34 + q .bytes + 32)) (λ _. (length-screenOf r (q .rows), (r, known))) (λ _ e. omega arith)
+  tail-sound input width n (refused number place) b = b .0
+
+  packed-sound : Sound (readPacked file r)
+  unfolding readPacked
+  packed-sound =
+      cond-ltb Sound 32065 (length file) (λ _ e. omega arith)
+      (λ _. tail-sound (drop 34 file) (rowBytesOf r) (planeRowsOf r) (unpackRows (planeRowsOf r) (rowBytesOf r) (drop 34 file))
+      (rows-bounded (planeRowsOf r) (rowBytesOf r) (drop 34 file)))
+
+  chosen-sound : Sound (readChosen file r)
+  unfolding readChosen
+  chosen-sound = cond-elim Sound (degasPacked file) (λ _. packed-sound) (λ _. raw-sound)
+
+degas-sound : (file : List ℕ) → Sound (readDegas file)
+unfolding readDegas
+degas-sound file = cond-ltb Sound (length file) 34 (λ _ e. omega arith) (λ _. go (chosen (degasResolution file)) refl)
+  where
+    go : (c : Chosen) → chosen (degasResolution file) ≡ c → Sound (judgeWith c (λ r. readChosen file r))
+    go (Known r) e = chosen-sound file r e
+    go Unknown e = λ z. omega arith
+
+pub read-sound : (file : List ℕ) → Sound (readFile 1 file screenBytes)
+read-sound file = rw (file-degas file 1 screenBytes (omega arith) refl) (degas-sound file)

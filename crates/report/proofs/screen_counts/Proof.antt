@@ -1,0 +1,31 @@
+-- `report::screen_counts` meets its contract: the number names a resolution or none. Assumes nothing.
+use mathlib.Core.Path.{sym, _∙_}
+use borrow.Author.Needs.{needs}
+use Rattle.report.proofs.screen_counts.Statement.{statement}
+use Rattle.report.proofs.screen_counts.Tie as tie
+
+from-number-requires : tie.Need-from-number-requires
+from-number-requires c κs = search needs
+
+enum-known-r : tie.Need-enum-known-r
+enum-known-r c = search needs
+
+whole-counts-requires : tie.Need-whole-counts-requires
+whole-counts-requires c κs =
+    (search needs, sym (c .before .before .before .from-number .ensures) ∙ c .before .r .given .1)
+
+enum-told : tie.Need-enum-told
+enum-told c = search needs
+
+returns : tie.Need-returns
+returns c =
+    let f = c .before .before .before .before in
+    rw (sym (f .from-number .ensures) ∙ c .before .before .r .given .1) (c .whole-counts .ensures)
+
+returns-2 : tie.Need-returns-2
+returns-2 c = rw (sym (c .before .before .from-number .ensures) ∙ c .enum-told .given .1)
+
+pub screen-counts-spec : {M : Type 1} → statement M
+screen-counts-spec =
+    tie.close
+    (tie.spec from-number-requires enum-known-r whole-counts-requires enum-told returns returns-2)

@@ -1,0 +1,103 @@
+-- `report::text::put_counts` meets its contract: a turn of the loop appends one count. Assumes nothing.
+use mathlib.Core.Path.{_≡_, refl, ap}
+use mathlib.Core.List.{List, flatten}
+use Prim.Native.Nat.{ℕ, _+_, _-_, _*_, _≤_}
+use native.Mathlib.Omega.{arith}
+use lib.ListN.{length, take, getD, length-drop}
+use lib.Seq.{take-all}
+use Rattle.lists.proofs.Parts.{tail-part}
+use Rattle.lists.proofs.Pieces.{Written}
+use Rattle.report.specs.Labels.{blank}
+use Rattle.report.specs.Summary.{item, items}
+use Rattle.report.proofs.Pieces.{written-length, written-more, written-as}
+use Rattle.report.proofs.Summary.{items-more}
+use borrow.Author.Needs.{needs}
+use Rattle.report.proofs.text.put_counts.Statement.{statement}
+use Rattle.report.proofs.text.put_counts.Tie as tie
+
+abbrev Inv-loop : tie.InvT-loop
+Inv-loop out₀ sums end₀ i₀ out end i =
+    (i ≤ 16) × (end ≤ i * 21) × Written (items (take i sums)) out₀ out end × (length out ≡ length out₀)
+
+abbrev μ-loop : tie.MeasureT-loop
+μ-loop out₀ sums end₀ i₀ out end i = 16 - i
+
+loop-holds : tie.Need-loop-holds Inv-loop μ-loop
+unfolding items flatten
+loop-holds c = (omega arith, omega arith, record { bytes = refl; all = refl }, refl)
+
+mul-put-count : tie.Need-mul-put-count Inv-loop μ-loop
+mul-put-count c = search needs
+
+array-read-put-count : tie.Need-array-read-put-count Inv-loop μ-loop
+array-read-put-count c = search needs
+
+sub-put-count : tie.Need-sub-put-count Inv-loop μ-loop
+sub-put-count c = search needs
+
+part-put-count-start : tie.Need-part-put-count-start Inv-loop μ-loop
+part-put-count-start c = search needs
+
+part-put-count-end : tie.Need-part-put-count-end Inv-loop μ-loop
+part-put-count-end c = search needs
+
+put-count-requires : tie.Need-put-count-requires Inv-loop μ-loop
+put-count-requires c κs =
+    let l = c .before .before .loop in
+    rw (tail-part (l .out) (l .end)) (omega (arith, length-drop (l .end) (l .out)))
+
+add-end : tie.Need-add-end Inv-loop μ-loop
+add-end c = search needs
+
+add-i : tie.Need-add-i Inv-loop μ-loop
+add-i c = search needs
+
+loop-less : tie.Need-loop-less Inv-loop μ-loop
+loop-less c = search needs
+
+loop-again : tie.Need-loop-again Inv-loop μ-loop
+loop-again c =
+    let p = c .before .before in
+    let l = p .before .before .before .loop in
+    let start = p .before .before .before .before .before in
+    let sums : List ℕ = start .args .t1 in
+    let full : length sums ≡ 16 = search needs in
+    let w =
+    written-as (items (take (l .i + 1) sums)) (items-more sums (l .i) (omega arith))
+    (written-more (l .inv .2) (item blank (getD sums (l .i) 0)) (p .put-count .last .1 .0) (p .put-count .result) (p .put-count .ensures .0 .0) (p .put-count .ensures .1)) in (
+      omega arith,
+      omega (arith, p .put-count .ensures .0 .1),
+      w,
+      written-length w (omega (arith, w .bytes, p .put-count .ensures .0 .1)),
+    )
+
+same-length : tie.Need-same-length Inv-loop μ-loop
+same-length c = search needs
+
+returns : tie.Need-returns Inv-loop μ-loop
+returns c =
+    let l = c .before .loop in
+    let sums : List ℕ = c .before .before .before .args .t1 in
+    let full : length sums ≡ 16 = search needs in
+    let w = written-as (items sums) (ap items (take-all (l .i) sums (omega arith))) (l .inv .2) in
+    ((w .bytes, omega arith), w .all)
+
+pub put-counts-spec : {M : Type 1} → statement M
+put-counts-spec =
+    tie.close
+    (tie.spec
+    Inv-loop
+    μ-loop
+    loop-holds
+    mul-put-count
+    array-read-put-count
+    sub-put-count
+    part-put-count-start
+    part-put-count-end
+    put-count-requires
+    add-end
+    add-i
+    loop-less
+    loop-again
+    same-length
+    returns)

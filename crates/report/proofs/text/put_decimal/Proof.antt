@@ -1,0 +1,45 @@
+-- `report::text::put_decimal` meets its contract: the kit's digits are those of `decimal`. Assumes nothing.
+use mathlib.Core.Path.{_≡_, ap, _∙_}
+use native.Mathlib.Omega.{arith}
+use lib.ListN.{length, take}
+use Rattle.report.specs.Decimal.{decimal}
+use Rattle.report.proofs.Decimal.{fewest-le, digits-decimal, length-decimal}
+use Rattle.report.proofs.Pieces.{written-copied, written-as}
+use borrow.Author.Needs.{needs}
+use Rattle.report.proofs.text.put_decimal.Statement.{statement}
+use Rattle.report.proofs.text.put_decimal.Tie as tie
+
+-- the digits that are copied
+digits-here : (d : tie.After-decimal) → take (d .decimal .result) (d .decimal .last .1 .0) ≡ decimal (d .before .before .before .args .n)
+digits-here d =
+    let start = d .before .before .before in
+    let few = fewest-le (d .decimal .result) (start .args .n) (omega arith) (d .decimal .ensures .1 .0) in
+    d .decimal .ensures .1 .1 ∙ digits-decimal (d .decimal .result) _ few (d .decimal .ensures .1 .0)
+
+decimal-requires : tie.Need-decimal-requires
+decimal-requires c κs = search needs
+
+array-share-prefix-digits : tie.Need-array-share-prefix-digits
+array-share-prefix-digits c = search needs
+
+slice-aggregate-copy : tie.Need-slice-aggregate-copy
+slice-aggregate-copy c = search needs
+
+copy-requires : tie.Need-copy-requires
+copy-requires c κs =
+    let d = c .before .before in
+    omega (arith, ap length (digits-here d), length-decimal (d .before .before .before .args .n))
+
+same-length : tie.Need-same-length
+same-length c = search needs
+
+returns : tie.Need-returns
+returns c =
+    let y = c .before .before in
+    let d = y .before .before .before in
+    let n = d .before .before .before .args .n in
+    let w = written-as (decimal n) (digits-here d) (written-copied _ _ _ _ (y .copy .ensures .0) (y .copy .ensures .1)) in
+    ((w .bytes, omega (arith, w .bytes, length-decimal n)), w .all)
+
+pub put-decimal-spec : {M : Type 1} → statement M
+put-decimal-spec = tie.close (tie.spec decimal-requires array-share-prefix-digits slice-aggregate-copy copy-requires same-length returns)

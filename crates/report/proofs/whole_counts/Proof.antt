@@ -1,0 +1,27 @@
+-- `report::whole_counts` meets its contract: the whole screen is a rectangle that fits. Assumes nothing.
+use mathlib.Core.Path.{ap, _∙_}
+use denote.Ref.{now}
+use Rattle.tally.specs.declared.TallyAnswer.{TallyAnswer}
+use Rattle.report.proofs.Summary.{tallied-whole}
+use borrow.Author.Needs.{needs}
+use Rattle.report.proofs.whole_counts.Statement.{statement}
+use Rattle.report.proofs.whole_counts.Tie as tie
+
+width-requires : tie.Need-width-requires
+width-requires c κs = search needs
+
+height-requires : tie.Need-height-requires
+height-requires c κs = search needs
+
+tally-requires : tie.Need-tally-requires
+tally-requires c κs = search needs
+
+returns : tie.Need-returns
+returns c =
+    let t = c .before in
+    let a = t .before .before .before .before .args in
+    ap (λ (v : TallyAnswer). v .counts) (rw (t .before .height .ensures, t .before .before .width .ensures) at (t .tally .ensures))
+    ∙ tallied-whole (now (a .screen)) (a .number) (a .r) (t .before .before .before .before .pre .0) (t .before .before .before .before .pre .1)
+
+pub whole-counts-spec : {M : Type 1} → statement M
+whole-counts-spec = tie.close (tie.spec width-requires height-requires tally-requires returns)
