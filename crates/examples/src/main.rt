@@ -1,7 +1,11 @@
 // Runs document 01's examples that are not proved, one function each, and writes what comes of them after a short label.
 ghost use Prim.Native.Nat.{_+_, _≤_};
 ghost use lib.ListN.{length};
+ghost use mathlib.Core.Path.{_≡_};
 use libc::STDOUT_FILENO;
+use picture::Picture;
+use picture::Table;
+use resolution::Resolution;
 
 // Writes a label and the summary of a file.
 fn show(label: &[u8], file: &[u8]) {
@@ -56,9 +60,68 @@ fn crossing_record() {
     show(b"first data byte D8 with one byte after it", &file);
 }
 
+// Byte c of a row that begins with so many equal bytes.
+fn row_byte(equal: usize, c: usize) -> u8 {
+    if c < equal { 7 } else { (c % 2) as u8 }
+}
+
+// A row of so many equal bytes, and then bytes that differ from their neighbours.
+fn row_of(equal: usize) -> [u8; 40]
+    ensures { λ r. ⌜ 40 ≡ length r ⌝ }
+{
+    let mut row = [0u8; 40];
+    let mut c: usize = 0;
+    while c < 40 {
+        row[c] = row_byte(equal, c);
+        c += 1;
+    }
+    row
+}
+
+// A picture with nothing but zeros, at low resolution.
+fn blank_picture() -> Picture {
+    let palette = [0u16; 16];
+    let words = [0u16; 4];
+    let tail = [
+        Table { words },
+        Table { words },
+        Table { words },
+        Table { words },
+    ];
+    Picture {
+        resolution: 0,
+        palette,
+        tailed: false,
+        tail,
+    }
+}
+
+// A low screen whose first row has so many equal bytes at its front and whose others have three, written as form 3.
+fn rows_of_three(label: &[u8], first: usize) {
+    let mut screen = [0u8; 32000];
+    let row = row_of(3);
+    let mut n: usize = 0;
+    while n < 800 {
+        screen::put_row(&mut screen, Resolution::Low, n, &row);
+        n += 1;
+    }
+    let front = row_of(first);
+    screen::put_row(&mut screen, Resolution::Low, 0, &front);
+    let mut out = [0u8; 32128];
+    let answer = writer::write(writer::PACKED, blank_picture(), &screen, &mut out);
+    io::write_all(STDOUT_FILENO, label);
+    io::write_all(STDOUT_FILENO, b": number ");
+    io::print_decimal(STDOUT_FILENO, answer.number as u64);
+    io::write_all(STDOUT_FILENO, b", body ");
+    io::print_decimal(STDOUT_FILENO, answer.body as u64);
+    io::write_all(STDOUT_FILENO, b"\n");
+}
+
 fn main() {
     blank_less_last();
     blank_with_no_op();
     no_body();
     crossing_record();
+    rows_of_three(b"800 rows of three equal and 37 more", 3);
+    rows_of_three(b"one of them made four equal and 36", 4);
 }

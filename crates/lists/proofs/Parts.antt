@@ -6,7 +6,7 @@ use mathlib.Core.List.{List, _++_, append-nil}
 use borrow.Rule.Slice.PartMut.{putMid, post-is}
 use lib.ListN.{length, take, drop, length-drop}
 use lib.Seq.{take-all, take-length, drop-length}
-use Rattle.lists.specs.Over.{over, overAt}
+use Rattle.lists.specs.Over.{over}
 
 module _ {A : Type 0} where
   -- the part from a on
@@ -19,15 +19,13 @@ module _ {A : Type 0} where
       ap (λ (l : List A). take a s ++ (t ++ l)) (post-is a (length s) s h ∙ drop-length s)
       ∙ ap (λ (l : List A). take a s ++ l) (append-nil t)
 
-  -- the whole, where the part was written over by w from its front on
-  pub tail-over : (s t w : List A) (a : ℕ) → a ≤ length s → t ≡ over w (take (length s - a) (drop a s)) → putMid a (length s - a) s t ≡ overAt a w s
-  tail-over s t w a h e = tail-put s t a h ∙ ap (λ (l : List A). take a s ++ l) (e ∙ ap (over w) (tail-part s a))
+  -- what the kit's `bytes::copy` leaves
+  pub copied-over : (s d : List A) → take (length s) s ++ drop (length s) d ≡ over s d
+  copied-over s d = ap (λ (l : List A). l ++ drop (length s) d) (take-length s)
 
-  -- n elements from an offset on, copied to the front of d by the kit's `bytes::copy`
+  -- the same where it copied n elements from an offset on
   pub copied-part : (s d out : List A) (at n : ℕ) (part : List A) → part ≡ take (at + n - at) (drop at s)
       → out ≡ take (length part) part ++ drop (length part) d → out ≡ over (take n (drop at s)) d
   copied-part s d out at n part is e =
       let more : at + n - at ≡ n = omega arith in
-      e
-      ∙ ap (λ (l : List A). l ++ drop (length part) d) (take-length part)
-      ∙ ap (λ (l : List A). over l d) (is ∙ ap (λ (k : ℕ). take k (drop at s)) more)
+      e ∙ copied-over part d ∙ ap (λ (l : List A). over l d) (is ∙ ap (λ (k : ℕ). take k (drop at s)) more)

@@ -1,6 +1,6 @@
 -- Laws of `tabulate`. Assumes nothing.
 use mathlib.Core.Path.{_≡_, refl, ap, _∙_}
-use mathlib.Core.List.{List, [], _∷_, map}
+use mathlib.Core.List.{List, [], _∷_}
 use Prim.Native.Nat.{ℕ, zero, suc, _≤_, _<_, suc-le-suc, zero-le}
 use native.Mathlib.Nat.{not-suc-le-zero, le-of-suc-le-suc, zero-lt-suc}
 use lib.ListN.{length, getD, take}
@@ -38,11 +38,6 @@ module _ {A : Type 0} where
   tabulate-take zero l d h = refl
   tabulate-take (suc n) [] d h = absurd (not-suc-le-zero h)
   tabulate-take (suc n) (x ∷ xs) d h = ap (λ (t : List A). x ∷ t) (tabulate-take n xs d (le-of-suc-le-suc h))
-
-pub map-tabulate : {A B : Type 0} (g : A → B) (n : ℕ) (f : ℕ → A) → map g (tabulate n f) ≡ tabulate n (λ k. g (f k))
-unfolding tabulate
-map-tabulate g zero f = refl
-map-tabulate {B = B} g (suc n) f = ap (λ (l : List B). g (f 0) ∷ l) (map-tabulate g n (λ k. f (suc k)))
 
 -- a bound on the rule is one on every element
 pub tabulate-le : (n : ℕ) (f : ℕ → ℕ) (b : ℕ) → ((k : ℕ) → f k ≤ b) → (k : ℕ) → getD (tabulate n f) k 0 ≤ b

@@ -9,7 +9,7 @@ use mathlib.Core.List.{List, [], _∷_, _++_}
 use borrow.Rule.Slice.PartMut.{putMid}
 use borrow.Author.Tests.{lt-ltb, le-ltb}
 use lib.ListN.{length, getD, take, drop, set, length-drop, length-set}
-use lib.Seq.{length-take-le, take-length, getD-set-same, getD-set-other}
+use lib.Seq.{length-take-le, getD-set-same, getD-set-other}
 use Rattle.lists.specs.Over.{over}
 use Rattle.lists.proofs.Parts.{tail-part, tail-put}
 use Rattle.pack.specs.Least.{Body, scan, least, leastRecords}
@@ -38,10 +38,6 @@ pub record-length : (c : ℕ) (row : List ℕ) → shownBy c ≤ length row → 
 record-length c row h = omega (arith, length-take-le (shownBy c) row h)
 
 -- ---- its record as it is written
-
--- what `bytes::copy` leaves
-pub copied-over : (s d : List ℕ) → take (length s) s ++ drop (length s) d ≡ over s d
-copied-over s d = ap (λ (l : List ℕ). l ++ drop (length s) d) (take-length s)
 
 -- a literal: the control byte, and then n bytes over the rest of out
 pub literal-room : (c n : ℕ) (row out : List ℕ) → n ≤ length row → n < length out

@@ -36,11 +36,6 @@ planes-le Low = omega arith
 planes-le Medium = omega arith
 planes-le High = omega arith
 
-pub planeRows-le : (r : Resolution) → planeRowsOf r ≤ 800
-planeRows-le Low = omega arith
-planeRows-le Medium = omega arith
-planeRows-le High = omega arith
-
 -- ---- bounds
 
 -- a pixel's group is one of the scan line's
@@ -60,13 +55,6 @@ pub plane-row : (r : Resolution) (y p : ℕ) → y < heightOf r → p < planesOf
 plane-row Low y p h k = omega arith
 plane-row Medium y p h k = omega arith
 plane-row High y p h k = omega arith
-
--- a word lies within the screen
-pub word-within : (r : Resolution) (y g p : ℕ) → y < heightOf r → g < groupsOf r → p < planesOf r → wordOffset r y g p + 1 < screenBytes
-unfolding groupOffset wordOffset
-word-within Low y g p h k l = omega arith
-word-within Medium y g p h k l = omega arith
-word-within High y g p h k l = omega arith
 
 -- a scan line lies within the screen
 pub line-within : (r : Resolution) (y : ℕ) → y < heightOf r → y * lineBytesOf r + lineBytesOf r ≤ screenBytes

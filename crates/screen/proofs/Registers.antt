@@ -1,6 +1,6 @@
 -- Laws of registers: a register is below 2 ^ planes, and is made of one bit of one byte of each plane. Assumes nothing.
-use mathlib.Core.Path.{_≡_, refl, sym, ap, ap₂, _∙_}
-use mathlib.Core.List.{List, [], _∷_}
+use mathlib.Core.Path.{_≡_, sym, ap, ap₂, _∙_}
+use mathlib.Core.List.{List}
 use Prim.Native.Nat.{ℕ, zero, suc, _+_, _-_, _*_, _/_, _%_, _^_, _<_}
 use native.Mathlib.Nat.{add-zero}
 use native.Mathlib.Omega.{arith}
@@ -13,9 +13,8 @@ use Rattle.lists.proofs.Digits.{sum-lt}
 use Rattle.lists.proofs.Sum.{sum-ext}
 use Rattle.words.specs.Word.{wordAt}
 use Rattle.resolution.specs.declared.Resolution.{Resolution}
-use Rattle.resolution.specs.declared.Resolution.the-variants.{Low}
 use Rattle.resolution.specs.Shapes.{planesOf, registersOf}
-use Rattle.screen.specs.Registers.{groupOffset, wordOffset, pixelBit, register}
+use Rattle.screen.specs.Registers.{wordOffset, pixelBit, register}
 
 -- ---- bounds
 
@@ -62,10 +61,3 @@ register-byte s r h k y bytes l =
     (λ p hp.
     ap₂ (λ (i j : ℕ). pixelBit (wordAt s (wordOffset r y i p)) j * 2 ^ p) g x
     ∙ ap (λ (b : ℕ). b * 2 ^ p) (pixel-byte s (wordOffset r y (h / 2) p) (h % 2) k bytes (omega arith) l))
-
--- ---- document 01's example
-
--- plane words 8000, 0000, 8000, 0000: the first register
-pub example-first-register : register (0x80 ∷ 0 ∷ 0 ∷ 0 ∷ 0x80 ∷ 0 ∷ 0 ∷ 0 ∷ []) Low 0 0 ≡ 5
-unfolding register groupOffset wordOffset wordAt pixelBit sum
-example-first-register = refl

@@ -22,21 +22,12 @@ use Rattle.pack.proofs.Bounds.{least-bound}
 use Rattle.pack.proofs.Pack.{pack-done}
 use Rattle.pack_rows.specs.LeastRows.{leastRows, leastRowsRecords}
 use Rattle.pack_rows.proofs.LeastRows.{leastRecords-bound, leastRows-next, leastRowsRecords-next, leastRows-past, leastRowsRecords-past}
+use Rattle.resolution.proofs.Shapes.{rowBytes-le, planeRows-le}
 use Rattle.screen.specs.PlaneRows.{planeRow, planeRows, takeRow}
 use Rattle.screen.proofs.Judged.{judgeRow-accepted}
 use Rattle.screen.proofs.PlaneRows.{length-planeRow, length-planeRows, getD-planeRows}
 
 -- ---- numbers that hold at every resolution
-
-pub rowBytes-le : (r : Resolution) → rowBytesOf r ≤ 80
-rowBytes-le Low = omega arith
-rowBytes-le Medium = omega arith
-rowBytes-le High = omega arith
-
-pub planeRows-le : (r : Resolution) → planeRowsOf r ≤ 800
-planeRows-le Low = omega arith
-planeRows-le Medium = omega arith
-planeRows-le High = omega arith
 
 rowBytes-range : (r : Resolution) → widthOutOfRange (rowBytesOf r) ≡ false
 rowBytes-range Low = refl

@@ -8,7 +8,8 @@ use Rattle.lists.specs.Over.{over}
 use Rattle.pack.specs.Controls.{shownBy}
 use lib.ListN.{length, take, set, length-set}
 use lib.Seq.{length-take-le}
-use Rattle.pack.proofs.Controls.{shown-literal, taken-literal, shown-repeat, taken-repeat, literal-written, repeat-written, literal-room, record-length, copied-over}
+use Rattle.lists.proofs.Parts.{copied-over}
+use Rattle.pack.proofs.Controls.{shown-literal, taken-literal, shown-repeat, taken-repeat, literal-written, repeat-written, literal-room, record-length}
 use borrow.Author.Needs.{needs}
 use Rattle.pack.proofs.put_record.Statement.{statement}
 use Rattle.pack.proofs.put_record.Tie as tie

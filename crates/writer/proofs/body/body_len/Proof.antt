@@ -7,7 +7,8 @@ use lib.ListN.{length, drop}
 use Rattle.resolution.specs.Shapes.{planeRowsOf}
 use Rattle.pack_rows.specs.LeastRows.{leastRows}
 use Rattle.screen.specs.PlaneRows.{planeRows}
-use Rattle.writer.proofs.LeastBody.{planeRows-le, row-bound, length-next, length-past}
+use Rattle.resolution.proofs.Shapes.{planeRows-le}
+use Rattle.writer.proofs.LeastBody.{row-bound, length-next, length-past}
 use borrow.Author.Needs.{needs}
 use Rattle.writer.proofs.body.body_len.Statement.{statement}
 use Rattle.writer.proofs.body.body_len.Tie as tie

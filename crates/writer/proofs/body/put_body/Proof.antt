@@ -4,7 +4,8 @@ use Prim.Native.Nat.{_-_, _≤_, _<_}
 use native.Mathlib.Omega.{arith}
 use denote.Ref.{now}
 use Rattle.resolution.specs.Shapes.{planeRowsOf}
-use Rattle.writer.proofs.LeastBody.{planeRows-le, row-bound, row-records, RowsWritten, rows-start, row-fits, row-written, rows-end}
+use Rattle.resolution.proofs.Shapes.{planeRows-le}
+use Rattle.writer.proofs.LeastBody.{row-bound, row-records, RowsWritten, rows-start, row-fits, row-written, rows-end}
 use borrow.Author.Needs.{needs}
 use Rattle.writer.proofs.body.put_body.Statement.{statement}
 use Rattle.writer.proofs.body.put_body.Tie as tie
