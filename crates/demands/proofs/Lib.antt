@@ -1,3 +1,4 @@
+pub mod ByteStrings
 pub mod Files
 pub mod LeastBodies
 pub mod RoundTrips
