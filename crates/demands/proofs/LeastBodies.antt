@@ -71,8 +71,10 @@ module _ (r : Resolution) (screen : List ℕ) where
   }
 
   -- "The least body of a screen is never above 32,800 bytes at low resolution or 32,400 at the other two."
-  pub least-bound : length (leastBody r screen) ≤ mostBytes r
-  least-bound = rw (length-planeRows screen r, rows-most r) at (leastRows-bound (rowBytesOf r) (planeRows screen r) (wide-planeRows screen r))
+  pub least-bound : {body : List ℕ} {n : ℕ} → ShortestBody r screen body n → length body ≤ mostBytes r
+  least-bound s =
+      let rows = leastRows-bound (rowBytesOf r) (planeRows screen r) (wide-planeRows screen r) in
+      omega (arith, s .shortest (least-shortest .unpacks), rw (length-planeRows screen r, rows-most r) at rows)
 
 -- ---- "At each resolution some screen's least body has exactly that many."
 
@@ -108,10 +110,15 @@ pub alternating-bytes : Bytes alternating
 unfolding alternating
 alternating-bytes i = omega (arith, tabulate-le screenBytes (λ o. o % 2) 1 (λ o. omega arith) i)
 
-pub bound-attained : (r : Resolution) → length (leastBody r alternating) ≡ mostBytes r
-bound-attained r =
-    rw (length-planeRows alternating r, rows-most r) at
-    (separate-rows (rowBytesOf r) (rowBytes-pos r) (planeRows alternating r) (wide-planeRows alternating r) (alternating-separate r))
+pub bound-attained : (r : Resolution) {body : List ℕ} {n : ℕ} → ShortestBody r alternating body n → length body ≡ mostBytes r
+bound-attained r s =
+    let rows = separate-rows (rowBytesOf r) (rowBytes-pos r) (planeRows alternating r) (wide-planeRows alternating r) (alternating-separate r) in
+    omega (
+      arith,
+      least-bound r alternating s,
+      least-shortest r alternating .shortest (s .unpacks),
+      rw (length-planeRows alternating r, rows-most r) at rows,
+    )
 
 -- ---- the packed writer
 
@@ -120,7 +127,8 @@ module _ (r : Resolution) (p : Picture) (screen : List ℕ) (out : ℕ) (known :
   judged : writeFile 3 p screen out ≡ writePacked r p screen
   judged = file-form 3 p screen out full room ∙ form-packed 3 p screen r known refl
 
-  -- "the packed writer refuses, with 9, exactly when no byte string under 32,000 bytes unpacks to that screen at that resolution"
+  -- "the packed writer refuses, with 9, exactly when no byte string under 32,000 bytes unpacks to that screen at that resolution"; what
+  -- unpacks to a screen of bytes is a byte string (ByteStrings)
   pub refused-exactly : (writeFile 3 p screen out ≡ refused noPackedBody 0)
       ↔ ((body : List ℕ) (n : ℕ) → UnpacksScreen r body screen n → length body < 32000 → ⊥)
   refused-exactly = (never, must)

@@ -1,4 +1,5 @@
 pub mod Acceptance
+pub mod ByteStrings
 pub mod Examples
 pub mod Files
 pub mod LeastBodies
