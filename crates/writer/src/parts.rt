@@ -74,7 +74,8 @@ pub(crate) fn put_tail(picture: Picture, out: &mut [u8])
     ensures { λ _. ⌜ length (tailBytes picture) ≡ 32 ⌝ }
 {
     let tail = picture.tail;
-    put_tables(tables_of(tail), out);
+    let tables: [[u16; 4]; 4] = tables_of(tail);
+    put_tables(tables, out);
 }
 
 // The screen: the first 32,000 bytes of the area.

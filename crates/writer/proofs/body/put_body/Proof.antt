@@ -38,25 +38,23 @@ put-row-requires c κs =
     let more : l .n < planeRowsOf (s .args .r) = omega (arith, l .inv .0, c .before .loop-test .taken) in
     (s .pre .0, (more, row-fits (now (s .args .screen)) (s .args .r) (now (s .args .out)) (l .out) (l .n) (l .end) (l .records) (s .pre .1) (l .inv .2) more))
 
+-- no row has more than 81 bytes or records
+turn-bounds : (d : tie.After-put-row Inv-loop μ-loop) → (d .put-row .result .bytes ≤ 81) × (d .put-row .result .records ≤ 81)
+turn-bounds d =
+    let l = d .before .before .before .loop in
+    let a = d .before .before .before .before .before .before .before .args in
+    let b = row-bound (now (a .screen)) (a .r) (l .n) in
+    (omega (arith, d .put-row .ensures .0 .0, b), omega (arith, d .put-row .ensures .0 .1, row-records (now (a .screen)) (a .r) (l .n), b))
+
 add-end : tie.Need-add-end Inv-loop μ-loop
 add-end c =
     let l = c .before .before .before .before .before .before .loop in
-    let a = c .before .before .before .before .before .before .before .before .before .before .args in
-    omega (arith, l .inv .1, l .inv .2 .bound, c .before .before .before .put-row .ensures .0 .0, row-bound (now (a .screen)) (a .r) (l .n))
+    omega (arith, l .inv .1, l .inv .2 .bound, turn-bounds (c .before .before .before))
 
 add-records : tie.Need-add-records Inv-loop μ-loop
 add-records c =
     let l = c .before .before .before .before .before .before .before .loop in
-    let a = c .before .before .before .before .before .before .before .before .before .before .before .args in
-    omega (
-      arith,
-      l .inv .1,
-      l .inv .2 .bound,
-      l .inv .2 .few,
-      c .before .before .before .before .put-row .ensures .0 .1,
-      row-records (now (a .screen)) (a .r) (l .n),
-      row-bound (now (a .screen)) (a .r) (l .n),
-    )
+    omega (arith, l .inv .1, l .inv .2 .bound, l .inv .2 .few, turn-bounds (c .before .before .before .before))
 
 add-n : tie.Need-add-n Inv-loop μ-loop
 add-n c = search needs
