@@ -235,9 +235,9 @@ fn row_above(random: &mut Random, costs: &[usize], least: usize) -> usize {
     }
 }
 
-/// Where the dear rows of a screen stand.
+/// Where the costly rows of a screen stand.
 #[derive(Clone, Copy, PartialEq, Eq)]
-pub enum DearRows {
+pub enum CostlyRows {
     First,
     Last,
     Mixed,
@@ -245,11 +245,11 @@ pub enum DearRows {
 
 /// A screen whose least body has `body` bytes, of rows that cost as much as
 /// they can and rows that cost 2 bytes, with at most two rows between.
-pub fn screen_of_dear_rows(
+pub fn screen_of_costly_rows(
     random: &mut Random,
     resolution: u16,
     body: usize,
-    order: DearRows,
+    order: CostlyRows,
 ) -> Vec<u8> {
     let shape = shape_of(resolution);
     let mut costs = vec![2; shape.plane_rows()];
@@ -263,9 +263,9 @@ pub fn screen_of_dear_rows(
         left -= more;
     }
     match order {
-        DearRows::First => {}
-        DearRows::Last => costs.reverse(),
-        DearRows::Mixed => shuffle(random, &mut costs),
+        CostlyRows::First => {}
+        CostlyRows::Last => costs.reverse(),
+        CostlyRows::Mixed => shuffle(random, &mut costs),
     }
     screen_with_costs(random, &shape, &costs)
 }

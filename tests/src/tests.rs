@@ -111,8 +111,8 @@ fn bodies_have_the_length_asked_for() {
         for body in (31_985..=32_005).chain([31_900, 32_400]) {
             let screen = generate::screen_with_body(&mut random, resolution, body);
             assert_eq!(least_body(&shape, &screen).0.len(), body);
-            let order = generate::DearRows::Mixed;
-            let screen = generate::screen_of_dear_rows(&mut random, resolution, body, order);
+            let order = generate::CostlyRows::Mixed;
+            let screen = generate::screen_of_costly_rows(&mut random, resolution, body, order);
             assert_eq!(least_body(&shape, &screen).0.len(), body);
         }
         for body in [31_999, 32_000] {

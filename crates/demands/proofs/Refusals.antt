@@ -4,6 +4,7 @@ use mathlib.Core.Path.{refl}
 use mathlib.Core.List.{List}
 use Prim.Native.Nat.{ℕ}
 use lib.ListN.{length}
+use Rattle.lists.specs.Over.{over}
 use Rattle.outcome.specs.Outcome.{Outcome, accepted, refused}
 use Rattle.packbits.specs.Row.{Row}
 use Rattle.packbits.specs.Unpack.{unpackRow}
@@ -14,9 +15,12 @@ use Rattle.tally.specs.Counts.{tallied}
 use Rattle.colour.specs.Palette.{Rgb}
 use Rattle.colour.specs.Shown.{shown}
 use Rattle.pond.specs.declared.Legend.{Legend}
-use Rattle.pond.specs.Reading.{Pond, pondReading}
+use Rattle.pond.specs.declared.PondCounts.{PondCounts}
+use Rattle.pond.specs.Reading.{pondReading}
+use Rattle.picture.specs.declared.Picture.{Picture}
 use Rattle.reader.specs.Reading.{Reading, readFile}
-use Rattle.demands.specs.Refusals.{Kept, RowRefusal, TallyRefusal, ColourRefusal, PondRefusal, ReadRefusal}
+use Rattle.writer.specs.Write.{Writing, writeFile}
+use Rattle.demands.specs.Refusals.{Kept, RowRefusal, TallyRefusal, ColourRefusal, PondRefusal, ReadRefusal, WriteRefusal}
 
 -- ---- any outcome
 
@@ -36,7 +40,7 @@ colour-refusal : (o : Outcome Rgb) → ColourRefusal o
 colour-refusal (accepted c) h = absurd (h refl)
 colour-refusal (refused number place) h = (refl, refl, refl)
 
-pond-refusal : (o : Outcome Pond) → PondRefusal o
+pond-refusal : (o : Outcome PondCounts) → PondRefusal o
 pond-refusal (accepted p) h = absurd (h refl)
 pond-refusal (refused number place) h = (refl, refl, refl)
 
@@ -44,10 +48,17 @@ read-refusal : (o : Outcome Reading) (area : List ℕ) → ReadRefusal o area
 read-refusal (accepted q) area h = absurd (h refl)
 read-refusal (refused number place) area h = (refl, refl, refl, refl)
 
+write-refusal : (o : Outcome Writing) (out : List ℕ) → WriteRefusal o out
+write-refusal (accepted w) out h = absurd (h refl)
+write-refusal (refused number place) out h = (refl, refl, refl, refl)
+
 -- ---- each public operation
 
 pub read-refused : (kind : ℕ) (file area : List ℕ) → ReadRefusal (readFile kind file (length area)) area
 read-refused kind file area = read-refusal (readFile kind file (length area)) area
+
+pub write-refused : (form : ℕ) (p : Picture) (screen out : List ℕ) → WriteRefusal (writeFile form p screen (length out)) out
+write-refused form p screen out = write-refusal (writeFile form p screen (length out)) out
 
 pub pack-refused : (row out : List ℕ) → RowRefusal (packRow row (length out)) out
 pack-refused row out = row-refusal (packRow row (length out)) out
@@ -55,12 +66,11 @@ pack-refused row out = row-refusal (packRow row (length out)) out
 pub unpack-refused : (packed : List ℕ) (width : ℕ) (out : List ℕ) → RowRefusal (unpackRow packed width (length out)) out
 unpack-refused packed width out = row-refusal (unpackRow packed width (length out)) out
 
--- line out may change its output, and line in its screen, in whichever way an accepted line does
-pub line-out-refused : (screen : List ℕ) (number y : ℕ) (out : List ℕ) (gives : List ℕ → List ℕ) → Kept (lineOut screen number y (length out)) gives out
-line-out-refused screen number y out gives = kept (lineOut screen number y (length out)) gives out
+pub line-out-refused : (screen : List ℕ) (number y : ℕ) (out : List ℕ) → Kept (lineOut screen number y (length out)) (λ l. over l out) out
+line-out-refused screen number y out = kept (lineOut screen number y (length out)) (λ l. over l out) out
 
-pub line-in-refused : (screen : List ℕ) (number y : ℕ) (line : List ℕ) (gives : List ℕ → List ℕ) → Kept (lineIn screen number y line) gives screen
-line-in-refused screen number y line gives = kept (lineIn screen number y line) gives screen
+pub line-in-refused : (screen : List ℕ) (number y : ℕ) (line : List ℕ) → Kept (lineIn screen number y line) (λ s. s) screen
+line-in-refused screen number y line = kept (lineIn screen number y line) (λ s. s) screen
 
 pub colour-refused : (number : ℕ) (palette : List ℕ) (register : ℕ) → ColourRefusal (shown number palette register)
 colour-refused number palette register = colour-refusal (shown number palette register)

@@ -27,7 +27,7 @@ unfolding tabulate
 wide-tabulate width zero f h = tt
 wide-tabulate width (suc n) f h = (h 0, wide-tabulate width n (λ k. f (suc k)) (λ k. h (suc k)))
 
-wide-planeRows : (s : List ℕ) (r : Resolution) → Wide (rowBytesOf r) (planeRows s r)
+pub wide-planeRows : (s : List ℕ) (r : Resolution) → Wide (rowBytesOf r) (planeRows s r)
 unfolding planeRows
 wide-planeRows s r = wide-tabulate (rowBytesOf r) (planeRowsOf r) (λ n. planeRow s r n) (λ n. length-planeRow s r n)
 

@@ -9,9 +9,11 @@ use Rattle.packbits.specs.Row.{Row, rowAnswer, rowOutput}
 use Rattle.tally.specs.Counts.{tallyAnswer}
 use Rattle.colour.specs.Palette.{Rgb}
 use Rattle.colour.specs.Shown.{colourAnswer}
-use Rattle.pond.specs.Reading.{Pond, pondAnswer}
+use Rattle.pond.specs.declared.PondCounts.{PondCounts}
+use Rattle.pond.specs.Reading.{pondAnswer}
 use Rattle.picture.specs.Tables.{noPicture}
 use Rattle.reader.specs.Reading.{Reading, readAnswer, readArea}
+use Rattle.writer.specs.Write.{Writing, writeAnswer, writeOutput}
 
 -- an operation that reports no value, with an area that an accepted value would change
 abbrev pub Kept : {A B : Type 0} → Outcome A → (A → B) → B → Type 0
@@ -28,7 +30,7 @@ TallyRefusal o = (tallyAnswer o .number ≡ 0 → ⊥) → tallyAnswer o .counts
 abbrev pub ColourRefusal : Outcome Rgb → Type 0
 ColourRefusal o = (colourAnswer o .number ≡ 0 → ⊥) → (colourAnswer o .red ≡ 0) × (colourAnswer o .green ≡ 0) × (colourAnswer o .blue ≡ 0)
 
-abbrev pub PondRefusal : Outcome Pond → Type 0
+abbrev pub PondRefusal : Outcome PondCounts → Type 0
 PondRefusal o = (pondAnswer o .number ≡ 0 → ⊥) → (pondAnswer o .sure ≡ 0) × (pondAnswer o .unsure ≡ 0) × (pondAnswer o .other ≡ 0)
 
 -- a reading, with the area for its screen
@@ -36,3 +38,9 @@ abbrev pub ReadRefusal : Outcome Reading → List ℕ → Type 0
 ReadRefusal o area =
     (readAnswer o .number ≡ 0 → ⊥)
     → (readArea o area ≡ area) × (readAnswer o .picture ≡ noPicture) × (readAnswer o .body ≡ 0) × (readAnswer o .records ≡ 0)
+
+-- a writing, with its output
+abbrev pub WriteRefusal : Outcome Writing → List ℕ → Type 0
+WriteRefusal o out =
+    (writeAnswer o .number ≡ 0 → ⊥)
+    → (writeOutput o out ≡ out) × (writeAnswer o .length ≡ 0) × (writeAnswer o .body ≡ 0) × (writeAnswer o .records ≡ 0)

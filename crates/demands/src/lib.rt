@@ -1,1 +1,2 @@
-// What is promised, as theorems: demand 1 in proofs/Refusals.antt, demand 2 in Acceptance and Registers, document 01's examples in Examples.
+// What is promised, as theorems and without functions. Demand 1: proofs/Refusals. Demand 2: Acceptance, Registers, RoundTrips. Demand 3:
+// LeastBodies. Document 01's examples marked P: Examples.

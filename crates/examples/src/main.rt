@@ -96,7 +96,8 @@ fn blank_picture() -> Picture {
     }
 }
 
-// A low screen whose first row has so many equal bytes at its front and whose others have three, written as form 3.
+// A low screen whose first row has so many equal bytes at its front and whose others have three: its least body's length, and what
+// writing it as form 3 gives.
 fn rows_of_three(label: &[u8], first: usize) {
     let mut screen = [0u8; 32000];
     let row = row_of(3);
@@ -109,8 +110,11 @@ fn rows_of_three(label: &[u8], first: usize) {
     screen::put_row(&mut screen, Resolution::Low, 0, &front);
     let mut out = [0u8; 32128];
     let answer = writer::write(writer::PACKED, blank_picture(), &screen, &mut out);
+    let least = pack::packed_len(&front) + 799 * pack::packed_len(&row);
     io::write_all(STDOUT_FILENO, label);
-    io::write_all(STDOUT_FILENO, b": number ");
+    io::write_all(STDOUT_FILENO, b": least body ");
+    io::print_decimal(STDOUT_FILENO, least as u64);
+    io::write_all(STDOUT_FILENO, b", number ");
     io::print_decimal(STDOUT_FILENO, answer.number as u64);
     io::write_all(STDOUT_FILENO, b", body ");
     io::print_decimal(STDOUT_FILENO, answer.body as u64);

@@ -22,7 +22,7 @@ abbrev pub with-byte : ℕ → Body → Body
 with-byte x b = record { bytes = x ∷ b .bytes; records = b .records }
 
 -- A suffix of the row that begins inside a literal: the literal takes `more` bytes after its first one,
--- and `rest` is those bytes with the least body of what follows them.
+-- and `rest` is all its bytes, the first included, with the least body of what follows them.
 pub record Opening : Type 0 where
   pub more : ℕ
   pub rest : Body

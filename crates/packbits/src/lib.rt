@@ -1,5 +1,5 @@
 // PackBits records: what a control byte says, and the record at an offset of a file. Definitions: specs/. Rows are unpacked in the
-// crate unpack and packed in the crate least.
+// crate unpack and packed in the crate pack.
 ghost use mathlib.Core.Path.{_≡_};
 ghost use lib.ListN.{drop};
 ghost use Rattle.outcome.specs.Outcome.{refused};

@@ -1,4 +1,4 @@
-// A picture: what a file holds besides its screen.
+// A picture (document 01's term): what a file holds besides its screen.
 
 // One table of the animation tail.
 #[repr(C)]

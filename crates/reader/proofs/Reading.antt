@@ -4,7 +4,6 @@ use mathlib.Core.List.{List}
 use Prim.Native.Nat.{ℕ, _+_, _-_, _/_, _%_, _^_, _≤_, _<_}
 use native.Mathlib.Omega.{arith}
 use lib.ListN.{length, drop, length-drop}
-use lib.Dec.{ltb, eqb}
 use borrow.Author.Tests.{lt-ltb, le-ltb, eq-eqb, ne-eqb}
 use Rattle.outcome.specs.Outcome.{Outcome, accepted, refused, later}
 use Rattle.outcome.specs.Refusal.{areaTooShort, unknownKind, unknownResolution, wrongLength, wrongFlag, wrongTail}
@@ -16,12 +15,11 @@ use Rattle.unpack_rows.specs.UnpackRows.{Rows, unpackRows, unpackRowsAt, rowsAn
 use Rattle.unpack_rows.proofs.UnpackRows.{RowsBounded, rows-bounded}
 use Rattle.resolution.specs.Shapes.{rowBytesOf, planeRowsOf}
 use Rattle.screen.specs.PlaneRows.{screenOf}
-use Rattle.resolution.specs.declared.Chosen.{Chosen}
 use Rattle.resolution.specs.declared.Chosen.the-variants.{Known, Unknown}
 use Rattle.resolution.specs.declared.Resolution.{Resolution}
 use Rattle.resolution.specs.Choice.{chosen}
 use Rattle.reader.specs.declared.ReadAnswer.{ReadAnswer}
-use Rattle.reader.specs.Reading.{Reading, untailed, withTail, raw, degasResolution, readRaw, tailAfter, readPacked, readChosen, readDegas, readNeo, readFile, readAnswer, readArea}
+use Rattle.reader.specs.Reading.{untailed, withTail, raw, degasResolution, readRaw, tailAfter, readPacked, readChosen, readDegas, readNeo, readFile, readAnswer, readArea}
 
 -- ---- raw DEGAS
 

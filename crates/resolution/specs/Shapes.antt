@@ -4,7 +4,7 @@ use Rattle.resolution.specs.declared.Resolution.{Resolution}
 use Rattle.resolution.specs.declared.Resolution.the-variants.{Low, Medium, High}
 use Rattle.resolution.specs.declared.Shape.{Shape}
 
--- the bytes of a screen, at every resolution
+-- the bytes of a screen (document 01's term: the first 32,000 bytes of a lent area), at every resolution
 abbrev pub screenBytes : ℕ
 screenBytes = 32000
 

@@ -27,14 +27,14 @@ planeRows s r = tabulate (planeRowsOf r) (λ n. planeRow s r n)
 unfoldable pub withRow : List ℕ → Resolution → ℕ → List ℕ → List ℕ
 withRow s r n row = stores (rowBytesOf r) (rowOffset r n) (λ c. getD row c 0) s
 
--- the plane row and the column of the byte at an offset
+-- the plane row and the column of the byte at an offset: `rowOffset` undone (proofs/PlaneRows.antt, `rowOffset-at`)
 unfoldable pub rowAt : Resolution → ℕ → ℕ
 rowAt r o = o / lineBytesOf r * planesOf r + o / 2 % planesOf r
 
 unfoldable pub columnAt : Resolution → ℕ → ℕ
 columnAt r o = o % lineBytesOf r / (planesOf r * 2) * 2 + o % 2
 
--- the screen that is made from plane rows
+-- the screen that is made from plane rows: its plane rows are these (proofs/PlaneRows.antt, `rows-of-screen`)
 unfoldable pub screenOf : Resolution → List (List ℕ) → List ℕ
 screenOf r rows = tabulate screenBytes (λ o. getD (getD rows (rowAt r o) []) (columnAt r o) 0)
 

@@ -22,7 +22,7 @@ use Rattle.pack.proofs.Bounds.{least-bound}
 use Rattle.pack.proofs.Pack.{pack-done}
 use Rattle.pack_rows.specs.LeastRows.{leastRows, leastRowsRecords}
 use Rattle.pack_rows.proofs.LeastRows.{leastRecords-bound, leastRows-next, leastRowsRecords-next, leastRows-past, leastRowsRecords-past}
-use Rattle.resolution.proofs.Shapes.{rowBytes-le, planeRows-le}
+use Rattle.resolution.proofs.Shapes.{rowBytes-le}
 use Rattle.screen.specs.PlaneRows.{planeRow, planeRows, takeRow}
 use Rattle.screen.proofs.Judged.{judgeRow-accepted}
 use Rattle.screen.proofs.PlaneRows.{length-planeRow, length-planeRows, getD-planeRows}

@@ -269,8 +269,8 @@ pub fn write(comparison: &mut Comparison, random: &mut Random) {
     }
     comparison.section("write: bodies around 32,000");
     bodies_around_limit(comparison, random);
-    comparison.section("write: dear and cheap rows");
-    dear_and_cheap_rows(comparison, random);
+    comparison.section("write: costly and cheap rows");
+    costly_and_cheap_rows(comparison, random);
     comparison.section("write: greatest bodies");
     greatest_bodies(comparison, random);
     comparison.section("write: random");
@@ -318,11 +318,11 @@ fn bodies_around_limit(comparison: &mut Comparison, random: &mut Random) {
 
 /// Bodies around the limit whose last rows are cheap, so that all but the very
 /// end of the room is used long before the last row, and the other way round.
-fn dear_and_cheap_rows(comparison: &mut Comparison, random: &mut Random) {
+fn costly_and_cheap_rows(comparison: &mut Comparison, random: &mut Random) {
     for resolution in RESOLUTIONS {
-        for order in [DearRows::First, DearRows::Last, DearRows::Mixed] {
+        for order in [CostlyRows::First, CostlyRows::Last, CostlyRows::Mixed] {
             for body in (31_900..=31_990).step_by(15).chain(31_992..=32_003) {
-                let screen = screen_of_dear_rows(random, resolution, body, order);
+                let screen = screen_of_costly_rows(random, resolution, body, order);
                 let picture = picture(random, resolution);
                 comparison.write(FORM_ELITE_PACKED, picture, &screen, WRITE_AREA_BYTES);
             }

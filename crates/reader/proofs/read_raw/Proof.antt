@@ -1,5 +1,5 @@
 -- `reader::read_raw` meets its contract: the file's length picks the case of `readRaw`. Assumes nothing.
-use mathlib.Core.Path.{refl, ap, _∙_}
+use mathlib.Core.Path.{refl}
 use native.Mathlib.Omega.{arith}
 use denote.Ref.{now}
 use Rattle.reader.proofs.Reading.{raw-plain, raw-tail, raw-length}

@@ -1,5 +1,5 @@
 -- `reader::body::write_rows` meets its contract. The invariant is `Written`, with what the locals are. Assumes nothing.
-use mathlib.Core.Path.{_≡_, refl, sym, ap, _∙_}
+use mathlib.Core.Path.{_≡_, refl}
 use Prim.Native.Nat.{_+_, _-_, _≤_}
 use native.Mathlib.Omega.{arith}
 use lib.ListN.{length}
@@ -7,7 +7,6 @@ use denote.Ref.{now}
 use borrow.Author.Needs.{needs}
 use Rattle.unpack_rows.specs.UnpackRows.{rowsAnswer}
 use Rattle.resolution.specs.Shapes.{rowBytesOf, planeRowsOf}
-use Rattle.resolution.proofs.Shapes.{planeRows-le}
 use Rattle.reader.proofs.BodyRows.{bodyRows, Written, written-start, written-turn, written-done}
 use Rattle.reader.proofs.body.write_rows.Statement.{statement}
 use Rattle.reader.proofs.body.write_rows.Tie as tie

@@ -1,8 +1,5 @@
 -- `reader::parts::table_at` meets its contract: the four words are those of the rule. Assumes nothing.
 use borrow.Author.Needs.{needs}
-use mathlib.Core.Path.{_≡_, ap}
-use Prim.Native.Nat.{ℕ, _+_, _*_}
-use native.Mathlib.Omega.{arith}
 use native.Mathlib.Nat.{add-zero}
 use Rattle.lists.specs.Tabulate.{tabulate}
 use Rattle.words.specs.Word.{wordsAt}
