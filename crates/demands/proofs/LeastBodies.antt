@@ -27,7 +27,7 @@ use Rattle.screen.proofs.PlaneRows.{length-planeRows, getD-planeRows}
 use Rattle.picture.specs.declared.Picture.{Picture}
 use Rattle.writer.specs.Layout.{packedFile}
 use Rattle.writer.specs.Write.{Writing, leastBody, writePacked, writeFile}
-use Rattle.writer.proofs.LeastBody.{rowBytes-le}
+use Rattle.resolution.proofs.Shapes.{rowBytes-le}
 use Rattle.writer.proofs.WriteFile.{packed-refused, packed-accepted, form-packed, file-form}
 use Rattle.demands.specs.Screens.{UnpacksScreen}
 use Rattle.demands.specs.LeastBodies.{WritersRows, noRow, nextRow, ShortestBody, WritesPacked, mostBytes, alternating}
