@@ -96,6 +96,14 @@ fn blank_picture() -> Picture {
     }
 }
 
+// The length of a row's least body, which is at most 129.
+fn row_len(row: &[u8]) -> usize
+    ensures { λ r. ⌜ r ≤ 129 ⌝ }
+{
+    let n = pack::packed_len(row);
+    if n < pack::MAX_BODY { n } else { pack::MAX_BODY }
+}
+
 // A low screen whose first row has so many equal bytes at its front and whose others have three: its least body's length, and what
 // writing it as form 3 gives.
 fn rows_of_three(label: &[u8], first: usize) {
@@ -110,7 +118,7 @@ fn rows_of_three(label: &[u8], first: usize) {
     screen::put_row(&mut screen, Resolution::Low, 0, &front);
     let mut out = [0u8; 32128];
     let answer = writer::write(writer::PACKED, blank_picture(), &screen, &mut out);
-    let least = pack::packed_len(&front) + 799 * pack::packed_len(&row);
+    let least = row_len(&front) + 799 * row_len(&row);
     io::write_all(STDOUT_FILENO, label);
     io::write_all(STDOUT_FILENO, b": least body ");
     io::print_decimal(STDOUT_FILENO, least as u64);

@@ -7,10 +7,10 @@ use Rattle.examples.proofs.rows_of_three.Statement.{statement}
 use Rattle.examples.proofs.rows_of_three.Tie as tie
 
 abbrev Inv-loop : tie.InvT-loop
-Inv-loop label first screen₀ row n₀ t9 t10 t11 screen n = (n ≤ 800) × (length screen ≡ 32000) × (length row ≡ 40)
+Inv-loop label first screen₀ row n₀ t10 t11 t12 t13 screen n = (n ≤ 800) × (length screen ≡ 32000) × (length row ≡ 40)
 
 abbrev μ-loop : tie.MeasureT-loop
-μ-loop label first screen₀ row n₀ t9 t10 t11 screen n = 800 - n
+μ-loop label first screen₀ row n₀ t10 t11 t12 t13 screen n = 800 - n
 
 row-of-requires : tie.Need-row-of-requires Inv-loop μ-loop
 row-of-requires c κs = search needs
@@ -60,6 +60,24 @@ slice-aggregate-write-2 c = search needs
 write-requires : tie.Need-write-requires Inv-loop μ-loop
 write-requires c κs = search needs
 
+slice-aggregate-row-len : tie.Need-slice-aggregate-row-len Inv-loop μ-loop
+slice-aggregate-row-len c = search needs
+
+row-len-requires : tie.Need-row-len-requires Inv-loop μ-loop
+row-len-requires c κs = search needs
+
+slice-aggregate-row-len-2 : tie.Need-slice-aggregate-row-len-2 Inv-loop μ-loop
+slice-aggregate-row-len-2 c = search needs
+
+row-len-requires-2 : tie.Need-row-len-requires-2 Inv-loop μ-loop
+row-len-requires-2 c κs = search needs
+
+mul-least : tie.Need-mul-least Inv-loop μ-loop
+mul-least c = search needs
+
+add-least : tie.Need-add-least Inv-loop μ-loop
+add-least c = search needs
+
 write-all-requires : tie.Need-write-all-requires Inv-loop μ-loop
 write-all-requires c κs = search needs
 
@@ -68,9 +86,6 @@ slice-aggregate-write-all c = search needs
 
 write-all-requires-2 : tie.Need-write-all-requires-2 Inv-loop μ-loop
 write-all-requires-2 c κs = search needs
-
-cast-print-decimal : tie.Need-cast-print-decimal Inv-loop μ-loop
-cast-print-decimal c = search needs
 
 print-decimal-requires : tie.Need-print-decimal-requires Inv-loop μ-loop
 print-decimal-requires c κs = search needs
@@ -81,6 +96,9 @@ slice-aggregate-write-all-2 c = search needs
 write-all-requires-3 : tie.Need-write-all-requires-3 Inv-loop μ-loop
 write-all-requires-3 c κs = search needs
 
+cast-print-decimal : tie.Need-cast-print-decimal Inv-loop μ-loop
+cast-print-decimal c = search needs
+
 print-decimal-requires-2 : tie.Need-print-decimal-requires-2 Inv-loop μ-loop
 print-decimal-requires-2 c κs = search needs
 
@@ -89,6 +107,15 @@ slice-aggregate-write-all-3 c = search needs
 
 write-all-requires-4 : tie.Need-write-all-requires-4 Inv-loop μ-loop
 write-all-requires-4 c κs = search needs
+
+print-decimal-requires-3 : tie.Need-print-decimal-requires-3 Inv-loop μ-loop
+print-decimal-requires-3 c κs = search needs
+
+slice-aggregate-write-all-4 : tie.Need-slice-aggregate-write-all-4 Inv-loop μ-loop
+slice-aggregate-write-all-4 c = search needs
+
+write-all-requires-5 : tie.Need-write-all-requires-5 Inv-loop μ-loop
+write-all-requires-5 c κs = search needs
 
 returns : tie.Need-returns Inv-loop μ-loop
 returns c = search needs
@@ -115,14 +142,23 @@ rows-of-three-spec =
     slice-aggregate-write
     slice-aggregate-write-2
     write-requires
+    slice-aggregate-row-len
+    row-len-requires
+    slice-aggregate-row-len-2
+    row-len-requires-2
+    mul-least
+    add-least
     write-all-requires
     slice-aggregate-write-all
     write-all-requires-2
-    cast-print-decimal
     print-decimal-requires
     slice-aggregate-write-all-2
     write-all-requires-3
+    cast-print-decimal
     print-decimal-requires-2
     slice-aggregate-write-all-3
     write-all-requires-4
+    print-decimal-requires-3
+    slice-aggregate-write-all-4
+    write-all-requires-5
     returns)
