@@ -1,6 +1,6 @@
 #!/bin/sh
 # Compares the struct layouts of the C header with those of the Rust side.
-# KUTIMUQ_INCLUDE names the header's folder, default include/ beside this script.
+# KUTIMUQ_INCLUDE names the header's folder, default include/ of the repository.
 set -eu
 
 here=$(cd "$(dirname "$0")" && pwd)

@@ -101,7 +101,11 @@ fn row_len(row: &[u8]) -> usize
     ensures { λ r. ⌜ r ≤ 129 ⌝ }
 {
     let n = pack::packed_len(row);
-    if n < pack::MAX_BODY { n } else { pack::MAX_BODY }
+    if n < pack::MAX_BODY {
+        n
+    } else {
+        pack::MAX_BODY
+    }
 }
 
 // A low screen whose first row has so many equal bytes at its front and whose others have three: its least body's length, and what
