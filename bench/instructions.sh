@@ -16,6 +16,10 @@ collected() {
 instructions() {
     twice=$(collected "$@" 2)
     once=$(collected "$@" 1)
+    if [ "$twice" -le "$once" ]; then
+        echo "no count of: $*" >&2
+        exit 1
+    fi
     echo $((twice - once))
 }
 

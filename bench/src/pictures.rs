@@ -78,7 +78,7 @@ impl Subject {
         }
     }
 
-    /// The first plane row's first bytes, or so many bytes in its manner.
+    /// The first `width` bytes of plane 0, line after line.
     pub fn row(&self, width: usize) -> Vec<u8> {
         let row = |line| (0..self.shape.row_bytes).map(move |i| (line, i));
         let bytes = (0..).flat_map(row).map(|(line, i)| self.shape.row_byte_offset(line, 0, i));
