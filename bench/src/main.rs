@@ -1,0 +1,63 @@
+//! How fast the library is, beside plain Rust and memcpy, in one process.
+//!
+//! Usage: kutimuq-bench
+//!        kutimuq-bench --once OPERATION SCREEN RESOLUTION N
+//!
+//! The second form does one operation N times, for a count of instructions. OPERATION is a name
+//! of the table, `rust-` and such a name, or `memcpy`; or `pack-row` or `rust-pack-row`, with a
+//! row width in place of the resolution.
+
+mod operations;
+mod pictures;
+mod plain;
+mod times;
+
+use std::process::ExitCode;
+
+use operations::{By, OPERATIONS};
+use pictures::{Subject, KINDS, RESOLUTIONS};
+
+fn main() -> ExitCode {
+    let arguments: Vec<String> = std::env::args().skip(1).collect();
+    let words: Vec<&str> = arguments.iter().map(String::as_str).collect();
+    let done = match words[..] {
+        [] => {
+            times::print_tables();
+            Some(())
+        }
+        ["--once", operation, screen, size, times] => once(operation, screen, size, times),
+        _ => None,
+    };
+    if done.is_none() {
+        eprintln!("usage: kutimuq-bench [--once OPERATION SCREEN RESOLUTION N]");
+        return ExitCode::from(2);
+    }
+    ExitCode::SUCCESS
+}
+
+fn once(operation: &str, screen: &str, size: &str, times: &str) -> Option<()> {
+    let times: usize = times.parse().ok()?;
+    let kind = named(&KINDS, screen)?;
+    let (name, by) = match operation.strip_prefix("rust-") {
+        Some(name) => (name, By::Plain),
+        None => (operation, By::Library),
+    };
+    if name == "pack-row" {
+        let row = Subject::new(kind, 0).row(size.parse().ok()?);
+        let mut out = [0; 129];
+        (0..times).for_each(|_| operations::pack_row(by, &row, &mut out));
+        return Some(());
+    }
+    let mut subject = Subject::new(kind, named(&RESOLUTIONS, size)?);
+    if name == "memcpy" {
+        (0..times).for_each(|_| operations::copy(&mut subject));
+        return Some(());
+    }
+    let operation = named(&OPERATIONS, name)?;
+    (0..times).for_each(|_| operations::run(operation, by, &mut subject));
+    Some(())
+}
+
+fn named<T: Copy>(table: &[(T, &str)], name: &str) -> Option<T> {
+    table.iter().find(|entry| entry.1 == name).map(|entry| entry.0)
+}
