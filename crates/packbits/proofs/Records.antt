@@ -1,5 +1,5 @@
 -- Laws of records. Assumes nothing.
-use mathlib.Core.Path.{_≡_, refl, ap}
+use mathlib.Core.Path.{_≡_, refl, sym, ap, _∙_}
 use Prim.Native.Nat.{ℕ, suc, _+_, _-_, _≤_, _<_}
 use native.Mathlib.Omega.{arith}
 use mathlib.Core.Bool.{Bool, true, false, cond}
@@ -10,7 +10,7 @@ use lib.Dec.{ltb}
 use borrow.Author.Tests.{lt-ltb, le-ltb, ne-eqb, ltb-false}
 use Rattle.packbits.specs.declared.Record.{Record}
 use Rattle.packbits.specs.declared.Record.the-variants.{Literal, Repeat, Nothing, Truncated, Crossing}
-use Rattle.packbits.specs.Records.{control, packedLen, rowLen, rowBytes, fault, recordAt}
+use Rattle.packbits.specs.Records.{control, packedLen, rowLen, rowBytes, fault, judged, recordAt}
 
 -- ---- a control byte
 
@@ -26,11 +26,23 @@ pub control-repeat : (x : ℕ) → 128 < x → control x ≡ Repeat (257 - x)
 unfolding control
 control-repeat x h = simp (le-ltb x 128 (omega arith), ne-eqb x 128 (omega arith))
 
+-- ---- a record judged
+
+module _ (r : Record) (left room : ℕ) where
+  pub judged-crossing : room < rowLen r → judged r left room ≡ Crossing
+  judged-crossing h = simp (lt-ltb room (rowLen r) h)
+
+  pub judged-truncated : rowLen r ≤ room → left < packedLen r → judged r left room ≡ Truncated
+  judged-truncated h k = simp (le-ltb room (rowLen r) h, lt-ltb left (packedLen r) k)
+
+  pub judged-whole : rowLen r ≤ room → packedLen r ≤ left → judged r left room ≡ r
+  judged-whole h k = simp (le-ltb room (rowLen r) h, le-ltb left (packedLen r) k)
+
 -- ---- the record at the front of a list
 
 pub whole-record : (x : ℕ) (rest : List ℕ) (room : ℕ) (r : Record) → r ≡ control x → rowLen r ≤ room → packedLen r ≤ length (x ∷ rest) → recordAt (x ∷ rest) room ≡ r
 unfolding recordAt
-whole-record x rest room r is k l = rw (← is) (simp (le-ltb room (rowLen r) k, le-ltb (suc (length rest)) (packedLen r) l))
+whole-record x rest room r is k l = rw (← is) (judged-whole r (suc (length rest)) room k l)
 
 pub no-record : (room : ℕ) → fault (recordAt [] room) ≡ 0 → ⊥
 unfolding recordAt
@@ -43,22 +55,11 @@ module _ (s : List ℕ) (at room : ℕ) where
   unfolding recordAt
   no-input h = rw (drop-of-length-le s h)
 
-  module _ (r : Record) (h : at < length s) (is : r ≡ control (getD s at 0)) where
-    pub crossing : room < rowLen r → recordAt (drop at s) room ≡ Crossing
-    unfolding recordAt
-    crossing k = rw (drop-cons s at 0 h, ← is) (simp (lt-ltb room (rowLen r) k))
-
-    pub truncated : rowLen r ≤ room → length s - at < packedLen r → recordAt (drop at s) room ≡ Truncated
-    unfolding recordAt
-    truncated k l =
-        let long : length (drop at s) ≡ suc (length (drop (suc at) s)) = ap length (drop-cons s at 0 h) in
-        rw (drop-cons s at 0 h, ← is) (simp (le-ltb room (rowLen r) k, lt-ltb (suc (length (drop (suc at) s))) (packedLen r) (omega (arith, length-drop at s))))
-
-    pub whole : rowLen r ≤ room → packedLen r ≤ length s - at → recordAt (drop at s) room ≡ r
-    unfolding recordAt
-    whole k l =
-        let long : length (drop at s) ≡ suc (length (drop (suc at) s)) = ap length (drop-cons s at 0 h) in
-        rw (drop-cons s at 0 h, ← is) (simp (le-ltb room (rowLen r) k, le-ltb (suc (length (drop (suc at) s))) (packedLen r) (omega (arith, length-drop at s))))
+  pub at-control : at < length s → recordAt (drop at s) room ≡ judged (control (getD s at 0)) (length s - at) room
+  unfolding recordAt
+  at-control h =
+      let long : suc (length (drop (suc at) s)) ≡ length s - at = sym (ap length (drop-cons s at 0 h)) ∙ length-drop at s in
+      rw (drop-cons s at 0 h) (ap (λ (left : ℕ). judged (control (getD s at 0)) left room) long)
 
 -- ---- a whole record takes a byte of input at least and what there is at most, and makes as many bytes as it says, which fit
 

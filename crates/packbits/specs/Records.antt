@@ -46,10 +46,12 @@ fault Nothing = 0
 fault Truncated = inputEnds
 fault Crossing = recordCrosses
 
--- The record at the front of the input, with so much room left in the row. The row's end is judged before missing input.
+-- A record, or its fault, with so many bytes of input left, its control byte included, and so much room in the row. The row's end is
+-- judged before missing input.
+abbrev pub judged : Record → ℕ → ℕ → Record
+judged r left room = cond (ltb room (rowLen r)) Crossing (cond (ltb left (packedLen r)) Truncated r)
+
+-- the record at the front of the input, with so much room left in the row
 unfoldable pub recordAt : List ℕ → ℕ → Record
 recordAt [] room = Truncated
-recordAt (x ∷ rest) room =
-    cond (ltb room (rowLen (control x))) Crossing
-    (cond (ltb (length (x ∷ rest)) (packedLen (control x))) Truncated
-    (control x))
+recordAt (x ∷ rest) room = judged (control x) (length (x ∷ rest)) room

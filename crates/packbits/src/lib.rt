@@ -3,7 +3,7 @@
 ghost use mathlib.Core.Path.{_≡_};
 ghost use lib.ListN.{drop};
 ghost use Rattle.outcome.specs.Outcome.{refused};
-ghost use Rattle.packbits.specs.Records.{control, packedLen, rowLen, fault, recordAt};
+ghost use Rattle.packbits.specs.Records.{control, packedLen, rowLen, fault, judged, recordAt};
 ghost use Rattle.packbits.specs.Row.{rowAnswer};
 use outcome::INPUT_ENDS;
 use outcome::RECORD_CROSSES;
@@ -47,19 +47,6 @@ pub fn row_refused(number: u8) -> RowAnswer
     }
 }
 
-// The record that a control byte begins.
-fn control_of(x: u8) -> Record
-    ensures { λ r. ⌜ r ≡ control x ⌝ }
-{
-    if x < 128 {
-        return Record::Literal(x + 1);
-    }
-    if x == 128 {
-        return Record::Nothing;
-    }
-    Record::Repeat(255 - x + 2)
-}
-
 // How many bytes of input a record takes up, its control byte included.
 pub fn packed_len(r: Record) -> usize
     ensures { λ n. ⌜ n ≡ packedLen r ⌝ }
@@ -99,20 +86,42 @@ pub fn fault_of(r: Record) -> u8
     }
 }
 
-// The record whose control byte stands at an offset. The row's end is judged before missing input.
+// A record that takes up so many bytes of input and makes so many of the row, or its fault. The row's end is judged before missing
+// input.
+fn judge(r: Record, packed: usize, made: usize, left: usize, room: usize) -> Record
+    requires { ⌜ (packed ≡ packedLen r) × (made ≡ rowLen r) ⌝ }
+    ensures { λ q. ⌜ q ≡ judged r left room ⌝ }
+{
+    if room < made {
+        return Record::Crossing;
+    }
+    if left < packed {
+        return Record::Truncated;
+    }
+    r
+}
+
+// The record that a control byte begins, or its fault. So many bytes of input are left, the control byte included.
+fn record_of(x: u8, left: usize, room: usize) -> Record
+    ensures { λ r. ⌜ r ≡ judged (control x) left room ⌝ }
+{
+    if x < 128 {
+        let n = x + 1;
+        return judge(Record::Literal(n), n as usize + 1, n as usize, left, room);
+    }
+    if x == 128 {
+        return judge(Record::Nothing, 1, 0, left, room);
+    }
+    let n = 255 - x + 2;
+    judge(Record::Repeat(n), 2, n as usize, left, room)
+}
+
+// The record whose control byte stands at an offset.
 pub fn record_at(file: &[u8], at: usize, room: usize) -> Record
     ensures { λ r. ⌜ r ≡ recordAt (drop at (now (file .entry))) room ⌝ }
 {
     if file.len() <= at {
         return Record::Truncated;
     }
-    let x = file[at];
-    let r = control_of(x);
-    if room < row_len(r) {
-        return Record::Crossing;
-    }
-    if file.len() - at < packed_len(r) {
-        return Record::Truncated;
-    }
-    r
+    record_of(file[at], file.len() - at, room)
 }

@@ -59,8 +59,10 @@ fn copy_row(screen: &[u8], r: Resolution, n: usize, row: &mut [u8])
     let mut at = row_start(r, n);
     let mut g: usize = 0;
     while g < groups {
-        row[g * 2] = screen[at];
-        row[g * 2 + 1] = screen[at + 1];
+        let high = screen[at];
+        let low = screen[at + 1];
+        row[g * 2] = high;
+        row[g * 2 + 1] = low;
         at += stride;
         g += 1;
     }
@@ -89,8 +91,10 @@ fn store_row(screen: &mut [u8], r: Resolution, n: usize, row: &[u8])
     let mut at = row_start(r, n);
     let mut g: usize = 0;
     while g < groups {
-        screen[at] = row[g * 2];
-        screen[at + 1] = row[g * 2 + 1];
+        let high = row[g * 2];
+        let low = row[g * 2 + 1];
+        screen[at] = high;
+        screen[at + 1] = low;
         at += stride;
         g += 1;
     }

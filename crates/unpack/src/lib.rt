@@ -49,6 +49,10 @@ fn put_literal(file: &[u8], from: usize, n: usize, out: &mut [u8])
     requires { ⌜ n ≤ length (now out) ⌝ }
     ensures { λ _. ⌜ now (out .exit) ≡ over (take n (drop from (now (file .entry)))) (now (out .entry)) ⌝ }
 {
+    if n == 1 {
+        out[0] = file[from];
+        return;
+    }
     let end = from + n;
     bytes::copy(&file[from..end], out);
 }

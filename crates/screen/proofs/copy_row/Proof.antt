@@ -41,8 +41,14 @@ loop-holds c =
     let a = c .before .before .before .before .before .args in
     (first-word (length (a .screen .now)) (words c) (omega arith) (omega arith), omega (arith, row-bytes (words c)), refl, refl)
 
-shared-slice-read-row : tie.Need-shared-slice-read-row Inv-loop μ-loop
-shared-slice-read-row c = omega (arith, at-within (c .before .before .loop .inv .0) (omega arith))
+shared-slice-read-high : tie.Need-shared-slice-read-high Inv-loop μ-loop
+shared-slice-read-high c = omega (arith, at-within (c .before .before .loop .inv .0) (omega arith))
+
+add-low : tie.Need-add-low Inv-loop μ-loop
+add-low c = omega (arith, at-within (c .before .before .loop .inv .0) (omega arith))
+
+shared-slice-read-low : tie.Need-shared-slice-read-low Inv-loop μ-loop
+shared-slice-read-low c = omega (arith, at-within (c .before .before .before .loop .inv .0) (omega arith))
 
 mul-row : tie.Need-mul-row Inv-loop μ-loop
 mul-row c = omega arith
@@ -50,17 +56,11 @@ mul-row c = omega arith
 slice-write-row : tie.Need-slice-write-row Inv-loop μ-loop
 slice-write-row c = omega arith
 
-add-row : tie.Need-add-row Inv-loop μ-loop
-add-row c = omega (arith, at-within (c .before .before .loop .inv .0) (omega arith))
-
-shared-slice-read-row-2 : tie.Need-shared-slice-read-row-2 Inv-loop μ-loop
-shared-slice-read-row-2 c = omega (arith, at-within (c .before .before .before .loop .inv .0) (omega arith))
-
 mul-row-2 : tie.Need-mul-row-2 Inv-loop μ-loop
 mul-row-2 c = omega arith
 
-add-row-2 : tie.Need-add-row-2 Inv-loop μ-loop
-add-row-2 c = omega arith
+add-row : tie.Need-add-row Inv-loop μ-loop
+add-row c = omega arith
 
 slice-write-row-2 : tie.Need-slice-write-row-2 Inv-loop μ-loop
 slice-write-row-2 c = simp length-set (omega arith)
@@ -104,13 +104,13 @@ copy-row-spec =
     mul-stride
     row-start-requires
     loop-holds
-    shared-slice-read-row
+    shared-slice-read-high
+    add-low
+    shared-slice-read-low
     mul-row
     slice-write-row
-    add-row
-    shared-slice-read-row-2
     mul-row-2
-    add-row-2
+    add-row
     slice-write-row-2
     add-at
     add-g

@@ -42,26 +42,26 @@ loop-holds c =
     let a = c .before .before .before .before .before .args in
     (first-word (length (a .screen .now)) (words c) (omega arith) (omega arith), omega (arith, row-bytes (words c)), refl, refl)
 
-mul-screen : tie.Need-mul-screen Inv-loop μ-loop
-mul-screen c = omega arith
+mul-high : tie.Need-mul-high Inv-loop μ-loop
+mul-high c = omega arith
 
-shared-slice-read-screen : tie.Need-shared-slice-read-screen Inv-loop μ-loop
-shared-slice-read-screen c = omega arith
+shared-slice-read-high : tie.Need-shared-slice-read-high Inv-loop μ-loop
+shared-slice-read-high c = omega arith
+
+mul-low : tie.Need-mul-low Inv-loop μ-loop
+mul-low c = omega arith
+
+add-low : tie.Need-add-low Inv-loop μ-loop
+add-low c = omega arith
+
+shared-slice-read-low : tie.Need-shared-slice-read-low Inv-loop μ-loop
+shared-slice-read-low c = omega arith
 
 slice-write-screen : tie.Need-slice-write-screen Inv-loop μ-loop
-slice-write-screen c = omega (arith, at-within (c .before .before .loop .inv .0) (omega arith))
-
-mul-screen-2 : tie.Need-mul-screen-2 Inv-loop μ-loop
-mul-screen-2 c = omega arith
+slice-write-screen c = omega (arith, at-within (c .before .before .before .loop .inv .0) (omega arith))
 
 add-screen : tie.Need-add-screen Inv-loop μ-loop
-add-screen c = omega arith
-
-shared-slice-read-screen-2 : tie.Need-shared-slice-read-screen-2 Inv-loop μ-loop
-shared-slice-read-screen-2 c = omega arith
-
-add-screen-2 : tie.Need-add-screen-2 Inv-loop μ-loop
-add-screen-2 c = omega (arith, at-within (c .before .before .before .loop .inv .0) (omega arith))
+add-screen c = omega (arith, at-within (c .before .before .before .loop .inv .0) (omega arith))
 
 slice-write-screen-2 : tie.Need-slice-write-screen-2 Inv-loop μ-loop
 slice-write-screen-2 c = simp length-set (omega (arith, at-within (c .before .before .before .loop .inv .0) (omega arith)))
@@ -105,13 +105,13 @@ store-row-spec =
     mul-stride
     row-start-requires
     loop-holds
-    mul-screen
-    shared-slice-read-screen
+    mul-high
+    shared-slice-read-high
+    mul-low
+    add-low
+    shared-slice-read-low
     slice-write-screen
-    mul-screen-2
     add-screen
-    shared-slice-read-screen-2
-    add-screen-2
     slice-write-screen-2
     add-at
     add-g

@@ -1,9 +1,25 @@
--- `unpack::put_literal` meets its contract: what `copy` wrote is the part that was lent. Assumes nothing.
+-- `unpack::put_literal` meets its contract: one byte is put by a store, and else what `copy` wrote is the part that was lent. Assumes nothing.
 use mathlib.Core.Path.{refl}
+use native.Mathlib.Omega.{arith}
 use Rattle.lists.proofs.Parts.{copied-part}
 use borrow.Author.Needs.{needs}
+use Rattle.unpack.proofs.Records.{put-one}
 use Rattle.unpack.proofs.put_literal.Statement.{statement}
 use Rattle.unpack.proofs.put_literal.Tie as tie
+
+shared-slice-read-out : tie.Need-shared-slice-read-out
+shared-slice-read-out c = search needs
+
+slice-write-out : tie.Need-slice-write-out
+slice-write-out c = search needs
+
+same-length : tie.Need-same-length
+same-length c = search needs
+
+returns : tie.Need-returns
+returns c =
+    let a = c .before .before .before .before .args in
+    put-one (a .file .now) (a .out .now) (a .from) (a .n) (omega arith) (omega arith) (omega arith)
 
 add-end : tie.Need-add-end
 add-end c = search needs
@@ -20,15 +36,26 @@ part-copy-end c = search needs
 copy-requires : tie.Need-copy-requires
 copy-requires c κs = search needs
 
-same-length : tie.Need-same-length
-same-length c = search needs
+same-length-2 : tie.Need-same-length-2
+same-length-2 c = search needs
 
-returns : tie.Need-returns
-returns c =
-    let a = c .before .before .before .before .before .before .before .args in
+returns-2 : tie.Need-returns-2
+returns-2 c =
+    let a = c .before .before .before .before .before .before .before .before .args in
     copied-part (a .file .now) (a .out .now) _ (a .from) (a .n) _ refl (c .before .before .copy .ensures .1)
 
 pub put-literal-spec : {M : Type 1} → statement M
 put-literal-spec =
     tie.close
-    (tie.spec add-end sub-copy part-copy-start part-copy-end copy-requires same-length returns)
+    (tie.spec
+    shared-slice-read-out
+    slice-write-out
+    same-length
+    returns
+    add-end
+    sub-copy
+    part-copy-start
+    part-copy-end
+    copy-requires
+    same-length-2
+    returns-2)
