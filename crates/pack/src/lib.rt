@@ -171,6 +171,18 @@ struct Put {
     made: usize,
 }
 
+// A literal's bytes to the front of out. A single byte is stored, which costs less than a copy.
+fn put_literal(shown: &[u8], out: &mut [u8])
+    requires { ⌜ length (now shown) ≤ length (now out) ⌝ }
+    ensures { λ _. ⌜ now (out .exit) ≡ over (now (shown .entry)) (now (out .entry)) ⌝ }
+{
+    if shown.len() == 1 {
+        out[0] = shown[0];
+    } else {
+        bytes::copy(shown, out);
+    }
+}
+
 // The record of control byte c, for the front of the row, to the front of out.
 fn put_record(c: u8, row: &[u8], out: &mut [u8]) -> Put
     requires { ⌜ (1 ≤ length (now row)) × (shownBy c ≤ length (now row)) × (shownBy c < length (now out)) ⌝ }
@@ -181,7 +193,7 @@ fn put_record(c: u8, row: &[u8], out: &mut [u8]) -> Put
     let k = c as usize;
     if k < 128 {
         let n = k + 1;
-        bytes::copy(&row[..n], &mut out[1..]);
+        put_literal(&row[..n], &mut out[1..]);
         Put {
             taken: n,
             made: n + 1,

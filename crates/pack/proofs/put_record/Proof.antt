@@ -1,4 +1,4 @@
--- `pack::put_record` meets its contract. What is lent to `copy` is the part of out after the control byte.
+-- `pack::put_record` meets its contract. What is lent to `put_literal` is the part of out after the control byte.
 use Prim.Native.Nat.{ℕ, _+_, _≤_, _<_, _-_}
 use native.Mathlib.Omega.{arith}
 use mathlib.Core.Path.{_≡_, sym, ap, _∙_}
@@ -8,7 +8,6 @@ use Rattle.lists.specs.Over.{over}
 use Rattle.pack.specs.Controls.{shownBy}
 use lib.ListN.{length, take, set, length-set}
 use lib.Seq.{length-take-le}
-use Rattle.lists.proofs.Parts.{copied-over}
 use Rattle.pack.proofs.Controls.{shown-literal, taken-literal, shown-repeat, taken-repeat, literal-written, repeat-written, literal-room, record-length}
 use borrow.Author.Needs.{needs}
 use Rattle.pack.proofs.put_record.Statement.{statement}
@@ -20,29 +19,29 @@ slice-write-out c = search needs
 add-n : tie.Need-add-n
 add-n c = search needs
 
-slice-aggregate-copy : tie.Need-slice-aggregate-copy
-slice-aggregate-copy c =
+slice-aggregate-put-literal : tie.Need-slice-aggregate-put-literal
+slice-aggregate-put-literal c =
     let a = c .before .before .before .before .args in
     sym (length-take-le (a .c + 1) (a .row .now) (omega (arith, shown-literal (a .c) (omega arith))))
 
-sub-copy : tie.Need-sub-copy
-sub-copy c = simp length-set (omega arith)
+sub-put-literal : tie.Need-sub-put-literal
+sub-put-literal c = simp length-set (omega arith)
 
-part-copy-start : tie.Need-part-copy-start
-part-copy-start c = simp length-set (omega arith)
+part-put-literal-start : tie.Need-part-put-literal-start
+part-put-literal-start c = simp length-set (omega arith)
 
-part-copy-end : tie.Need-part-copy-end
-part-copy-end c = search needs
+part-put-literal-end : tie.Need-part-put-literal-end
+part-put-literal-end c = search needs
 
-copy-requires : tie.Need-copy-requires
-copy-requires c κs =
+put-literal-requires : tie.Need-put-literal-requires
+put-literal-requires c κs =
     let a = c .before .before .before .before .before .args in
     let h : a .c < 128 = omega arith in
     let n : shownBy (a .c) ≡ a .c + 1 = shown-literal (a .c) h in
     literal-room (a .c) (a .c + 1) (a .row .now) (a .out .now) (omega arith) (omega arith)
 
-add-t9 : tie.Need-add-t9
-add-t9 c = search needs
+add-t13 : tie.Need-add-t13
+add-t13 c = search needs
 
 shared-slice-read-out : tie.Need-shared-slice-read-out
 shared-slice-read-out c = search needs
@@ -58,7 +57,7 @@ sub-t19 c = search needs
 same-length : tie.Need-same-length
 same-length c =
     let a = c .before .before .before .before .before .before .before .before .args in
-    same-len-mid 1 (length (set (a .out .now) 0 (a .c)) - 1) (set (a .out .now) 0 (a .c)) (c .before .before .copy .last .1 .0) (c .before .before .copy .kept .1 .0) ∙ length-set (a .out .now) 0 (a .c)
+    same-len-mid 1 (length (set (a .out .now) 0 (a .c)) - 1) (set (a .out .now) 0 (a .c)) (c .before .before .put-literal .last .1 .0) (c .before .before .put-literal .kept .1 .0) ∙ length-set (a .out .now) 0 (a .c)
 
 returns : tie.Need-returns
 returns c =
@@ -66,7 +65,7 @@ returns c =
     let h : a .c < 128 = omega arith in
     let n : shownBy (a .c) ≡ a .c + 1 = shown-literal (a .c) h in (
       (sym (taken-literal (a .c) h), omega (arith, record-length (a .c) (a .row .now) (omega arith))),
-      literal-written (a .c) (a .c + 1) (a .row .now) (a .out .now) _ (omega arith) (c .before .before .copy .ensures .1 ∙ copied-over (take (a .c + 1) (a .row .now)) _)
+      literal-written (a .c) (a .c + 1) (a .row .now) (a .out .now) _ (omega arith) (c .before .before .put-literal .ensures)
           ∙ ap (λ (k : ℕ). over (a .c ∷ take k (a .row .now)) (a .out .now)) (sym n),
     )
 
@@ -89,12 +88,12 @@ put-record-spec =
     (tie.spec
     slice-write-out
     add-n
-    slice-aggregate-copy
-    sub-copy
-    part-copy-start
-    part-copy-end
-    copy-requires
-    add-t9
+    slice-aggregate-put-literal
+    sub-put-literal
+    part-put-literal-start
+    part-put-literal-end
+    put-literal-requires
+    add-t13
     shared-slice-read-out
     slice-write-out-2
     sub-t19

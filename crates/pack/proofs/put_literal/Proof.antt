@@ -1,0 +1,43 @@
+-- `pack::put_literal` meets its contract. The copy is the kit's; a single byte is stored.
+use native.Mathlib.Omega.{arith}
+use mathlib.Core.Path.{_∙_}
+use Rattle.lists.proofs.Parts.{copied-over}
+use Rattle.pack.proofs.Controls.{byte-written}
+use borrow.Author.Needs.{needs}
+use Rattle.pack.proofs.put_literal.Statement.{statement}
+use Rattle.pack.proofs.put_literal.Tie as tie
+
+shared-slice-read-out : tie.Need-shared-slice-read-out
+shared-slice-read-out c = search needs
+
+slice-write-out : tie.Need-slice-write-out
+slice-write-out c = search needs
+
+copy-requires : tie.Need-copy-requires
+copy-requires c κs = search needs
+
+same-length : tie.Need-same-length
+same-length c = search needs
+
+returns : tie.Need-returns
+returns c =
+    let s = c .before .before .before .before in
+    byte-written (s .args .shown .now) (s .args .out .now) (omega arith) (s .pre)
+
+same-length-2 : tie.Need-same-length-2
+same-length-2 c = search needs
+
+returns-2 : tie.Need-returns-2
+returns-2 c = c .before .before .copy .ensures .1 ∙ copied-over (c .before .before .before .before .before .before .before .args .shown .now) _
+
+pub put-literal-spec : {M : Type 1} → statement M
+put-literal-spec =
+    tie.close
+    (tie.spec
+    shared-slice-read-out
+    slice-write-out
+    copy-requires
+    same-length
+    returns
+    same-length-2
+    returns-2)
