@@ -9,16 +9,19 @@ use lib.Arith.{digits-div, digits-mod}
 use Rattle.lists.specs.Bytes.{Bytes}
 use Rattle.lists.specs.Digits.{fromBits}
 use Rattle.lists.specs.Sum.{sum}
+use Rattle.lists.specs.Tabulate.{tabulate}
 use Rattle.lists.proofs.Digits.{fromBits-lt}
 use Rattle.lists.proofs.Sum.{sum-ext}
+use Rattle.lists.proofs.Tabulate.{tabulate-ext}
 use Rattle.resolution.specs.declared.Resolution.{Resolution}
 use Rattle.resolution.specs.declared.Resolution.the-variants.{Low, Medium, High}
-use Rattle.resolution.specs.Shapes.{planesOf, lineBytesOf}
+use Rattle.resolution.specs.Shapes.{screenBytes, widthOf, heightOf, planesOf, rowBytesOf, lineBytesOf}
+use Rattle.resolution.proofs.Shapes.{rowBytes-width}
 use Rattle.words.specs.Word.{wordBytes}
-use Rattle.screen.specs.Registers.{groupOffset, wordOffset, register, wordOf}
+use Rattle.screen.specs.Registers.{groupOffset, wordOffset, register, scanLine, wordOf}
 use Rattle.screen.proofs.Registers.{register-byte}
 use Rattle.lines.specs.declared.PlaneBytes.{PlaneBytes}
-use Rattle.lines.specs.Columns.{columnOffset, planeBytes, columnBytes, columnRegister, planeByte}
+use Rattle.lines.specs.Columns.{columnOffset, planeBytes, columnBytes, columnRegister, columnsLine, planeByte}
 
 -- ---- offsets
 
@@ -32,6 +35,13 @@ unfolding columnOffset
 columnOffset-lt Low y h k l = omega arith
 columnOffset-lt Medium y h k l = omega arith
 columnOffset-lt High y h k l = omega arith
+
+-- the last byte of a column lies within the screen
+pub column-within : (r : Resolution) (y : ℕ) → y < heightOf r → (h : ℕ) → h < rowBytesOf r
+    → y * lineBytesOf r + h / 2 * (planesOf r * 2) + h % 2 + (planesOf r - 1) * 2 < screenBytes
+column-within Low y k h l = omega arith
+column-within Medium y k h l = omega arith
+column-within High y k h l = omega arith
 
 -- plane p's byte stands p words further on
 plane-offset : (r : Resolution) (y h p : ℕ) → wordOffset r y (h / 2) p + h % 2 ≡ columnOffset r y h + p * 2
@@ -61,6 +71,14 @@ columnRegister-register s r x y bytes =
     (λ p hp. ap (λ (o : ℕ). getD s o 0 / 2 ^ (7 - k) % 2 * 2 ^ p) (sym (plane-offset r y h p)))
     ∙ sym (register-byte s r h k y bytes (omega arith))
     ∙ ap (λ (n : ℕ). register s r n y) (div-add-mod' x 8)
+
+-- the columns of a scan line are the scan line
+pub columnsLine-scanLine : (s : List ℕ) (r : Resolution) (y : ℕ) → Bytes s → columnsLine s (y * lineBytesOf r) (planesOf r) (rowBytesOf r) ≡ scanLine s r y
+unfolding columnsLine scanLine columnBytes columnOffset
+columnsLine-scanLine s r y bytes =
+    let f : ℕ → ℕ = λ x. columnRegister (columnBytes s r (x / 8) y) x in
+    ap (λ (n : ℕ). tabulate n f) (rowBytes-width r)
+    ∙ tabulate-ext (widthOf r) f (λ x. register s r x y) (λ x h. columnRegister-register s r x y bytes)
 
 -- pixel x + j, from the bytes of the column h in which it stands
 pub same-column : (s : List ℕ) (r : Resolution) (h x y j : ℕ) (b : PlaneBytes) → b ≡ columnBytes s r h y → Bytes s → (x + j) / 8 ≡ h

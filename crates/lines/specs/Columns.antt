@@ -7,6 +7,7 @@ use mathlib.Core.List.{List}
 use lib.ListN.{getD}
 use lib.Dec.{ltb}
 use Rattle.lists.specs.Digits.{fromBits}
+use Rattle.lists.specs.Tabulate.{tabulate}
 use Rattle.resolution.specs.declared.Resolution.{Resolution}
 use Rattle.resolution.specs.Shapes.{planesOf, lineBytesOf}
 use Rattle.lines.specs.declared.PlaneBytes.{PlaneBytes}
@@ -35,6 +36,11 @@ byteBit b x = b / 2 ^ (7 - x % 8) % 2
 -- the register of pixel x of a scan line, from the bytes of its column: plane p adds 2^p
 unfoldable pub columnRegister : PlaneBytes → ℕ → ℕ
 columnRegister b x = byteBit (b .first) x + byteBit (b .second) x * 2 + byteBit (b .third) x * 4 + byteBit (b .fourth) x * 8
+
+-- the registers of so many columns of a scan line that begins at an offset
+unfoldable pub columnsLine : List ℕ → ℕ → ℕ → ℕ → List ℕ
+columnsLine s start planes columns =
+    tabulate (columns * 8) (λ x. columnRegister (planeBytes s (start + x / 8 / 2 * (planes * 2) + x / 8 % 2) planes) x)
 
 -- plane p's byte of the eight registers from an offset on
 unfoldable pub planeByte : List ℕ → ℕ → ℕ → ℕ

@@ -1,7 +1,7 @@
 // A scan line of registers taken from a screen or put into it. Definitions: specs/.
 ghost use mathlib.Core.Path.{_≡_};
-ghost use Prim.Native.Nat.{_+_, _*_, _/_, _%_, _<_, _≤_};
-ghost use mathlib.Core.Bool.{cond};
+ghost use Prim.Native.Nat.{ℕ, _+_, _-_, _*_, _/_, _%_, _<_, _≤_};
+ghost use mathlib.Core.Bool.{true, cond};
 ghost use lib.ListN.{length, getD};
 ghost use Rattle.lists.specs.Over.{over, overAt};
 ghost use Rattle.lists.specs.Tabulate.{tabulate};
@@ -9,7 +9,7 @@ ghost use Rattle.outcome.specs.Outcome.{answer, later};
 ghost use Rattle.words.specs.Word.{wordBytes};
 ghost use Rattle.resolution.specs.Shapes.{widthOf, heightOf, planesOf, lineBytesOf, screenBytes};
 ghost use Rattle.screen.specs.Registers.{scanLine, wordOf, withLine};
-ghost use Rattle.lines.specs.Columns.{columnOffset, planeBytes, columnBytes, columnRegister, planeByte};
+ghost use Rattle.lines.specs.Columns.{columnOffset, planeBytes, columnBytes, columnRegister, columnsLine, planeByte};
 ghost use Rattle.lines.specs.Lines.{allBelow, lineOutAt, lineInAt, lineOut, lineIn};
 use outcome::AREA_TOO_SHORT;
 use outcome::Answer;
@@ -87,22 +87,57 @@ fn copy_column(bytes: PlaneBytes, out: &mut [u8], x: usize)
     }
 }
 
-// The registers of a scan line, from the left, into out.
-fn copy_line(screen: &[u8], r: Resolution, line: usize, out: &mut [u8])
-    requires { ⌜ (line < heightOf r) × (widthOf r ≤ length (now out)) ⌝ }
-    ensures { λ _. ⌜ now (out .exit) ≡ over (scanLine (now (screen .entry)) r line) (now (out .entry)) ⌝ }
+// The byte of a plane that is there, or 0.
+fn present_plane(screen: &[u8], at: usize, present: bool) -> u8
+    requires { ⌜ (present ≡ true → at < length (now screen)) ⌝ }
+    ensures { λ v. ⌜ v ≡ cond present (getD (now (screen .entry)) at 0) 0 ⌝ }
 {
-    let columns = r.row_bytes();
+    if present { screen[at] } else { 0 }
+}
+
+// The bytes of a column of eight pixels that lies within the screen, plane 0's at offset at.
+fn column_planes(screen: &[u8], at: usize, planes: usize) -> PlaneBytes
+    requires { ⌜ (at + (planes - 1) * 2 < screenBytes) × (screenBytes ≤ length (now screen)) ⌝ }
+    ensures { λ b. ⌜ b ≡ planeBytes (now (screen .entry)) at planes ⌝ }
+{
+    PlaneBytes {
+        first: screen[at],
+        second: present_plane(screen, at + 2, 1 < planes),
+        third: present_plane(screen, at + 4, 2 < planes),
+        fourth: present_plane(screen, at + 6, 3 < planes),
+    }
+}
+
+// The registers of so many columns of a scan line that begins at offset start, from the left, into out.
+fn copy_columns(screen: &[u8], start: usize, planes: usize, columns: usize, out: &mut [u8])
+    requires { ⌜ (screenBytes ≤ length (now screen)) × (planes ≤ 4) × (columns ≤ 80) × (columns * 8 ≤ length (now out)) ⌝ }
+    requires { ⌜ ((h : ℕ) → h < columns → start + h / 2 * (planes * 2) + h % 2 + (planes - 1) * 2 < screenBytes) ⌝ }
+    ensures { λ _. ⌜ now (out .exit) ≡ over (columnsLine (now (screen .entry)) start planes columns) (now (out .entry)) ⌝ }
+{
     let mut h: usize = 0;
     while h < columns {
-        let bytes = column(screen, r, h as u16, line as u16);
+        let at = start + h / 2 * (planes * 2) + h % 2;
+        let bytes = column_planes(screen, at, planes);
         copy_column(bytes, out, h * 8);
         h += 1;
     }
 }
 
+// The registers of a scan line, from the left, into out.
+fn copy_line(screen: &[u8], r: Resolution, line: usize, out: &mut [u8])
+    requires { ⌜ (screenBytes ≤ length (now screen)) × (line < heightOf r) × (widthOf r ≤ length (now out)) ⌝ }
+    ensures { λ _. ⌜ now (out .exit) ≡ over (scanLine (now (screen .entry)) r line) (now (out .entry)) ⌝ }
+{
+    match r {
+        Resolution::Low => copy_columns(screen, line * 160, 4, 40, out),
+        Resolution::Medium => copy_columns(screen, line * 160, 2, 80, out),
+        Resolution::High => copy_columns(screen, line * 80, 1, 80, out),
+    }
+}
+
 // Line out at a resolution.
 fn line_out_at(screen: &[u8], r: Resolution, line: usize, out: &mut [u8]) -> Answer
+    requires { ⌜ screenBytes ≤ length (now screen) ⌝ }
     ensures { λ a. ⌜ a ≡ answer (lineOutAt (now (screen .entry)) r line (length (now (out .entry)))) ⌝ }
     ensures { λ _. ⌜ now (out .exit) ≡ later (lineOutAt (now (screen .entry)) r line (length (now (out .entry)))) (λ l. over l (now (out .entry))) (now (out .entry)) ⌝ }
 {

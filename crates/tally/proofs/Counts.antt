@@ -2,7 +2,7 @@
 use mathlib.Core.Path.{_≡_, refl, sym, ap, _∙_}
 use mathlib.Core.Bool.{Bool, true, false, cond}
 use mathlib.Core.List.{List}
-use Prim.Native.Nat.{ℕ, zero, suc, _+_, _≤_, _<_}
+use Prim.Native.Nat.{ℕ, _+_, _≤_, _<_}
 use native.Mathlib.Nat.{add-assoc, add-zero}
 use native.Mathlib.Numerals.{add-one}
 use native.Mathlib.Omega.{arith}
@@ -83,30 +83,12 @@ unfolding counted
 counted-le c f n b h =
     tabulate-le 16 _ (b + n) (λ v. omega (arith, h v, sum-le n 1 (λ i. isRegister v (f i)) (λ i. isRegister-le v (f i))))
 
-pub length-counted : (c : List ℕ) (f : ℕ → ℕ) (n : ℕ) → length (counted c f n) ≡ 16
+-- registers counted by another rule
+pub counted-ext : (c : List ℕ) (f g : ℕ → ℕ) (n : ℕ) → ((i : ℕ) → i < n → f i ≡ g i) → counted c f n ≡ counted c g n
 unfolding counted
-length-counted c f n = length-tabulate 16 (λ v. getD c v 0 + sum n (λ i. isRegister v (f i)))
-
--- a sum in two parts
-sum-append : (n m : ℕ) (f : ℕ → ℕ) → sum (n + m) f ≡ sum n f + sum m (λ k. f (n + k))
-unfolding sum
-sum-append n zero f = ap (λ (j : ℕ). sum j f) (add-zero n) ∙ sym (add-zero (sum n f))
-sum-append n (suc m) f =
-    let e : n + suc m ≡ suc (n + m) = omega arith in
-    ap (λ (j : ℕ). sum j f) e ∙ omega (arith, sum-append n m f)
-
--- registers counted after others
-pub counted-append : (c out : List ℕ) (f g : ℕ → ℕ) (n m : ℕ) → out ≡ counted c f n → ((i : ℕ) → i < m → g i ≡ f (n + i))
-    → counted out g m ≡ counted c f (n + m)
-unfolding counted
-counted-append c out f g n m is e =
-    let h : ℕ → ℕ = λ v. getD c v 0 + sum n (λ i. isRegister v (f i)) in
+counted-ext c f g n e =
     tabulate-ext 16 _ _
-    (λ v l.
-    ap (λ (d : List ℕ). getD d v 0 + sum m (λ i. isRegister v (g i))) is
-    ∙ ap (λ (a : ℕ). a + sum m (λ i. isRegister v (g i))) (getD-tabulate 16 h v 0 l)
-    ∙ ap (λ (a : ℕ). h v + a) (sum-ext m (λ i. isRegister v (g i)) (λ i. isRegister v (f (n + i))) (λ i b. ap (isRegister v) (e i b)))
-    ∙ omega (arith, sum-append n m (λ i. isRegister v (f i))))
+    (λ v l. ap (λ (a : ℕ). getD c v 0 + a) (sum-ext n (λ i. isRegister v (f i)) (λ i. isRegister v (g i)) (λ i b. ap (isRegister v) (e i b))))
 
 -- ---- scan lines counted
 

@@ -4,14 +4,13 @@ ghost use Prim.Native.Nat.{ℕ, _+_, _<_, _≤_};
 ghost use lib.Dec.{leb};
 ghost use lib.ListN.{length, getD};
 ghost use Rattle.outcome.specs.Outcome.{refused};
-ghost use Rattle.resolution.specs.Shapes.{widthOf, heightOf};
+ghost use Rattle.resolution.specs.Choice.{chosen};
+ghost use Rattle.resolution.specs.Shapes.{screenBytes, widthOf, heightOf};
+ghost use Rattle.resolution.specs.declared.Chosen.the-variants.{Known};
 ghost use Rattle.screen.specs.Registers.{register};
-ghost use Rattle.lines.specs.Columns.{columnRegister};
 ghost use Rattle.tally.specs.Area.{fits};
 ghost use Rattle.tally.specs.Counts.{counted, counts, talliedAt, tallied, tallyAnswer};
-use lines::PlaneBytes;
-use lines::column;
-use lines::column_register;
+use lines::line_out;
 use outcome::AREA_TOO_SHORT;
 use outcome::OUT_OF_RANGE;
 use outcome::UNKNOWN_RESOLUTION;
@@ -57,45 +56,45 @@ fn area_fits(r: Resolution, area: Rectangle) -> bool
     within(area.top, area.lines, r.height())
 }
 
-// The lesser of two numbers above 0.
-fn lesser(a: usize, b: usize) -> usize
-    requires { ⌜ (0 < a) × (0 < b) ⌝ }
-    ensures { λ v. ⌜ (0 < v) × (v ≤ a) × (v ≤ b) ⌝ }
+// The number of a resolution.
+fn number_of(r: Resolution) -> u16
+    ensures { λ v. ⌜ chosen v ≡ Known r ⌝ }
 {
-    if a < b { a } else { b }
+    match r {
+        Resolution::Low => 0,
+        Resolution::Medium => 1,
+        Resolution::High => 2,
+    }
 }
 
-// Counts the n pixels of a scan line from column x on, which the bytes of one byte column hold.
-fn count_pixels(counts: &mut [u32; 16], bytes: PlaneBytes, x: usize, n: usize)
-    requires { ⌜ ((v : ℕ) → getD (now counts) v 0 ≤ 300000) × (length (now counts) ≡ 16) × (x < 640) × (n ≤ 8) ⌝ }
-    ensures { λ _. ⌜ now (counts .exit) ≡ counted (now (counts .entry)) (λ i. columnRegister bytes (x + i)) n ⌝ }
+// Counts n registers from offset left on.
+fn count_registers(counts: &mut [u32; 16], registers: &[u8], left: usize, n: usize)
+    requires { ⌜ ((v : ℕ) → getD (now counts) v 0 ≤ 256000) × (length (now counts) ≡ 16) × (n ≤ 640) × (left + n ≤ length (now registers)) ⌝ }
+    requires { ⌜ ((i : ℕ) → i < n → getD (now registers) (left + i) 0 < 16) ⌝ }
+    ensures { λ _. ⌜ now (counts .exit) ≡ counted (now (counts .entry)) (λ i. getD (now (registers .entry)) (left + i) 0) n ⌝ }
 {
     let mut i: usize = 0;
     while i < n {
-        let v = column_register(bytes, x + i) as usize;
+        let v = registers[left + i] as usize;
         counts[v] = counts[v] + 1;
         i += 1;
     }
 }
 
-// Counts the n pixels of scan line y from column left on, reading each byte column once.
+// Counts the n pixels of scan line y from column left on.
 fn count_line(counts: &mut [u32; 16], screen: &[u8], r: Resolution, left: usize, n: usize, y: usize)
-    requires { ⌜ ((v : ℕ) → getD (now counts) v 0 ≤ 256000) × (length (now counts) ≡ 16) × (left + n ≤ 640) × (y < 400) ⌝ }
+    requires { ⌜ ((v : ℕ) → getD (now counts) v 0 ≤ 256000) × (length (now counts) ≡ 16) ⌝ }
+    requires { ⌜ (screenBytes ≤ length (now screen)) × (left + n ≤ widthOf r) × (y < heightOf r) ⌝ }
     ensures { λ _. ⌜ now (counts .exit) ≡ counted (now (counts .entry)) (λ i. register (now (screen .entry)) r (left + i) y) n ⌝ }
 {
-    let mut i: usize = 0;
-    while i < n {
-        let x = left + i;
-        let bytes = column(screen, r, (x / 8) as u16, y as u16);
-        let more = lesser(8 - x % 8, n - i);
-        count_pixels(counts, bytes, x, more);
-        i += more;
-    }
+    let mut registers = [0u8; 640];
+    line_out(screen, number_of(r), y, &mut registers);
+    count_registers(counts, &registers, left, n);
 }
 
 // How many pixels of a rectangle have each register.
 fn count_area(screen: &[u8], r: Resolution, area: Rectangle) -> [u32; 16]
-    requires { ⌜ (area .left + area .columns ≤ widthOf r) × (area .top + area .lines ≤ heightOf r) ⌝ }
+    requires { ⌜ (screenBytes ≤ length (now screen)) × (area .left + area .columns ≤ widthOf r) × (area .top + area .lines ≤ heightOf r) ⌝ }
     ensures { λ v. ⌜ v ≡ counts (now (screen .entry)) r area ⌝ }
 {
     let mut sums = [0u32; 16];
@@ -120,6 +119,7 @@ fn refused_tally(number: u8) -> TallyAnswer
 
 // Tally at a resolution.
 fn tally_at(screen: &[u8], r: Resolution, area: Rectangle) -> TallyAnswer
+    requires { ⌜ screenBytes ≤ length (now screen) ⌝ }
     ensures { λ t. ⌜ t ≡ tallyAnswer (talliedAt (now (screen .entry)) r area) ⌝ }
 {
     let fit = area_fits(r, area);

@@ -1,119 +1,109 @@
--- `lines::copy_line` meets its contract: the loop has written the first h columns of eight registers. Assumes nothing.
-use mathlib.Core.Path.{_≡_, refl, ap, _∙_}
+-- `lines::copy_line` meets its contract: at each resolution the columns of the scan line are copied. Assumes nothing.
+use mathlib.Core.Path.{_≡_, sym, ap, _∙_}
+use mathlib.Core.List.{List}
+use Prim.Native.Nat.{ℕ, _*_}
 use native.Mathlib.Omega.{arith}
-use Prim.Native.Nat.{ℕ, _≤_, _<_, _+_, _*_, _-_}
 use denote.Ref.{now}
 use borrow.Author.Needs.{needs}
-use lib.ListN.{length, take}
+use Rattle.lists.specs.Bytes.{Bytes}
 use Rattle.lists.specs.Over.{over}
-use Rattle.lists.specs.Tabulate.{tabulate}
-use Rattle.lists.proofs.Over.{length-overAt, over-done}
-use Rattle.lists.proofs.Tabulate.{length-tabulate}
-use Rattle.resolution.specs.Shapes.{widthOf, rowBytesOf}
-use Rattle.resolution.proofs.Shapes.{rowBytes-width, width-le, height-le}
-use Rattle.screen.specs.Registers.{register, scanLine}
-use Rattle.lines.specs.Columns.{columnRegister}
-use Rattle.lines.proofs.Columns.{same-column}
-use Rattle.lines.proofs.Pieces.{over-tabulate-piece}
+use Rattle.resolution.specs.declared.Resolution.{Resolution}
+use Rattle.resolution.specs.declared.Resolution.the-variants.{Low, Medium, High}
+use Rattle.resolution.specs.Shapes.{widthOf, heightOf, planesOf, rowBytesOf, lineBytesOf}
+use Rattle.resolution.proofs.Shapes.{height-le}
+use Rattle.screen.specs.Registers.{scanLine}
+use Rattle.lines.specs.Columns.{columnsLine}
+use Rattle.lines.proofs.Columns.{column-within, columnsLine-scanLine}
 use Rattle.lines.proofs.copy_line.Statement.{statement}
 use Rattle.lines.proofs.copy_line.Tie as tie
 
-abbrev Inv-loop : tie.InvT-loop
-Inv-loop screen r line out₀ columns h₀ out h =
-    (columns ≡ rowBytesOf r) × (columns ≤ 80) × (line < 400) × (columns * 8 ≤ length out₀) × (h ≤ columns)
-    × (length out ≡ length out₀) × (out ≡ over (take (h * 8) (scanLine screen r line)) out₀)
+-- the columns of the scan line at the resolution that was matched
+copied : (s : List ℕ) (r q : Resolution) (y : ℕ) (out : List ℕ) → r ≡ q → Bytes s
+    → over (columnsLine s (y * lineBytesOf q) (planesOf q) (rowBytesOf q)) out ≡ over (scanLine s r y) out
+copied s r q y out e bytes = ap (λ (l : List ℕ). over l out) (columnsLine-scanLine s q y bytes ∙ ap (λ (r : Resolution). scanLine s r y) (sym e))
 
-abbrev μ-loop : tie.MeasureT-loop
-μ-loop screen r line out₀ columns h₀ out h = columns - h
+enum-told : tie.Need-enum-told
+enum-told c = search needs
 
-row-bytes-requires : tie.Need-row-bytes-requires Inv-loop μ-loop
-row-bytes-requires c κs = search needs
+mul-copy-columns : tie.Need-mul-copy-columns
+mul-copy-columns c = omega (arith, height-le (c .before .before .before .before .args .r))
 
-loop-holds : tie.Need-loop-holds Inv-loop μ-loop
-loop-holds c =
-    let a = c .before .before .before .args in (
-      c .row-bytes .ensures,
-      omega (arith, rowBytes-width (a .r), width-le (a .r)),
-      omega (arith, height-le (a .r)),
-      omega (arith, rowBytes-width (a .r)),
-      search needs,
-      refl,
-      refl,
-    )
-
-cast-column : tie.Need-cast-column Inv-loop μ-loop
-cast-column c = omega arith
-
-cast-column-2 : tie.Need-cast-column-2 Inv-loop μ-loop
-cast-column-2 c = omega arith
-
-column-requires : tie.Need-column-requires Inv-loop μ-loop
-column-requires c κs = search needs
-
-mul-copy-column : tie.Need-mul-copy-column Inv-loop μ-loop
-mul-copy-column c = omega arith
-
-copy-column-requires : tie.Need-copy-column-requires Inv-loop μ-loop
-copy-column-requires c κs = omega arith
-
-add-h : tie.Need-add-h Inv-loop μ-loop
-add-h c = omega arith
-
-loop-less : tie.Need-loop-less Inv-loop μ-loop
-loop-less c = omega arith
-
-loop-again : tie.Need-loop-again Inv-loop μ-loop
-unfolding scanLine
-loop-again c =
-    let k = c .before .before in
-    let q = k .before .before in
-    let l = q .before .before .loop in
-    let i = l .inv in
-    let p = q .before .before .before .before .before in
-    let a = p .before .args in
-    let s = now (a .screen) in
-    let f : ℕ → ℕ = λ x. register s (a .r) x (a .line) in
-    let w : ℕ → ℕ = λ k. columnRegister (q .column .result) (l .h * 8 + k) in
-    let e = k .copy-column .ensures in
-    let next : l .h * 8 + 8 ≡ (l .h + 1) * 8 = omega arith in
-    let room : l .h * 8 + length (tabulate 8 w) ≤ length (l .out) = omega (arith, length-tabulate 8 w) in (
-      i .0,
-      i .1,
-      i .2,
-      i .3,
-      omega arith,
-      ap length e ∙ length-overAt (l .h * 8) (tabulate 8 w) (l .out) room ∙ i .5,
-      e ∙ over-tabulate-piece (widthOf (a .r)) 8 f w (now (a .out)) (l .out) (l .h * 8) (omega (arith, rowBytes-width (a .r))) (i .6)
-          (λ j b. same-column s (a .r) (l .h) (l .h * 8) (a .line) j _ (q .column .ensures) (λ n. p .shared-slice-known .given n .fits) (omega arith))
-          ∙ ap (λ (n : ℕ). over (take n (tabulate (widthOf (a .r)) f)) (now (a .out))) next,
-    )
-
-same-length : tie.Need-same-length Inv-loop μ-loop
-same-length c = omega arith
-
-returns : tie.Need-returns Inv-loop μ-loop
-unfolding scanLine
-returns c =
-    let l = c .before .loop in
+copy-columns-requires : tie.Need-copy-columns-requires
+copy-columns-requires c κs =
     let a = c .before .before .before .before .before .args in
-    let f : ℕ → ℕ = λ x. register (now (a .screen)) (a .r) x (a .line) in
-    over-done (tabulate (widthOf (a .r)) f) (now (a .out)) (l .out) (l .h * 8) (omega (arith, length-tabulate (widthOf (a .r)) f, rowBytes-width (a .r))) (l .inv .6)
+    let e : a .r ≡ Low = c .before .enum-told .given .1 in
+    ((omega arith, omega arith, omega arith, omega (arith, ap widthOf e)), column-within Low (a .line) (omega (arith, ap heightOf e)))
+
+enum-told-2 : tie.Need-enum-told-2
+enum-told-2 c = search needs
+
+mul-copy-columns-2 : tie.Need-mul-copy-columns-2
+mul-copy-columns-2 c = omega (arith, height-le (c .before .before .before .before .args .r))
+
+copy-columns-requires-2 : tie.Need-copy-columns-requires-2
+copy-columns-requires-2 c κs =
+    let a = c .before .before .before .before .before .args in
+    let e : a .r ≡ Medium = c .before .enum-told2 .given .1 in
+    ((omega arith, omega arith, omega arith, omega (arith, ap widthOf e)), column-within Medium (a .line) (omega (arith, ap heightOf e)))
+
+enum-told-3 : tie.Need-enum-told-3
+enum-told-3 c = search needs
+
+mul-copy-columns-3 : tie.Need-mul-copy-columns-3
+mul-copy-columns-3 c = omega (arith, height-le (c .before .before .before .before .args .r))
+
+copy-columns-requires-3 : tie.Need-copy-columns-requires-3
+copy-columns-requires-3 c κs =
+    let a = c .before .before .before .before .before .args in
+    let e : a .r ≡ High = c .before .enum-told3 .given .1 in
+    ((omega arith, omega arith, omega arith, omega (arith, ap widthOf e)), column-within High (a .line) (omega (arith, ap heightOf e)))
+
+same-length : tie.Need-same-length
+same-length c = search needs
+
+returns : tie.Need-returns
+returns c =
+    let p = c .before .before .before .before .before .before .before in
+    let a = p .before .args in
+    let e : a .r ≡ Low = c .before .before .before .before .enum-told .given .1 in
+    c .before .before .copy-columns .ensures ∙ copied (now (a .screen)) (a .r) Low (a .line) (now (a .out)) e (λ n. p .shared-slice-known .given n .fits)
+
+same-length-2 : tie.Need-same-length-2
+same-length-2 c = search needs
+
+returns-2 : tie.Need-returns-2
+returns-2 c =
+    let p = c .before .before .before .before .before .before .before in
+    let a = p .before .args in
+    let e : a .r ≡ Medium = c .before .before .before .before .enum-told2 .given .1 in
+    c .before .before .copy-columns2 .ensures ∙ copied (now (a .screen)) (a .r) Medium (a .line) (now (a .out)) e (λ n. p .shared-slice-known .given n .fits)
+
+same-length-3 : tie.Need-same-length-3
+same-length-3 c = search needs
+
+returns-3 : tie.Need-returns-3
+returns-3 c =
+    let p = c .before .before .before .before .before .before .before in
+    let a = p .before .args in
+    let e : a .r ≡ High = c .before .before .before .before .enum-told3 .given .1 in
+    c .before .before .copy-columns3 .ensures ∙ copied (now (a .screen)) (a .r) High (a .line) (now (a .out)) e (λ n. p .shared-slice-known .given n .fits)
 
 pub copy-line-spec : {M : Type 1} → statement M
 copy-line-spec =
     tie.close
     (tie.spec
-    Inv-loop
-    μ-loop
-    row-bytes-requires
-    loop-holds
-    cast-column
-    cast-column-2
-    column-requires
-    mul-copy-column
-    copy-column-requires
-    add-h
-    loop-less
-    loop-again
+    enum-told
+    mul-copy-columns
+    copy-columns-requires
+    enum-told-2
+    mul-copy-columns-2
+    copy-columns-requires-2
+    enum-told-3
+    mul-copy-columns-3
+    copy-columns-requires-3
     same-length
-    returns)
+    returns
+    same-length-2
+    returns-2
+    same-length-3
+    returns-3)

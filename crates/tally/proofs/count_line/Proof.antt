@@ -1,115 +1,104 @@
--- `tally::count_line` meets its contract: the loop has counted the first i pixels, a byte column at a time. Assumes nothing.
+-- `tally::count_line` meets its contract: the registers that line out gives are those of the scan line. Assumes nothing.
 use mathlib.Core.Path.{_≡_, ap, _∙_}
-use native.Mathlib.Nat.{add-assoc}
+use mathlib.Core.List.{List}
 use native.Mathlib.Omega.{arith}
-use Prim.Native.Nat.{ℕ, _<_, _≤_, _+_, _-_, _/_}
+use Prim.Native.Nat.{ℕ, _<_, _≤_, _+_}
 use denote.Ref.{now}
 use borrow.Author.Needs.{needs}
-use lib.ListN.{length, getD}
-use Rattle.screen.specs.Registers.{register}
-use Rattle.lines.specs.Columns.{columnRegister}
-use Rattle.lines.proofs.Columns.{same-column}
-use Rattle.tally.specs.Counts.{counted}
-use Rattle.tally.proofs.Counts.{counted-none, counted-append, counted-le, length-counted}
+use lib.ListN.{length, getD, replicate}
+use Rattle.lists.specs.Over.{over}
+use Rattle.lists.specs.Tabulate.{tabulate}
+use Rattle.lists.proofs.Over.{length-over, getD-over-in}
+use Rattle.lists.proofs.Tabulate.{length-tabulate, getD-tabulate}
+use Rattle.outcome.specs.Outcome.{Outcome, later}
+use Rattle.resolution.specs.declared.Chosen.the-variants.{Known}
+use Rattle.resolution.specs.declared.Resolution.{Resolution}
+use Rattle.resolution.specs.declared.Resolution.the-variants.{Low, Medium, High}
+use Rattle.resolution.specs.Choice.{chosen}
+use Rattle.resolution.specs.Shapes.{screenBytes, widthOf, heightOf, registersOf}
+use Rattle.resolution.proofs.Shapes.{width-le}
+use Rattle.screen.specs.Registers.{register, scanLine}
+use Rattle.screen.proofs.Registers.{register-lt}
+use Rattle.lines.specs.Lines.{lineOut}
+use Rattle.lines.proofs.Lines.{out-accepted}
+use Rattle.tally.proofs.Counts.{counted-ext}
 use Rattle.tally.proofs.count_line.Statement.{statement}
 use Rattle.tally.proofs.count_line.Tie as tie
 
-abbrev Inv-loop : tie.InvT-loop
-Inv-loop counts₀ screen r left n y i₀ counts i =
-    ((v : ℕ) → getD counts₀ v 0 ≤ 256000) × (left + n ≤ 640) × (y < 400) × (i ≤ n) × (length counts ≡ 16)
-    × (counts ≡ counted counts₀ (λ i. register screen r (left + i) y) i)
+registers-le : (r : Resolution) → registersOf r ≤ 16
+registers-le Low = omega arith
+registers-le Medium = omega arith
+registers-le High = omega arith
 
-abbrev μ-loop : tie.MeasureT-loop
-μ-loop counts₀ screen r left n y i₀ counts i = n - i
+-- what line out leaves in an area d that has room for the line
+module _ (s : List ℕ) (r : Resolution) (number y : ℕ) (d line : List ℕ) (known : chosen number ≡ Known r) (long : screenBytes ≤ length s) (hy : y < heightOf r)
+    (room : widthOf r ≤ length d) (is : line ≡ later (lineOut s number y (length d)) (λ l. over l d) d) where
+  is-line : line ≡ over (scanLine s r y) d
+  is-line = is ∙ ap (λ (o : Outcome (List ℕ)). later o (λ l. over l d) d) (out-accepted s number y r known (length d) long hy room)
 
-loop-holds : tie.Need-loop-holds Inv-loop μ-loop
-loop-holds c =
-    let p = c .before .pre in
-    let a = c .before .args in
-    let f : ℕ → ℕ = λ i. register (now (a .screen)) (a .r) (a .left + i) (a .y) in
-    (p .0, search needs, search needs, search needs, p .1, counted-none (now (a .counts)) f (p .1))
+  same-room : length line ≡ length d
+  unfolding scanLine
+  same-room = ap length is-line ∙ length-over (scanLine s r y) d (omega (arith, length-tabulate (widthOf r) (λ x. register s r x y)))
 
-add-x : tie.Need-add-x Inv-loop μ-loop
-add-x c = omega arith
+  line-register : (x : ℕ) → x < widthOf r → getD line x 0 ≡ register s r x y
+  unfolding scanLine
+  line-register x h =
+      let f : ℕ → ℕ = λ x. register s r x y in
+      ap (λ (l : List ℕ). getD l x 0) is-line
+      ∙ getD-over-in (tabulate (widthOf r) f) d x 0 (omega (arith, length-tabulate (widthOf r) f))
+      ∙ getD-tabulate (widthOf r) f x 0 h
 
-cast-column : tie.Need-cast-column Inv-loop μ-loop
-cast-column c = omega arith
+  line-below : (x : ℕ) → x < widthOf r → getD line x 0 < 16
+  line-below x h = rw (line-register x h) (omega (arith, register-lt s r x y, registers-le r))
 
-cast-column-2 : tie.Need-cast-column-2 Inv-loop μ-loop
-cast-column-2 c = omega arith
+number-of-requires : tie.Need-number-of-requires
+number-of-requires c κs = search needs
 
-column-requires : tie.Need-column-requires Inv-loop μ-loop
-column-requires c κs = search needs
+slice-aggregate-line-out : tie.Need-slice-aggregate-line-out
+slice-aggregate-line-out c = search needs
 
-sub-lesser : tie.Need-sub-lesser Inv-loop μ-loop
-sub-lesser c = omega arith
+line-out-requires : tie.Need-line-out-requires
+line-out-requires c κs = search needs
 
-sub-lesser-2 : tie.Need-sub-lesser-2 Inv-loop μ-loop
-sub-lesser-2 c = omega arith
+slice-aggregate-count-registers : tie.Need-slice-aggregate-count-registers
+slice-aggregate-count-registers c = search needs
 
-lesser-requires : tie.Need-lesser-requires Inv-loop μ-loop
-lesser-requires c κs = omega arith
-
-count-pixels-requires : tie.Need-count-pixels-requires Inv-loop μ-loop
-count-pixels-requires c κs =
-    let l = c .before .before .before .before .loop in
-    let a = c .before .before .before .before .before .before .args in
-    let f : ℕ → ℕ = λ i. register (now (a .screen)) (a .r) (a .left + i) (a .y) in (
-      λ v. rw (l .inv .5) (omega (arith, counted-le (now (a .counts)) f (l .i) 256000 (l .inv .0) v)),
-      l .inv .4,
-      omega arith,
-      omega arith,
+count-registers-requires : tie.Need-count-registers-requires
+count-registers-requires c κs =
+    let o = c .before .before .before in
+    let m = o .before .before in
+    let a = m .before .before .args in
+    let p = m .before .before .pre in
+    let z : List ℕ = replicate 640 0 in
+    let room : widthOf (a .r) ≤ length z = omega (arith, width-le (a .r)) in (
+      (
+        p .0 .0,
+        p .0 .1,
+        omega (arith, width-le (a .r)),
+        omega (arith, width-le (a .r), same-room (now (a .screen)) (a .r) (m .number-of .result) (a .y) z _ (m .number-of .ensures) (p .1 .0) (p .1 .2) room (o .line-out .ensures .1)),
+      ),
+      λ i h. line-below (now (a .screen)) (a .r) (m .number-of .result) (a .y) z _ (m .number-of .ensures) (p .1 .0) (p .1 .2) room (o .line-out .ensures .1) (a .left + i) (omega arith),
     )
 
-add-i : tie.Need-add-i Inv-loop μ-loop
-add-i c = omega arith
-
-loop-less : tie.Need-loop-less Inv-loop μ-loop
-loop-less c = omega arith
-
-loop-again : tie.Need-loop-again Inv-loop μ-loop
-loop-again c =
-    let b = c .before .before in
-    let l = b .before .before .before .loop in
-    let k = b .before .before .before .before in
-    let a = k .before .args in
-    let s = now (a .screen) in
-    let f : ℕ → ℕ = λ i. register s (a .r) (a .left + i) (a .y) in
-    let g : ℕ → ℕ = λ j. columnRegister (b .before .column .result) (a .left + l .i + j) in
-    let e = c .count-pixels .ensures in (
-      l .inv .0,
-      search needs,
-      search needs,
-      omega arith,
-      ap length e ∙ length-counted (l .counts) g (b .lesser .result),
-      e ∙ counted-append (now (a .counts)) (l .counts) f g (l .i) (b .lesser .result) (l .inv .5)
-          (λ j h.
-          same-column s (a .r) ((a .left + l .i) / 8) (a .left + l .i) (a .y) j _ (b .before .column .ensures) (λ n. k .shared-slice-known .given n .fits) (omega arith)
-          ∙ ap (λ (x : ℕ). register s (a .r) x (a .y)) (add-assoc (a .left) (l .i) j)),
-    )
-
-returns : tie.Need-returns Inv-loop μ-loop
+returns : tie.Need-returns
 returns c =
-    let l = c .before .loop in
-    let e : l .i ≡ c .before .before .before .args .n = omega arith in
-    l .inv .5 ∙ rw e
+    let o = c .before .before .before .before in
+    let m = o .before .before in
+    let a = m .before .before .args in
+    let p = m .before .before .pre in
+    let z : List ℕ = replicate 640 0 in
+    let room : widthOf (a .r) ≤ length z = omega (arith, width-le (a .r)) in
+    c .count-registers .ensures
+    ∙ counted-ext (now (a .counts)) _ (λ i. register (now (a .screen)) (a .r) (a .left + i) (a .y)) (a .n)
+    (λ i h. line-register (now (a .screen)) (a .r) (m .number-of .result) (a .y) z _ (m .number-of .ensures) (p .1 .0) (p .1 .2) room (o .line-out .ensures .1) (a .left + i) (omega arith))
 
 pub count-line-spec : {M : Type 1} → statement M
 count-line-spec =
     tie.close
     (tie.spec
-    Inv-loop
-    μ-loop
-    loop-holds
-    add-x
-    cast-column
-    cast-column-2
-    column-requires
-    sub-lesser
-    sub-lesser-2
-    lesser-requires
-    count-pixels-requires
-    add-i
-    loop-less
-    loop-again
+    number-of-requires
+    slice-aggregate-line-out
+    line-out-requires
+    slice-aggregate-count-registers
+    count-registers-requires
     returns)
