@@ -1,6 +1,7 @@
 // PackBits records: what a control byte says, and the record at an offset of a file. Definitions: specs/. Rows are unpacked in the
 // crate unpack and packed in the crate pack.
 ghost use mathlib.Core.Path.{_≡_};
+ghost use Prim.Native.Nat.{_<_};
 ghost use lib.ListN.{drop};
 ghost use Rattle.outcome.specs.Outcome.{refused};
 ghost use Rattle.packbits.specs.Records.{control, packedLen, rowLen, fault, judged, recordAt};
@@ -86,34 +87,33 @@ pub fn fault_of(r: Record) -> u8
     }
 }
 
-// A record that takes up so many bytes of input and makes so many of the row, or its fault. The row's end is judged before missing
-// input.
-fn judge(r: Record, packed: usize, made: usize, left: usize, room: usize) -> Record
-    requires { ⌜ (packed ≡ packedLen r) × (made ≡ rowLen r) ⌝ }
-    ensures { λ q. ⌜ q ≡ judged r left room ⌝ }
-{
-    if room < made {
-        return Record::Crossing;
-    }
-    if left < packed {
-        return Record::Truncated;
-    }
-    r
-}
-
-// The record that a control byte begins, or its fault. So many bytes of input are left, the control byte included.
+// The record that a control byte begins, or its fault. So many bytes of input are left, the control byte included. The row's end is
+// judged before missing input.
 fn record_of(x: u8, left: usize, room: usize) -> Record
+    requires { ⌜ 0 < left ⌝ }
     ensures { λ r. ⌜ r ≡ judged (control x) left room ⌝ }
 {
     if x < 128 {
         let n = x + 1;
-        return judge(Record::Literal(n), n as usize + 1, n as usize, left, room);
+        if room < n as usize {
+            return Record::Crossing;
+        }
+        if left <= n as usize {
+            return Record::Truncated;
+        }
+        return Record::Literal(n);
     }
     if x == 128 {
-        return judge(Record::Nothing, 1, 0, left, room);
+        return Record::Nothing;
     }
     let n = 255 - x + 2;
-    judge(Record::Repeat(n), 2, n as usize, left, room)
+    if room < n as usize {
+        return Record::Crossing;
+    }
+    if left < 2 {
+        return Record::Truncated;
+    }
+    Record::Repeat(n)
 }
 
 // The record whose control byte stands at an offset.
