@@ -20,7 +20,6 @@ use Rattle.resolution.proofs.Shapes.{rowBytes-width}
 use Rattle.words.specs.Word.{wordBytes}
 use Rattle.screen.specs.Registers.{groupOffset, wordOffset, register, scanLine, wordOf}
 use Rattle.screen.proofs.Registers.{register-byte}
-use Rattle.lines.specs.declared.PlaneBytes.{PlaneBytes}
 use Rattle.lines.specs.Columns.{columnOffset, planeBytes, columnBytes, columnRegister, columnsLine, planeByte}
 
 -- ---- offsets

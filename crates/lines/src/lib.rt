@@ -2,7 +2,7 @@
 ghost use mathlib.Core.Path.{_≡_};
 ghost use Prim.Native.Nat.{ℕ, _+_, _-_, _*_, _/_, _%_, _<_, _≤_};
 ghost use mathlib.Core.Bool.{true, cond};
-ghost use lib.ListN.{length, getD};
+ghost use lib.ListN.{length, getD, take};
 ghost use Rattle.lists.specs.Over.{over, overAt};
 ghost use Rattle.lists.specs.Tabulate.{tabulate};
 ghost use Rattle.outcome.specs.Outcome.{answer, later};
@@ -87,7 +87,7 @@ fn copy_columns(screen: &[u8], start: usize, planes: usize, columns: usize, out:
 }
 
 // The registers of a scan line, from the left, into out.
-fn copy_line(screen: &[u8], r: Resolution, line: usize, out: &mut [u8])
+fn fill_line(screen: &[u8], r: Resolution, line: usize, out: &mut [u8])
     requires { ⌜ (screenBytes ≤ length (now screen)) × (line < heightOf r) × (widthOf r ≤ length (now out)) ⌝ }
     ensures { λ _. ⌜ now (out .exit) ≡ over (scanLine (now (screen .entry)) r line) (now (out .entry)) ⌝ }
 {
@@ -96,6 +96,28 @@ fn copy_line(screen: &[u8], r: Resolution, line: usize, out: &mut [u8])
         Resolution::Medium => copy_columns(screen, line * 160, 2, 80, out),
         Resolution::High => copy_columns(screen, line * 80, 1, 80, out),
     }
+}
+
+// The first n registers into out.
+fn put_registers(registers: &[u8], n: usize, out: &mut [u8])
+    requires { ⌜ (n ≤ length (now registers)) × (n ≤ length (now out)) ⌝ }
+    ensures { λ _. ⌜ now (out .exit) ≡ over (take n (now (registers .entry))) (now (out .entry)) ⌝ }
+{
+    let mut i: usize = 0;
+    while i < n {
+        out[i] = registers[i];
+        i += 1;
+    }
+}
+
+// The registers of a scan line, from the left, into out, by way of an array that no slice overlaps.
+fn copy_line(screen: &[u8], r: Resolution, line: usize, out: &mut [u8])
+    requires { ⌜ (screenBytes ≤ length (now screen)) × (line < heightOf r) × (widthOf r ≤ length (now out)) ⌝ }
+    ensures { λ _. ⌜ now (out .exit) ≡ over (scanLine (now (screen .entry)) r line) (now (out .entry)) ⌝ }
+{
+    let mut registers = [0u8; 640];
+    fill_line(screen, r, line, &mut registers);
+    put_registers(&registers, r.width(), out);
 }
 
 // Line out at a resolution.
