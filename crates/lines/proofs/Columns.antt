@@ -20,7 +20,6 @@ use Rattle.resolution.proofs.Shapes.{rowBytes-width}
 use Rattle.words.specs.Word.{wordBytes}
 use Rattle.screen.specs.Registers.{groupOffset, wordOffset, register, scanLine, wordOf}
 use Rattle.screen.proofs.Registers.{register-byte}
-use Rattle.lines.specs.declared.PlaneBytes.{PlaneBytes}
 use Rattle.lines.specs.Columns.{columnOffset, planeBytes, columnBytes, columnRegister, columnsLine, planeByte}
 
 -- ---- offsets
@@ -29,12 +28,6 @@ pub lineBytes-le : (r : Resolution) → lineBytesOf r ≤ 160
 lineBytes-le Low = omega arith
 lineBytes-le Medium = omega arith
 lineBytes-le High = omega arith
-
-pub columnOffset-lt : (r : Resolution) (y h : ℕ) → y < 65536 → h < 65536 → columnOffset r y h < 100000000
-unfolding columnOffset
-columnOffset-lt Low y h k l = omega arith
-columnOffset-lt Medium y h k l = omega arith
-columnOffset-lt High y h k l = omega arith
 
 -- the last byte of a column lies within the screen
 pub column-within : (r : Resolution) (y : ℕ) → y < heightOf r → (h : ℕ) → h < rowBytesOf r
@@ -61,7 +54,7 @@ columnRegister-sum s Medium at x = rw (add-zero at) (omega (arith, zero-div (2 ^
 columnRegister-sum s High at x = rw (add-zero at) (omega (arith, zero-div (2 ^ (7 - x % 8))))
 
 -- a pixel's register from the bytes of its column
-pub columnRegister-register : (s : List ℕ) (r : Resolution) (x y : ℕ) → Bytes s → columnRegister (columnBytes s r (x / 8) y) x ≡ register s r x y
+columnRegister-register : (s : List ℕ) (r : Resolution) (x y : ℕ) → Bytes s → columnRegister (columnBytes s r (x / 8) y) x ≡ register s r x y
 unfolding columnBytes
 columnRegister-register s r x y bytes =
     let h : ℕ = x / 8 in
@@ -79,12 +72,6 @@ columnsLine-scanLine s r y bytes =
     let f : ℕ → ℕ = λ x. columnRegister (columnBytes s r (x / 8) y) x in
     ap (λ (n : ℕ). tabulate n f) (rowBytes-width r)
     ∙ tabulate-ext (widthOf r) f (λ x. register s r x y) (λ x h. columnRegister-register s r x y bytes)
-
--- pixel x + j, from the bytes of the column h in which it stands
-pub same-column : (s : List ℕ) (r : Resolution) (h x y j : ℕ) (b : PlaneBytes) → b ≡ columnBytes s r h y → Bytes s → (x + j) / 8 ≡ h
-    → columnRegister b (x + j) ≡ register s r (x + j) y
-same-column s r h x y j b e bytes d =
-    ap (λ (c : PlaneBytes). columnRegister c (x + j)) (e ∙ ap (λ (h : ℕ). columnBytes s r h y) (sym d)) ∙ columnRegister-register s r (x + j) y bytes
 
 -- ---- a plane's byte of eight registers
 

@@ -2,14 +2,14 @@
 ghost use mathlib.Core.Path.{_≡_};
 ghost use Prim.Native.Nat.{ℕ, _+_, _-_, _*_, _/_, _%_, _<_, _≤_};
 ghost use mathlib.Core.Bool.{true, cond};
-ghost use lib.ListN.{length, getD};
+ghost use lib.ListN.{length, getD, take};
 ghost use Rattle.lists.specs.Over.{over, overAt};
 ghost use Rattle.lists.specs.Tabulate.{tabulate};
 ghost use Rattle.outcome.specs.Outcome.{answer, later};
 ghost use Rattle.words.specs.Word.{wordBytes};
 ghost use Rattle.resolution.specs.Shapes.{widthOf, heightOf, planesOf, lineBytesOf, screenBytes};
 ghost use Rattle.screen.specs.Registers.{scanLine, wordOf, withLine};
-ghost use Rattle.lines.specs.Columns.{columnOffset, planeBytes, columnBytes, columnRegister, columnsLine, planeByte};
+ghost use Rattle.lines.specs.Columns.{planeBytes, columnRegister, columnsLine, planeByte};
 ghost use Rattle.lines.specs.Lines.{allBelow, lineOutAt, lineInAt, lineOut, lineIn};
 use outcome::AREA_TOO_SHORT;
 use outcome::Answer;
@@ -18,7 +18,6 @@ use outcome::UNKNOWN_RESOLUTION;
 use resolution::Chosen;
 use resolution::Resolution;
 use resolution::SCREEN_BYTES;
-use words::byte_at;
 
 // The bytes that hold eight pixels, one for each plane; 0 for a plane that is not there.
 pub struct PlaneBytes {
@@ -28,44 +27,8 @@ pub struct PlaneBytes {
     pub fourth: u8,
 }
 
-// The byte of a plane, or 0 where the plane is not there.
-fn present_byte(screen: &[u8], at: usize, present: bool) -> u8
-    ensures { λ v. ⌜ v ≡ cond present (getD (now (screen .entry)) at 0) 0 ⌝ }
-{
-    if present { byte_at(screen, at) } else { 0 }
-}
-
-// The bytes of a column of eight pixels, plane 0's at offset at.
-fn plane_bytes(screen: &[u8], at: usize, planes: usize) -> PlaneBytes
-    requires { ⌜ at < 100000000 ⌝ }
-    ensures { λ b. ⌜ b ≡ planeBytes (now (screen .entry)) at planes ⌝ }
-{
-    PlaneBytes {
-        first: byte_at(screen, at),
-        second: present_byte(screen, at + 2, 1 < planes),
-        third: present_byte(screen, at + 4, 2 < planes),
-        fourth: present_byte(screen, at + 6, 3 < planes),
-    }
-}
-
-// Where plane 0's byte of column h in a scan line stands.
-fn column_offset(r: Resolution, line: usize, h: usize) -> usize
-    requires { ⌜ (line < 65536) × (h < 65536) ⌝ }
-    ensures { λ v. ⌜ (v ≡ columnOffset r line h) × (v < 100000000) ⌝ }
-{
-    line * r.line_bytes() + h / 2 * (r.planes() * 2) + h % 2
-}
-
-// The bytes of column h of scan line y: they hold its pixels h * 8 to h * 8 + 7. A screen byte past the end counts as 0.
-pub fn column(screen: &[u8], r: Resolution, h: u16, y: u16) -> PlaneBytes
-    ensures { λ b. ⌜ b ≡ columnBytes (now (screen .entry)) r h y ⌝ }
-{
-    let at = column_offset(r, y as usize, h as usize);
-    plane_bytes(screen, at, r.planes())
-}
-
 // The register of pixel x of a scan line, from the bytes of its column: plane p adds 2^p.
-pub fn column_register(b: PlaneBytes, x: usize) -> u8
+fn column_register(b: PlaneBytes, x: usize) -> u8
     ensures { λ v. ⌜ (v ≡ columnRegister b x) × (v < 16) ⌝ }
 {
     let shift = 7 - x % 8;
@@ -124,7 +87,7 @@ fn copy_columns(screen: &[u8], start: usize, planes: usize, columns: usize, out:
 }
 
 // The registers of a scan line, from the left, into out.
-fn copy_line(screen: &[u8], r: Resolution, line: usize, out: &mut [u8])
+fn fill_line(screen: &[u8], r: Resolution, line: usize, out: &mut [u8])
     requires { ⌜ (screenBytes ≤ length (now screen)) × (line < heightOf r) × (widthOf r ≤ length (now out)) ⌝ }
     ensures { λ _. ⌜ now (out .exit) ≡ over (scanLine (now (screen .entry)) r line) (now (out .entry)) ⌝ }
 {
@@ -133,6 +96,28 @@ fn copy_line(screen: &[u8], r: Resolution, line: usize, out: &mut [u8])
         Resolution::Medium => copy_columns(screen, line * 160, 2, 80, out),
         Resolution::High => copy_columns(screen, line * 80, 1, 80, out),
     }
+}
+
+// The first n registers into out.
+fn put_registers(registers: &[u8], n: usize, out: &mut [u8])
+    requires { ⌜ (n ≤ length (now registers)) × (n ≤ length (now out)) ⌝ }
+    ensures { λ _. ⌜ now (out .exit) ≡ over (take n (now (registers .entry))) (now (out .entry)) ⌝ }
+{
+    let mut i: usize = 0;
+    while i < n {
+        out[i] = registers[i];
+        i += 1;
+    }
+}
+
+// The registers of a scan line, from the left, into out, by way of an array that no slice overlaps.
+fn copy_line(screen: &[u8], r: Resolution, line: usize, out: &mut [u8])
+    requires { ⌜ (screenBytes ≤ length (now screen)) × (line < heightOf r) × (widthOf r ≤ length (now out)) ⌝ }
+    ensures { λ _. ⌜ now (out .exit) ≡ over (scanLine (now (screen .entry)) r line) (now (out .entry)) ⌝ }
+{
+    let mut registers = [0u8; 640];
+    fill_line(screen, r, line, &mut registers);
+    put_registers(&registers, r.width(), out);
 }
 
 // Line out at a resolution.

@@ -1,109 +1,75 @@
--- `lines::copy_line` meets its contract: at each resolution the columns of the scan line are copied. Assumes nothing.
+-- `lines::copy_line` meets its contract: the front of the array is the scan line. Assumes nothing.
 use mathlib.Core.Path.{_≡_, sym, ap, _∙_}
 use mathlib.Core.List.{List}
-use Prim.Native.Nat.{ℕ, _*_}
 use native.Mathlib.Omega.{arith}
+use Prim.Native.Nat.{ℕ, _≤_}
 use denote.Ref.{now}
 use borrow.Author.Needs.{needs}
-use Rattle.lists.specs.Bytes.{Bytes}
+use lib.ListN.{length, take, drop, replicate}
+use lib.Seq.{take-at}
 use Rattle.lists.specs.Over.{over}
+use Rattle.lists.proofs.Over.{length-over}
+use Rattle.lists.proofs.Tabulate.{length-tabulate}
 use Rattle.resolution.specs.declared.Resolution.{Resolution}
-use Rattle.resolution.specs.declared.Resolution.the-variants.{Low, Medium, High}
-use Rattle.resolution.specs.Shapes.{widthOf, heightOf, planesOf, rowBytesOf, lineBytesOf}
-use Rattle.resolution.proofs.Shapes.{height-le}
-use Rattle.screen.specs.Registers.{scanLine}
-use Rattle.lines.specs.Columns.{columnsLine}
-use Rattle.lines.proofs.Columns.{column-within, columnsLine-scanLine}
+use Rattle.resolution.specs.Shapes.{widthOf}
+use Rattle.resolution.proofs.Shapes.{width-le}
+use Rattle.screen.specs.Registers.{register, scanLine}
 use Rattle.lines.proofs.copy_line.Statement.{statement}
 use Rattle.lines.proofs.copy_line.Tie as tie
 
--- the columns of the scan line at the resolution that was matched
-copied : (s : List ℕ) (r q : Resolution) (y : ℕ) (out : List ℕ) → r ≡ q → Bytes s
-    → over (columnsLine s (y * lineBytesOf q) (planesOf q) (rowBytesOf q)) out ≡ over (scanLine s r y) out
-copied s r q y out e bytes = ap (λ (l : List ℕ). over l out) (columnsLine-scanLine s q y bytes ∙ ap (λ (r : Resolution). scanLine s r y) (sym e))
+length-scanLine : (s : List ℕ) (r : Resolution) (y : ℕ) → length (scanLine s r y) ≡ widthOf r
+unfolding scanLine
+length-scanLine s r y = length-tabulate (widthOf r) (λ x. register s r x y)
 
-enum-told : tie.Need-enum-told
-enum-told c = search needs
+-- the front of a list over another
+over-front : (l d out : List ℕ) (n : ℕ) → length l ≡ n → over (take n (over l d)) out ≡ over l out
+over-front l d out n e = ap (λ (m : List ℕ). over m out) (take-at l (drop (length l) d) n e)
 
-mul-copy-columns : tie.Need-mul-copy-columns
-mul-copy-columns c = omega (arith, height-le (c .before .before .before .before .args .r))
+slice-aggregate-fill-line : tie.Need-slice-aggregate-fill-line
+slice-aggregate-fill-line c = search needs
 
-copy-columns-requires : tie.Need-copy-columns-requires
-copy-columns-requires c κs =
-    let a = c .before .before .before .before .before .args in
-    let e : a .r ≡ Low = c .before .enum-told .given .1 in
-    ((omega arith, omega arith, omega arith, omega (arith, ap widthOf e)), column-within Low (a .line) (omega (arith, ap heightOf e)))
+fill-line-requires : tie.Need-fill-line-requires
+fill-line-requires c κs = (search needs, search needs, width-le (c .before .before .before .args .r))
 
-enum-told-2 : tie.Need-enum-told-2
-enum-told-2 c = search needs
+slice-aggregate-put-registers : tie.Need-slice-aggregate-put-registers
+slice-aggregate-put-registers c = search needs
 
-mul-copy-columns-2 : tie.Need-mul-copy-columns-2
-mul-copy-columns-2 c = omega (arith, height-le (c .before .before .before .before .args .r))
+width-requires : tie.Need-width-requires
+width-requires c κs = search needs
 
-copy-columns-requires-2 : tie.Need-copy-columns-requires-2
-copy-columns-requires-2 c κs =
-    let a = c .before .before .before .before .before .args in
-    let e : a .r ≡ Medium = c .before .enum-told2 .given .1 in
-    ((omega arith, omega arith, omega arith, omega (arith, ap widthOf e)), column-within Medium (a .line) (omega (arith, ap heightOf e)))
-
-enum-told-3 : tie.Need-enum-told-3
-enum-told-3 c = search needs
-
-mul-copy-columns-3 : tie.Need-mul-copy-columns-3
-mul-copy-columns-3 c = omega (arith, height-le (c .before .before .before .before .args .r))
-
-copy-columns-requires-3 : tie.Need-copy-columns-requires-3
-copy-columns-requires-3 c κs =
-    let a = c .before .before .before .before .before .args in
-    let e : a .r ≡ High = c .before .enum-told3 .given .1 in
-    ((omega arith, omega arith, omega arith, omega (arith, ap widthOf e)), column-within High (a .line) (omega (arith, ap heightOf e)))
+put-registers-requires : tie.Need-put-registers-requires
+put-registers-requires c κs =
+    let f = c .before .before .before .before in
+    let a = f .before .before .before .before .args in
+    let l : List ℕ = scanLine (now (a .screen)) (a .r) (a .line) in
+    let n : length l ≡ widthOf (a .r) = length-scanLine (now (a .screen)) (a .r) (a .line) in
+    let e = f .fill-line .ensures in
+    (omega (arith, width-le (a .r), ap length e, length-over l (replicate 640 0) (omega (arith, width-le (a .r)))), omega arith)
 
 same-length : tie.Need-same-length
 same-length c = search needs
 
 returns : tie.Need-returns
 returns c =
-    let p = c .before .before .before .before .before .before .before in
-    let a = p .before .args in
-    let e : a .r ≡ Low = c .before .before .before .before .enum-told .given .1 in
-    c .before .before .copy-columns .ensures ∙ copied (now (a .screen)) (a .r) Low (a .line) (now (a .out)) e (λ n. p .shared-slice-known .given n .fits)
-
-same-length-2 : tie.Need-same-length-2
-same-length-2 c = search needs
-
-returns-2 : tie.Need-returns-2
-returns-2 c =
-    let p = c .before .before .before .before .before .before .before in
-    let a = p .before .args in
-    let e : a .r ≡ Medium = c .before .before .before .before .enum-told2 .given .1 in
-    c .before .before .copy-columns2 .ensures ∙ copied (now (a .screen)) (a .r) Medium (a .line) (now (a .out)) e (λ n. p .shared-slice-known .given n .fits)
-
-same-length-3 : tie.Need-same-length-3
-same-length-3 c = search needs
-
-returns-3 : tie.Need-returns-3
-returns-3 c =
-    let p = c .before .before .before .before .before .before .before in
-    let a = p .before .args in
-    let e : a .r ≡ High = c .before .before .before .before .enum-told3 .given .1 in
-    c .before .before .copy-columns3 .ensures ∙ copied (now (a .screen)) (a .r) High (a .line) (now (a .out)) e (λ n. p .shared-slice-known .given n .fits)
+    let p = c .before .before in
+    let w = p .before .before in
+    let f = w .before .before .before in
+    let a = f .before .before .before .before .args in
+    let s = now (a .screen) in
+    let out = now (a .out) in
+    let l : List ℕ = scanLine s (a .r) (a .line) in
+    p .put-registers .ensures
+    ∙ ap (λ (m : List ℕ). over (take (w .width .result) m) out) (f .fill-line .ensures)
+    ∙ over-front l (replicate 640 0) out (w .width .result) (length-scanLine s (a .r) (a .line) ∙ sym (w .width .ensures))
 
 pub copy-line-spec : {M : Type 1} → statement M
 copy-line-spec =
     tie.close
     (tie.spec
-    enum-told
-    mul-copy-columns
-    copy-columns-requires
-    enum-told-2
-    mul-copy-columns-2
-    copy-columns-requires-2
-    enum-told-3
-    mul-copy-columns-3
-    copy-columns-requires-3
+    slice-aggregate-fill-line
+    fill-line-requires
+    slice-aggregate-put-registers
+    width-requires
+    put-registers-requires
     same-length
-    returns
-    same-length-2
-    returns-2
-    same-length-3
-    returns-3)
+    returns)
