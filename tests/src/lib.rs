@@ -13,6 +13,7 @@ pub mod program;
 pub mod random;
 pub mod reference;
 pub mod report;
+pub mod rewriting;
 pub mod roundtrip;
 pub mod selfcheck;
 pub mod types;

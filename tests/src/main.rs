@@ -44,9 +44,10 @@ fn seed_from(arguments: &[String]) -> Option<u64> {
 
 #[cfg(not(no_library))]
 fn check_library(report: &mut Report, seed: u64) {
-    use kutimuq_tests::{cases, compare::Comparison, examples, ffi::Library, roundtrip};
+    use kutimuq_tests::{cases, compare::Comparison, examples, ffi::Library, rewriting, roundtrip};
     examples::run(&Library, report);
     roundtrip::run(&Library, report, seed + 1, 60);
+    rewriting::run(&Library, report, seed + 2, 60);
     cases::run_all(&mut Comparison::new(&Library, report), seed);
 }
 

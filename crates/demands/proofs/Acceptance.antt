@@ -53,7 +53,7 @@ module _ {Fits : Type 0} (gives : Fits → Reading) where
 
 module _ (file : List ℕ) (r : Resolution) where
   module _ (p : PackedFits file r) where
-    packed-length : length file ≡ 34 + length (p .body) + 32
+    pub packed-length : length file ≡ 34 + length (p .body) + 32
     packed-length = omega (arith, ap length (p .parts), length-append (p .header ++ p .body) (p .tail), length-append (p .header) (p .body), p .before, p .behind)
 
     after-header : drop 34 file ≡ p .body ++ p .tail
