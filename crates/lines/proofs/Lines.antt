@@ -18,18 +18,19 @@ use Rattle.lists.proofs.Over.{length-over, getD-over-in, length-overAt, getD-ov
 use Rattle.lists.proofs.Sum.{sum-ext}
 use Rattle.lists.proofs.Tabulate.{length-tabulate, getD-tabulate, tabulate-ext, tabulate-take}
 use Rattle.words.specs.Word.{wordAt, wordBytes}
-use Rattle.outcome.specs.Outcome.{Outcome, accepted, refuseIf}
+use Rattle.outcome.specs.Outcome.{Outcome, accepted}
 use Rattle.outcome.specs.Refusal.{areaTooShort, outOfRange}
-use Rattle.resolution.specs.declared.Chosen.{Chosen}
-use Rattle.resolution.specs.declared.Chosen.the-variants.{Known, Unknown}
+use Rattle.outcome.proofs.Outcome.{passed}
+use Rattle.resolution.specs.declared.Chosen.the-variants.{Known}
 use Rattle.resolution.specs.declared.Resolution.{Resolution}
 use Rattle.resolution.specs.declared.Resolution.the-variants.{Low, Medium, High}
-use Rattle.resolution.specs.Choice.{chosen, judgeWith}
+use Rattle.resolution.specs.Choice.{chosen}
 use Rattle.resolution.specs.Shapes.{screenBytes, widthOf, heightOf, planesOf, groupsOf, lineBytesOf, registersOf}
+use Rattle.resolution.proofs.Choice.{judgeScreen-accepted}
 use Rattle.screen.specs.Registers.{groupOffset, wordOffset, pixelBit, register, scanLine, wordOf, lineBytes, withLine}
 use Rattle.screen.proofs.Places.{line-within, pixel-group}
-use Rattle.screen.proofs.Registers.{register-lt}
-use Rattle.lines.specs.Lines.{allBelow, judgeScreen, judgeLineAt, lineOutAt, lineOut, lineIn}
+use Rattle.screen.proofs.Registers.{register-lt, length-scanLine, getD-scanLine}
+use Rattle.lines.specs.Lines.{allBelow, judgeLineAt, lineOutAt, lineOut, lineIn}
 
 -- ---- the bytes of a scan line
 
@@ -67,7 +68,7 @@ line-room : (s : List ℕ) (r : Resolution) (y : ℕ) (line : List ℕ) → scre
     → y * lineBytesOf r + length (lineBytes r line) ≤ length s
 line-room s r y line long hy = omega (arith, line-within r y hy, length-lineBytes r line)
 
-pub length-withLine : (s : List ℕ) (r : Resolution) (y : ℕ) (line : List ℕ) → screenBytes ≤ length s → y < heightOf r
+length-withLine : (s : List ℕ) (r : Resolution) (y : ℕ) (line : List ℕ) → screenBytes ≤ length s → y < heightOf r
     → length (withLine s r y line) ≡ length s
 unfolding withLine
 length-withLine s r y line long hy = length-overAt (y * lineBytesOf r) (lineBytes r line) s (line-room s r y line long hy)
@@ -191,23 +192,6 @@ lt-allBelow (suc n) m l h = rw (lt-ltb (getD l n 0) m (h n (le-refl (suc n)))) (
 
 -- ---- outcomes
 
--- what is accepted was not refused by the first test
-pub passed : {A : Type 0} (t : Bool) (n : ℕ) (further : Outcome A) (a : A) → refuseIf t n further ≡ accepted a → (t ≡ false) × (further ≡ accepted a)
-passed true n further a e = let z : _≡_ {A = ℕ} 0 1 = cc in absurd (omega arith)
-passed false n further a e = (refl, e)
-
--- what is accepted has a screen and a resolution
-pub by-resolution : {A P : Type 0} (n number : ℕ) (further : Resolution → Outcome A) (a : A) → judgeScreen n number further ≡ accepted a
-    → ((r : Resolution) → chosen number ≡ Known r → screenBytes ≤ n → further r ≡ accepted a → P) → P
-by-resolution {P = P} n number further a e f = go (chosen number) refl (p .1)
-  where
-    p : (ltb n screenBytes ≡ false) × (judgeWith (chosen number) further ≡ accepted a)
-    p = passed (ltb n screenBytes) areaTooShort (judgeWith (chosen number) further) a e
-
-    go : (c : Chosen) → chosen number ≡ c → judgeWith c further ≡ accepted a → P
-    go (Known r) known q = f r known (ltb-false n screenBytes (p .0)) q
-    go Unknown unknown q = let z : _≡_ {A = ℕ} 0 1 = cc in absurd (omega arith)
-
 -- an accepted line lies within the screen and has room
 judged : {A : Type 0} (r : Resolution) (y room : ℕ) (further : Outcome A) (a : A) → judgeLineAt r y room further ≡ accepted a
     → (y < heightOf r) × (widthOf r ≤ room) × (further ≡ accepted a)
@@ -221,7 +205,7 @@ module _ (s : List ℕ) (number y : ℕ) (r : Resolution) (known : chosen number
   unfolding lineOut
   out-accepted room long hy hw = rw known (simp (le-ltb (length s) screenBytes long, lt-leb (heightOf r) y hy, le-ltb room (widthOf r) hw))
 
-  pub in-accepted : (line : List ℕ) → screenBytes ≤ length s → y < heightOf r → widthOf r ≤ length line → allBelow (widthOf r) (registersOf r) line ≡ true
+  in-accepted : (line : List ℕ) → screenBytes ≤ length s → y < heightOf r → widthOf r ≤ length line → allBelow (widthOf r) (registersOf r) line ≡ true
       → lineIn s number y line ≡ accepted (withLine s r y line)
   unfolding lineIn
   in-accepted line long hy hw fit =
@@ -249,18 +233,16 @@ out-after-in s line after number y room r known hw e =
 -- line in of what an accepted line out left is accepted and changes nothing
 pub in-after-out : (s l out : List ℕ) (number y : ℕ) → Bytes s → lineOut s number y (length out) ≡ accepted l
     → lineIn s number y (over l out) ≡ accepted s
-unfolding scanLine lineOut
+unfolding lineOut
 in-after-out s l out number y bytes e =
-    by-resolution (length s) number (λ r. lineOutAt s r y (length out)) l e
+    judgeScreen-accepted (length s) number (λ r. lineOutAt s r y (length out)) l e
     (λ r known long f.
-    let w : ℕ = widthOf r in
-    let row : ℕ → ℕ = λ x. register s r x y in
-    let j = judged r y (length out) (accepted (tabulate w row)) l f in
-    let same : accepted (tabulate w row) ≡ accepted l = j .2 in
-    let is : tabulate w row ≡ l = cc in
-    let len : length l ≡ w = ap length (sym is) ∙ length-tabulate w row in
-    let at : (x : ℕ) → x < w → getD (over l out) x 0 ≡ register s r x y = λ x h.
-    getD-over-in l out x 0 (omega arith) ∙ ap (λ (t : List ℕ). getD t x 0) (sym is) ∙ getD-tabulate w row x 0 h in
+    let j = judged r y (length out) (accepted (scanLine s r y)) l f in
+    let same : accepted (scanLine s r y) ≡ accepted l = j .2 in
+    let is : scanLine s r y ≡ l = cc in
+    let len : length l ≡ widthOf r = ap length (sym is) ∙ length-scanLine s r y in
+    let at : (x : ℕ) → x < widthOf r → getD (over l out) x 0 ≡ register s r x y = λ x h.
+    getD-over-in l out x 0 (omega arith) ∙ ap (λ (t : List ℕ). getD t x 0) (sym is) ∙ getD-scanLine s r x y h in
     in-accepted s number y r known (over l out) long (j .0) (omega (arith, j .1, length-over l out (omega (arith, j .1))))
-    (lt-allBelow w (registersOf r) (over l out) (λ x h. rw (at x h) (register-lt s r x y)))
+    (lt-allBelow (widthOf r) (registersOf r) (over l out) (λ x h. rw (at x h) (register-lt s r x y)))
     ∙ ap accepted (withLine-scanLine s r y bytes (over l out) at long (j .0)))

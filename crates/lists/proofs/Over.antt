@@ -1,15 +1,15 @@
 -- Laws of `over` and `overAt`, and of the loops that write them, one element a turn. Assumes nothing.
-use mathlib.Core.Path.{_≡_, sym, ap, _∙_}
+use mathlib.Core.Path.{_≡_, refl, sym, ap, _∙_}
 use mathlib.Core.List.{List, [], _∷_, _++_, append-assoc, append-nil}
 use Prim.Native.Nat.{ℕ, suc, _+_, _-_, _≤_, _<_}
 use native.Mathlib.Decide.{decLt}
 use native.Mathlib.Numerals.{add-one}
 use native.Mathlib.Omega.{arith}
 use lib.ListN.{length, getD, take, drop, set, length-append, length-drop, drop-of-length-le, List·getD-append}
-use lib.Seq.{drop-cons, drop-drop, take-suc, take-all, append-snoc, set-at, length-take-le, getD-take, getD-drop, getD-append-add, ext-getD, paste, paste-suc}
+use lib.Seq.{drop-cons, drop-drop, take-suc, take-add, take-all, take-at, drop-at, append-snoc, set-at, length-take-le, getD-take, getD-drop, getD-append-add, ext-getD, paste, paste-suc}
 use Rattle.lists.specs.Over.{over, overAt}
 use Rattle.lists.specs.Tabulate.{tabulate}
-use Rattle.lists.proofs.Tabulate.{length-tabulate, getD-tabulate}
+use Rattle.lists.proofs.Tabulate.{length-tabulate, getD-tabulate, tabulate-ext, tabulate-take}
 
 module _ {A : Type 0} where
   -- ---- over the front
@@ -45,6 +45,14 @@ module _ {A : Type 0} where
   -- after the last turn
   pub over-done : (s d out : List A) (k : ℕ) → length s ≤ k → out ≡ over (take k s) d → out ≡ over s d
   over-done s d out k h is = is ∙ ap (λ (t : List A). over t d) (take-all k s h)
+
+  -- a list of one element is written by one store
+  pub over-one : (s d : List A) (v z : A) → length s ≡ 1 → 0 < length d → v ≡ getD s 0 z → set d 0 v ≡ over s d
+  over-one s d v z one h e = over-done s d (set d 0 v) 1 (omega arith) (over-turn s d d 0 v z (omega arith) h refl e)
+
+  -- the front of a list over another
+  pub over-front : (s d out : List A) (n : ℕ) → length s ≡ n → over (take n (over s d)) out ≡ over s out
+  over-front s d out n e = ap (λ (t : List A). over t out) (take-at s (drop (length s) d) n e)
 
   -- a list that is written over whole is gone
   pub over-whole : (s d : List A) → length d ≤ length s → over s d ≡ s
@@ -110,6 +118,39 @@ module _ {A : Type 0} where
         ∙ getD-over-past s (drop at d) j z (omega arith)
         ∙ getD-drop at d j z
         ∙ ap (λ (n : ℕ). getD d n z) (sym e)
+
+  -- ---- a turn that writes a piece of s, where `over-turn` writes one element
+
+  over-piece : (s d out t : List A) (k : ℕ) → k + length t ≤ length s → out ≡ over (take k s) d → t ≡ take (length t) (drop k s)
+      → overAt k t out ≡ over (take (k + length t) s) d
+  over-piece s d out t k h is e =
+      let n : ℕ = length t in
+      let l : length (take k s) ≡ k = length-take-le k s (omega arith) in
+      let m : length (take (k + n) s) ≡ k + n = length-take-le (k + n) s h in
+      ap (λ (u : List A). overAt k t u) (is ∙ ap (λ (j : ℕ). take k s ++ drop j d) l)
+      ∙ ap (λ (u : List A). u ++ (t ++ drop n (drop k (take k s ++ drop k d)))) (take-at (take k s) (drop k d) k l)
+      ∙ ap (λ (u : List A). take k s ++ (t ++ drop n u)) (drop-at (take k s) (drop k d) k l)
+      ∙ ap (λ (u : List A). take k s ++ (t ++ u)) (drop-drop n k d)
+      ∙ sym (append-assoc (take k s) t (drop (k + n) d))
+      ∙ ap (λ (u : List A). (take k s ++ u) ++ drop (k + n) d) e
+      ∙ ap (λ (u : List A). u ++ drop (k + n) d) (sym (take-add k n s))
+      ∙ ap (λ (j : ℕ). take (k + n) s ++ drop j d) (sym m)
+
+  -- the same of a list given by a rule
+  pub tabulate-piece : (n m : ℕ) (f w : ℕ → A) (d out : List A) (k : ℕ) → k + m ≤ n → out ≡ over (take k (tabulate n f)) d
+      → ((i : ℕ) → i < m → w i ≡ f (k + i)) → overAt k (tabulate m w) out ≡ over (take (k + m) (tabulate n f)) d
+  tabulate-piece n m f w d out k h is e =
+      let s : List A = tabulate n f in
+      let l : length s ≡ n = length-tabulate n f in
+      let p : length (tabulate m w) ≡ m = length-tabulate m w in
+      let z : A = f 0 in
+      let t : tabulate m w ≡ take m (drop k s) =
+      tabulate-ext m w (λ i. getD (drop k s) i z)
+      (λ i b. e i b ∙ sym (getD-tabulate n f (k + i) z (omega arith)) ∙ sym (getD-drop k s i z))
+      ∙ tabulate-take m (drop k s) z (omega (arith, length-drop k s))
+      in
+      over-piece s d out (tabulate m w) k (omega arith) is (t ∙ ap (λ (j : ℕ). take j (drop k s)) (sym p))
+      ∙ ap (λ (j : ℕ). over (take (k + j) s) d) p
 
 -- ---- a list that has f 0, f 1, .. from an offset on, and is d elsewhere
 

@@ -39,9 +39,13 @@ module _ {A : Type 0} where
   tabulate-take (suc n) [] d h = absurd (not-suc-le-zero h)
   tabulate-take (suc n) (x ∷ xs) d h = ap (λ (t : List A). x ∷ t) (tabulate-take n xs d (le-of-suc-le-suc h))
 
+  -- what holds of every value of the rule, and of d, holds of every element
+  pub tabulate-all : (P : A → Type 0) (n : ℕ) (f : ℕ → A) (d : A) → P d → ((k : ℕ) → P (f k)) → (k : ℕ) → P (getD (tabulate n f) k d)
+  unfolding tabulate
+  tabulate-all P zero f d e h k = e
+  tabulate-all P (suc n) f d e h zero = h 0
+  tabulate-all P (suc n) f d e h (suc k) = tabulate-all P n (λ k. f (suc k)) d e (λ k. h (suc k)) k
+
 -- a bound on the rule is one on every element
 pub tabulate-le : (n : ℕ) (f : ℕ → ℕ) (b : ℕ) → ((k : ℕ) → f k ≤ b) → (k : ℕ) → getD (tabulate n f) k 0 ≤ b
-unfolding tabulate
-tabulate-le zero f b h k = zero-le
-tabulate-le (suc n) f b h zero = h 0
-tabulate-le (suc n) f b h (suc k) = tabulate-le n (λ k. f (suc k)) b (λ k. h (suc k)) k
+tabulate-le n f b h = tabulate-all (λ x. x ≤ b) n f 0 zero-le h

@@ -1,5 +1,4 @@
 pub mod Decimal
 pub mod Long
-pub mod Pieces
 pub mod Reading
 pub mod Summary

@@ -15,9 +15,10 @@ use Rattle.lists.proofs.Tabulate.{length-tabulate, getD-tabulate}
 use Rattle.resolution.specs.declared.Resolution.{Resolution}
 use Rattle.resolution.specs.declared.Resolution.the-variants.{Low, Medium, High}
 use Rattle.resolution.specs.Shapes.{screenBytes, planesOf, groupsOf, rowBytesOf, planeRowsOf}
+use Rattle.resolution.proofs.Shapes.{rowBytes-groups, planes-le}
 use Rattle.screen.specs.Registers.{groupOffset, wordOffset}
 use Rattle.screen.specs.PlaneRows.{rowOffset, planeRow, withRow}
-use Rattle.screen.proofs.Places.{rowBytes-groups, planes-le, row-within}
+use Rattle.screen.proofs.Places.{row-within}
 
 -- where byte c of such words lies
 abbrev pub strided : ℕ → ℕ → ℕ → ℕ

@@ -1,4 +1,4 @@
--- Laws of tallies: a tally is the sum of its lines' tallies, adds up to the rectangle's pixels, and determines every sum over registers.
+-- Laws of tallies: a tally is the sum of its lines' tallies, and adds up to the rectangle's pixels; counts determine every sum over registers.
 -- Assumes nothing.
 use mathlib.Core.Path.{_≡_, refl, sym, ap, _∙_}
 use mathlib.Core.List.{List, []}
@@ -16,16 +16,16 @@ use Rattle.lists.proofs.Sum.{sum-ext, sum-const, sum-mul, sum-swap}
 use Rattle.lists.proofs.Tabulate.{getD-tabulate, tabulate-ext, tabulate-le}
 use Rattle.outcome.specs.Outcome.{Outcome, accepted, refused, refuseIf, later}
 use Rattle.outcome.specs.Refusal.{areaTooShort, outOfRange}
+use Rattle.outcome.proofs.Outcome.{passed}
 use Rattle.resolution.specs.declared.Resolution.{Resolution}
-use Rattle.resolution.specs.declared.Resolution.the-variants.{Low, Medium, High}
 use Rattle.resolution.specs.declared.Chosen.{Chosen}
 use Rattle.resolution.specs.declared.Chosen.the-variants.{Known, Unknown}
 use Rattle.resolution.specs.Choice.{chosen, judgeWith}
-use Rattle.resolution.specs.Shapes.{screenBytes, widthOf, heightOf, registersOf}
-use Rattle.resolution.proofs.Shapes.{width-le, height-le}
+use Rattle.resolution.specs.Shapes.{screenBytes, widthOf, heightOf}
+use Rattle.resolution.proofs.Choice.{judgeScreen-accepted}
+use Rattle.resolution.proofs.Shapes.{width-le, height-le, registers-le}
 use Rattle.screen.specs.Registers.{register}
 use Rattle.screen.proofs.Registers.{register-lt}
-use Rattle.lines.proofs.Lines.{passed, by-resolution}
 use Rattle.tally.specs.declared.Rectangle.{Rectangle}
 use Rattle.tally.specs.declared.TallyAnswer.{TallyAnswer}
 use Rattle.tally.specs.Area.{fits, judgeAreaAt, judgeArea, lineSum, areaSum}
@@ -62,11 +62,6 @@ sum-register (suc n) k f h = go (sum-register n k f) (eq-or-lt-of-le (le-of-suc-
 
 register-lt-16 : (s : List ℕ) (r : Resolution) (x y : ℕ) → register s r x y < 16
 register-lt-16 s r x y = omega (arith, register-lt s r x y, registers-le r)
-  where
-    registers-le : (r : Resolution) → registersOf r ≤ 16
-    registers-le Low = omega arith
-    registers-le Medium = omega arith
-    registers-le High = omega arith
 
 module _ (s : List ℕ) (r : Resolution) where
   -- a sum over a line's registers, by the line's counts
@@ -90,7 +85,7 @@ module _ (s : List ℕ) (r : Resolution) where
       sum-mul (a .lines) (f v) (c v) ∙ ap (λ (m : ℕ). f v * m) (sym (getD-tabulate 16 (λ v. sum (a .lines) (c v)) v 0 h)))
 
   -- every pixel has one register
-  pub areaSum-one : (a : Rectangle) → areaSum s r a (λ v. 1) ≡ a .columns * a .lines
+  areaSum-one : (a : Rectangle) → areaSum s r a (λ v. 1) ≡ a .columns * a .lines
   unfolding areaSum lineSum
   areaSum-one a =
       sum-ext (a .lines) _ (λ j. a .columns) (λ j h. omega (arith, sum-const (a .columns) 1))
@@ -102,11 +97,11 @@ module _ (s : List ℕ) (r : Resolution) where
       sum-ext 16 _ (λ v. 1 * getD (counts s r a) v 0) (λ v h. omega arith) ∙ sym (areaSum-counts a (λ v. 1)) ∙ areaSum-one a
 
 -- line j of a rectangle
-abbrev pub lineOf : Rectangle → ℕ → Rectangle
+abbrev lineOf : Rectangle → ℕ → Rectangle
 lineOf a j = record { left = a .left; top = a .top + j; columns = a .columns; lines = 1 }
 
 -- counts of a rectangle are sums of its lines' counts
-pub counts-lines : (s : List ℕ) (r : Resolution) (a : Rectangle)
+counts-lines : (s : List ℕ) (r : Resolution) (a : Rectangle)
     → counts s r a ≡ tabulate 16 (λ v. sum (a .lines) (λ j. getD (counts s r (lineOf a j)) v 0))
 unfolding counts areaSum sum
 counts-lines s r a =
@@ -133,14 +128,14 @@ module _ (s : List ℕ) (number : ℕ) (a : Rectangle) (c : List ℕ) (e : talli
   pub tally-total : sum 16 (λ v. getD c v 0) ≡ a .columns * a .lines
   unfolding tallied
   tally-total =
-      by-resolution (length s) number (λ r. talliedAt s r a) c e
+      judgeScreen-accepted (length s) number (λ r. talliedAt s r a) c e
       (λ r known long f. ap (λ (l : List ℕ). sum 16 (λ v. getD l v 0)) (sym (accepted-counts s r a c f .1)) ∙ counts-total s r a)
 
   -- they are the sums of the counts of one-line rectangles, each of which is accepted
   pub tally-lines : c ≡ tabulate 16 (λ v. sum (a .lines) (λ j. getD (later (tallied s number (lineOf a j)) (λ d. d) []) v 0))
   unfolding tallied
   tally-lines =
-      by-resolution (length s) number (λ r. talliedAt s r a) c e
+      judgeScreen-accepted (length s) number (λ r. talliedAt s r a) c e
       (λ r known long f.
       let p = accepted-counts s r a c f in
       let w = fits-within r a (p .0) in
@@ -152,14 +147,6 @@ module _ (s : List ℕ) (number : ℕ) (a : Rectangle) (c : List ℕ) (e : talli
       (λ j k.
       rw known
       (simp (le-ltb (length s) screenBytes long, le-leb (a .left + a .columns) (widthOf r) (w .0), le-leb (a .top + j + 1) (heightOf r) (omega (arith, w .1)))))))
-
-  -- they determine the sum of any function of a register
-  pub tally-determines : (r : Resolution) → chosen number ≡ Known r → (f : ℕ → ℕ) → areaSum s r a f ≡ sum 16 (λ v. f v * getD c v 0)
-  unfolding tallied
-  tally-determines r known f =
-      let p = passed (ltb (length s) screenBytes) areaTooShort _ c e in
-      areaSum-counts s r a f
-      ∙ ap (λ (l : List ℕ). sum 16 (λ v. f v * getD l v 0)) (accepted-counts s r a c (rw known at (p .1)) .1)
 
 -- ---- answers
 
