@@ -2,7 +2,7 @@
 use mathlib.Core.Path.{_≡_, refl, _∙_}
 use mathlib.Core.Logic.{_↔_}
 use mathlib.Core.List.{List, [], _∷_}
-use Prim.Native.Nat.{ℕ, zero, suc, _+_, _*_, _%_, _≤_, _<_}
+use Prim.Native.Nat.{ℕ, _+_, _*_, _%_, _≤_, _<_}
 use native.Mathlib.Omega.{arith}
 use lib.ListN.{length, getD}
 use Rattle.lists.specs.Bytes.{Bytes}
@@ -10,8 +10,8 @@ use Rattle.lists.specs.Tabulate.{tabulate}
 use Rattle.lists.proofs.Tabulate.{length-tabulate, getD-tabulate, tabulate-ext, tabulate-le}
 use Rattle.outcome.specs.Outcome.{accepted, refused}
 use Rattle.outcome.specs.Refusal.{noPackedBody}
-use Rattle.unpack_rows.specs.UnpacksRows.{Wide}
-use Rattle.pack.specs.IsLeast.{Separate}
+use Rattle.unpack_rows.proofs.Wide.{Wide}
+use Rattle.pack.proofs.Bounds.{Separate, separate-tabulate}
 use Rattle.pack.proofs.Valid.{least-is-least}
 use Rattle.pack_rows.specs.LeastRows.{leastRows, leastRowsRecords}
 use Rattle.pack_rows.proofs.LeastRows.{rows-unpack, rows-shortest, leastRows-bound, separate-rows}
@@ -73,12 +73,6 @@ module _ (r : Resolution) (screen : List ℕ) where
       omega (arith, s .shortest (least-shortest .unpacks), rw (length-planeRows screen r, rows-most r) at rows)
 
 -- ---- "At each resolution some screen's least body has exactly that many."
-
-separate-tabulate : (n : ℕ) (f : ℕ → ℕ) → ((k : ℕ) → f k ≡ f (suc k) → ⊥) → Separate (tabulate n f)
-unfolding tabulate
-separate-tabulate zero f h = tt
-separate-tabulate (suc zero) f h = tt
-separate-tabulate (suc (suc n)) f h = (h 0, separate-tabulate (suc n) (λ k. f (suc k)) (λ k. h (suc k)))
 
 -- a plane row has the even and the odd bytes of a screen in turn
 rowOffset-parity : (r : Resolution) (n c : ℕ) → rowOffset r n c % 2 ≡ c % 2

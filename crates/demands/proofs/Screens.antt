@@ -1,17 +1,16 @@
 -- Laws of a byte string that unpacks to a screen, and of screens that agree in their first 32,000 bytes. Assumes nothing.
 use mathlib.Core.Path.{_≡_, sym, ap, _∙_, subst}
 use mathlib.Core.List.{List, _++_}
-use Prim.Native.Nat.{ℕ, zero, suc, _≤_, _<_}
+use Prim.Native.Nat.{ℕ, _≤_, _<_}
 use native.Mathlib.Omega.{arith}
 use lib.ListN.{length, getD, take}
 use Rattle.lists.specs.Bytes.{Bytes}
-use Rattle.lists.specs.Tabulate.{tabulate}
 use Rattle.lists.proofs.Tabulate.{tabulate-ext}
 use Rattle.outcome.specs.Outcome.{accepted}
 use Rattle.unpack_rows.specs.UnpackRows.{Rows, unpackRows}
-use Rattle.unpack_rows.specs.UnpacksRows.{UnpacksRows, Wide}
-use Rattle.unpack_rows.proofs.UnpackRows.{wide-at}
+use Rattle.unpack_rows.specs.UnpacksRows.{UnpacksRows}
 use Rattle.unpack_rows.proofs.Exact.{doneRows, complete-rows, exact-rows}
+use Rattle.unpack_rows.proofs.Wide.{Wide, wide-at, wide-tabulate}
 use Rattle.resolution.specs.declared.Resolution.{Resolution}
 use Rattle.resolution.specs.Shapes.{screenBytes, widthOf, heightOf, rowBytesOf, planeRowsOf}
 use Rattle.screen.specs.Registers.{register}
@@ -21,11 +20,6 @@ use Rattle.screen.proofs.PlaneRows.{length-planeRow, length-planeRows, rows-of-
 use Rattle.demands.specs.Screens.{UnpacksScreen}
 
 -- ---- plane rows have their resolution's width
-
-wide-tabulate : (width n : ℕ) (f : ℕ → List ℕ) → ((k : ℕ) → length (f k) ≡ width) → Wide width (tabulate n f)
-unfolding tabulate
-wide-tabulate width zero f h = tt
-wide-tabulate width (suc n) f h = (h 0, wide-tabulate width n (λ k. f (suc k)) (λ k. h (suc k)))
 
 pub wide-planeRows : (s : List ℕ) (r : Resolution) → Wide (rowBytesOf r) (planeRows s r)
 unfolding planeRows

@@ -1,4 +1,3 @@
 pub mod Decimal
 pub mod Long
-pub mod Reading
 pub mod Summary

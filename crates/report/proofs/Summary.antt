@@ -17,9 +17,9 @@ use Rattle.resolution.specs.Choice.{chosen}
 use Rattle.tally.specs.Counts.{counts, talliedAt, tallied, tallyAnswer}
 use Rattle.reader.specs.declared.ReadAnswer.{ReadAnswer}
 use Rattle.reader.specs.Reading.{Reading, readAnswer, readArea}
+use Rattle.reader.proofs.Sound.{Sound}
 use Rattle.report.specs.Labels.{blank}
 use Rattle.report.specs.Summary.{item, items, refusalLine, tallyLine, wholeScreen, screenCounts, numbersText, readingText, summaryText}
-use Rattle.report.proofs.Reading.{Sound}
 
 -- ---- the tally's counts, one a turn
 
