@@ -18,6 +18,7 @@ use Rattle.lists.proofs.Over.{length-over, getD-over-in, length-overAt, getD-ov
 use Rattle.lists.proofs.Sum.{sum-ext}
 use Rattle.lists.proofs.Tabulate.{length-tabulate, getD-tabulate, tabulate-ext, tabulate-take}
 use Rattle.words.specs.Word.{wordAt, wordBytes}
+use Rattle.words.proofs.Word.{wordAt-lt, wordBytes-wordAt}
 use Rattle.outcome.specs.Outcome.{Outcome, accepted}
 use Rattle.outcome.specs.Refusal.{areaTooShort, outOfRange}
 use Rattle.outcome.proofs.Outcome.{passed}
@@ -26,7 +27,7 @@ use Rattle.resolution.specs.declared.Resolution.{Resolution}
 use Rattle.resolution.specs.declared.Resolution.the-variants.{Low, Medium, High}
 use Rattle.resolution.specs.Choice.{chosen}
 use Rattle.resolution.specs.Shapes.{screenBytes, widthOf, heightOf, planesOf, groupsOf, lineBytesOf, registersOf}
-use Rattle.resolution.proofs.Choice.{judgeScreen-accepted}
+use Rattle.resolution.proofs.Choice.{judgeScreen-fits}
 use Rattle.screen.specs.Registers.{groupOffset, wordOffset, pixelBit, register, scanLine, wordOf, lineBytes, withLine}
 use Rattle.screen.proofs.Places.{line-within, pixel-group}
 use Rattle.screen.proofs.Registers.{register-lt, length-scanLine, getD-scanLine}
@@ -139,16 +140,6 @@ scanLine-withLine s r y line long hy hw fit =
 -- ---- line in after line out
 
 module _ (s : List ℕ) (r : Resolution) (y : ℕ) (bytes : Bytes s) where
-  word-byte : (o h : ℕ) → h < 2 → getD (wordBytes (wordAt s o)) h 0 ≡ getD s (o + h) 0
-  unfolding wordBytes wordAt
-  word-byte o zero l = digits-div (getD s o 0) (bytes (o + 1)) ∙ ap (λ (m : ℕ). getD s m 0) (sym (add-zero o))
-  word-byte o (suc zero) l = digits-mod (getD s o 0) (bytes (o + 1))
-  word-byte o (suc (suc h)) l = absurd (omega arith)
-
-  word-lt : (o : ℕ) → wordAt s o < 65536
-  unfolding wordAt
-  word-lt o = omega (arith, bytes o, bytes (o + 1))
-
   -- plane p's word from the registers of a line that has the scan line's first
   word-out : (line : List ℕ) → ((x : ℕ) → x < widthOf r → getD line x 0 ≡ register s r x y)
       → (g p : ℕ) → g < groupsOf r → p < planesOf r → wordOf line g p ≡ wordAt s (wordOffset r y g p)
@@ -161,7 +152,7 @@ module _ (s : List ℕ) (r : Resolution) (y : ℕ) (bytes : Bytes s) where
       ∙ sum-digit (planesOf r) (λ q. pixelBit (wordAt s (wordOffset r y ((g * 16 + k) / 16) q)) ((g * 16 + k) % 16)) (λ q. omega arith) p hp
       ∙ ap₂ (λ (a b : ℕ). pixelBit (wordAt s (wordOffset r y a p)) b) (digits-div g hk) (digits-mod g hk))
       ∙ fromBits-bits 16 w
-      ∙ mod-eq-of-lt (word-lt (wordOffset r y g p))
+      ∙ mod-eq-of-lt (wordAt-lt s bytes (wordOffset r y g p))
 
   -- nothing changes
   withLine-scanLine : (line : List ℕ) → ((x : ℕ) → x < widthOf r → getD line x 0 ≡ register s r x y) → screenBytes ≤ length s → y < heightOf r
@@ -180,7 +171,7 @@ module _ (s : List ℕ) (r : Resolution) (y : ℕ) (bytes : Bytes s) where
       let f : (g * P + p) * 2 + i % 2 ≡ i = omega (arith, div-add-mod' (i / 2) P) in
       sym
       (ap (λ (w : ℕ). getD (wordBytes w) (i % 2) 0) (word-out line e g p (d .0) (d .1))
-      ∙ word-byte (wordOffset r y g p) (i % 2) (omega arith)
+      ∙ wordBytes-wordAt s bytes (wordOffset r y g p) (i % 2) (omega arith)
       ∙ ap (λ (o : ℕ). getD s o 0) (word-offset r y g p (i % 2))
       ∙ ap (λ (m : ℕ). getD s (y * n + m) 0) f))
       (λ o h. refl))
@@ -193,9 +184,9 @@ lt-allBelow (suc n) m l h = rw (lt-ltb (getD l n 0) m (h n (le-refl (suc n)))) (
 -- ---- outcomes
 
 -- an accepted line lies within the screen and has room
-judged : {A : Type 0} (r : Resolution) (y room : ℕ) (further : Outcome A) (a : A) → judgeLineAt r y room further ≡ accepted a
+judgeLineAt-fits : {A : Type 0} (r : Resolution) (y room : ℕ) (further : Outcome A) (a : A) → judgeLineAt r y room further ≡ accepted a
     → (y < heightOf r) × (widthOf r ≤ room) × (further ≡ accepted a)
-judged r y room further a e =
+judgeLineAt-fits r y room further a e =
     let p = passed (leb (heightOf r) y) outOfRange _ a e in
     let q = passed (ltb room (widthOf r)) areaTooShort _ a (p .1) in
     (leb-false (heightOf r) y (p .0), ltb-false room (widthOf r) (q .0), q .1)
@@ -222,7 +213,7 @@ out-after-in s line after number y room r known hw e =
     let t : List ℕ = withLine s r y line in
     let p = passed (ltb (length s) screenBytes) areaTooShort _ after e in
     let long : screenBytes ≤ length s = ltb-false (length s) screenBytes (p .0) in
-    let j = judged r y (length line) _ after (rw known at (p .1)) in
+    let j = judgeLineAt-fits r y (length line) _ after (rw known at (p .1)) in
     let q = passed (not fit) outOfRange (accepted t) after (j .2) in
     let same : accepted t ≡ accepted after = q .1 in
     let is : t ≡ after = cc in
@@ -235,9 +226,9 @@ pub in-after-out : (s l out : List ℕ) (number y : ℕ) → Bytes s → lineOut
     → lineIn s number y (over l out) ≡ accepted s
 unfolding lineOut
 in-after-out s l out number y bytes e =
-    judgeScreen-accepted (length s) number (λ r. lineOutAt s r y (length out)) l e
+    judgeScreen-fits (length s) number (λ r. lineOutAt s r y (length out)) l e
     (λ r known long f.
-    let j = judged r y (length out) (accepted (scanLine s r y)) l f in
+    let j = judgeLineAt-fits r y (length out) (accepted (scanLine s r y)) l f in
     let same : accepted (scanLine s r y) ≡ accepted l = j .2 in
     let is : scanLine s r y ≡ l = cc in
     let len : length l ≡ widthOf r = ap length (sym is) ∙ length-scanLine s r y in

@@ -1,4 +1,4 @@
--- Laws of `over` and `overAt`, and of the loops that write them, one element a turn. Assumes nothing.
+-- Laws of `over` and `overAt`, and of the loops that write them, one element or one piece a turn. Assumes nothing.
 use mathlib.Core.Path.{_≡_, refl, sym, ap, _∙_}
 use mathlib.Core.List.{List, [], _∷_, _++_, append-assoc, append-nil}
 use Prim.Native.Nat.{ℕ, suc, _+_, _-_, _≤_, _<_}

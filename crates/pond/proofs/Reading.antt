@@ -12,7 +12,7 @@ use Rattle.outcome.specs.Outcome.{Outcome, accepted}
 use Rattle.outcome.specs.Refusal.{outOfRange}
 use Rattle.outcome.proofs.Outcome.{passed}
 use Rattle.resolution.specs.declared.Resolution.{Resolution}
-use Rattle.resolution.proofs.Choice.{judgeScreen-accepted}
+use Rattle.resolution.proofs.Choice.{judgeScreen-fits}
 use Rattle.tally.specs.declared.Rectangle.{Rectangle}
 use Rattle.tally.specs.Area.{fits, judgeAreaAt}
 use Rattle.tally.specs.Counts.{counts, tallied, tallyAnswer}
@@ -52,7 +52,7 @@ module _ (s : List ℕ) (number : ℕ) (a : Rectangle) (class floor : ℕ) (l : 
   pub pond-total : (p : PondCounts) → pondReading s number a class floor l ≡ accepted p → p .sure + p .unsure + p .other ≡ a .columns * a .lines
   unfolding pondReading
   pond-total p e =
-      judgeScreen-accepted (length s) number (λ r. judgeAreaAt r a (judgeLegend floor l (accepted (pondOf s r a class floor l)))) p e
+      judgeScreen-fits (length s) number (λ r. judgeAreaAt r a (judgeLegend floor l (accepted (pondOf s r a class floor l)))) p e
       (λ r known long f.
       let q = passed (not (fits r a)) outOfRange _ p f in
       let t = passed (ltb 100 floor) outOfRange _ p (q .1) in

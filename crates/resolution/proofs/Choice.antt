@@ -23,9 +23,9 @@ withResolution-elim P number further unknown known = go (chosen number) refl
     go Unknown e = unknown
 
 -- what is accepted has a whole screen and a resolution
-pub judgeScreen-accepted : {A P : Type 0} (screenLen number : ℕ) (further : Resolution → Outcome A) (a : A) → judgeScreen screenLen number further ≡ accepted a
+pub judgeScreen-fits : {A P : Type 0} (screenLen number : ℕ) (further : Resolution → Outcome A) (a : A) → judgeScreen screenLen number further ≡ accepted a
     → ((r : Resolution) → chosen number ≡ Known r → screenBytes ≤ screenLen → further r ≡ accepted a → P) → P
-judgeScreen-accepted {A = A} {P = P} screenLen number further a e f =
+judgeScreen-fits {A = A} {P = P} screenLen number further a e f =
     let p = passed (ltb screenLen screenBytes) areaTooShort (withResolution number further) a e in
     withResolution-elim (λ (o : Outcome A). o ≡ accepted a → P) number further (λ q. let z : _≡_ {A = ℕ} 0 1 = cc in absurd (omega arith))
     (λ r known. f r known (ltb-false screenLen screenBytes (p .0)))

@@ -22,7 +22,7 @@ use Rattle.resolution.specs.declared.Chosen.{Chosen}
 use Rattle.resolution.specs.declared.Chosen.the-variants.{Known, Unknown}
 use Rattle.resolution.specs.Choice.{chosen, judgeWith}
 use Rattle.resolution.specs.Shapes.{screenBytes, widthOf, heightOf}
-use Rattle.resolution.proofs.Choice.{judgeScreen-accepted}
+use Rattle.resolution.proofs.Choice.{judgeScreen-fits}
 use Rattle.resolution.proofs.Shapes.{width-le, height-le, registers-le}
 use Rattle.screen.specs.Registers.{register}
 use Rattle.screen.proofs.Registers.{register-lt}
@@ -128,14 +128,14 @@ module _ (s : List ℕ) (number : ℕ) (a : Rectangle) (c : List ℕ) (e : talli
   pub tally-total : sum 16 (λ v. getD c v 0) ≡ a .columns * a .lines
   unfolding tallied
   tally-total =
-      judgeScreen-accepted (length s) number (λ r. talliedAt s r a) c e
+      judgeScreen-fits (length s) number (λ r. talliedAt s r a) c e
       (λ r known long f. ap (λ (l : List ℕ). sum 16 (λ v. getD l v 0)) (sym (accepted-counts s r a c f .1)) ∙ counts-total s r a)
 
   -- they are the sums of the counts of one-line rectangles, each of which is accepted
   pub tally-lines : c ≡ tabulate 16 (λ v. sum (a .lines) (λ j. getD (later (tallied s number (lineOf a j)) (λ d. d) []) v 0))
   unfolding tallied
   tally-lines =
-      judgeScreen-accepted (length s) number (λ r. talliedAt s r a) c e
+      judgeScreen-fits (length s) number (λ r. talliedAt s r a) c e
       (λ r known long f.
       let p = accepted-counts s r a c f in
       let w = fits-within r a (p .0) in

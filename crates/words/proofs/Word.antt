@@ -1,15 +1,30 @@
--- Laws of the bytes of words: how many they are, and that the words are read again from where they stand. Assumes nothing.
+-- Laws of words and their bytes: each is made from the other, and words that were written as bytes are read again from where they stand.
+-- Assumes nothing.
 use mathlib.Core.Path.{_≡_, refl, sym, ap, _∙_}
 use mathlib.Core.List.{List, _∷_, _++_}
-use Prim.Native.Nat.{ℕ, _+_, _*_, _/_, _%_}
-use native.Mathlib.Nat.{div-add-mod'}
+use Prim.Native.Nat.{ℕ, zero, suc, _+_, _*_, _/_, _%_, _<_}
+use native.Mathlib.Nat.{add-zero, div-add-mod'}
 use native.Mathlib.Omega.{arith}
+use lib.Arith.{digits-div, digits-mod}
 use lib.ListN.{length, getD}
 use lib.Seq.{getD-at, getD-append-add}
+use Rattle.lists.specs.Bytes.{Bytes}
 use Rattle.lists.specs.Tabulate.{tabulate}
 use Rattle.lists.proofs.Flatten.{length-flatten, piece-back}
 use Rattle.lists.proofs.Tabulate.{tabulate-ext, tabulate-getD}
 use Rattle.words.specs.Word.{wordAt, wordsAt, wordBytes, wordsBytes}
+
+module _ (s : List ℕ) (bytes : Bytes s) where
+  pub wordAt-lt : (at : ℕ) → wordAt s at < 65536
+  unfolding wordAt
+  wordAt-lt at = omega (arith, bytes at, bytes (at + 1))
+
+  -- a word's bytes are those from which it was read
+  pub wordBytes-wordAt : (at h : ℕ) → h < 2 → getD (wordBytes (wordAt s at)) h 0 ≡ getD s (at + h) 0
+  unfolding wordBytes wordAt
+  wordBytes-wordAt at zero l = digits-div (getD s at 0) (bytes (at + 1)) ∙ ap (λ (m : ℕ). getD s m 0) (sym (add-zero at))
+  wordBytes-wordAt at (suc zero) l = digits-mod (getD s at 0) (bytes (at + 1))
+  wordBytes-wordAt at (suc (suc h)) l = absurd (omega arith)
 
 pub length-wordsBytes : (ws : List ℕ) → length (wordsBytes ws) ≡ length ws * 2
 unfolding wordBytes wordsBytes
