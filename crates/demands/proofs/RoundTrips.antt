@@ -21,7 +21,7 @@ use Rattle.resolution.specs.Choice.{chosen, withResolution}
 use Rattle.resolution.proofs.Choice.{withResolution-elim}
 use Rattle.screen.specs.Registers.{register}
 use Rattle.screen.specs.PlaneRows.{planeRows}
-use Rattle.screen.proofs.PlaneRows.{screen-of-rows}
+use Rattle.screen.proofs.PlaneRows.{screen-of-rows, register-front}
 use Rattle.picture.specs.declared.Picture.{Picture}
 use Rattle.reader.specs.Reading.{Reading, degasResolution, readRaw, readPacked, readDegas, readFile, readArea}
 use Rattle.reader.proofs.Reading.{raw-plain, raw-tail, chosen-packed, chosen-raw, degas-known, neo-known, file-degas, file-neo}
@@ -31,7 +31,7 @@ use Rattle.writer.proofs.WriteFile.{known-le, form-plain, form-elite, form-neo,
 use Rattle.demands.specs.Screens.{UnpacksScreen}
 use Rattle.demands.specs.Pictures.{Whole}
 use Rattle.demands.specs.RoundTrips.{kindOf, readBack}
-use Rattle.demands.proofs.Screens.{rows-complete, register-front}
+use Rattle.demands.proofs.Screens.{rows-complete}
 use Rattle.demands.proofs.Files.{length-degasHeader, header-word, header-palette, header-rest, length-tailed, tailed-tail, length-neoFile, neo-flag, neo-resolution, neo-palette, neo-screen}
 use Rattle.demands.proofs.LeastBodies.{least-shortest}
 

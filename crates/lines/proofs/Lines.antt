@@ -1,7 +1,7 @@
 -- Laws of line out and line in: each undoes the other. Assumes nothing.
 use mathlib.Core.Path.{_≡_, refl, sym, ap, ap₂, _∙_}
-use mathlib.Core.Bool.{Bool, true, false, not, _&&_}
-use mathlib.Core.Logic.{_⊎_, inl, inr}
+use mathlib.Core.Bool.{Bool, true, not}
+use mathlib.Core.Logic.{⊎-elim}
 use mathlib.Core.List.{List}
 use Prim.Native.Nat.{ℕ, zero, suc, _+_, _-_, _*_, _/_, _%_, _^_, _≤_, _<_}
 use native.Mathlib.Nat.{le-refl, add-zero, div-add-mod', mod-eq-of-lt, not-suc-le-zero, le-of-suc-le-suc, eq-or-lt-of-le}
@@ -13,6 +13,7 @@ use borrow.Author.Tests.{ltb-true, ltb-false, leb-false, lt-ltb, lt-leb, le-ltb,
 use Rattle.lists.specs.Bytes.{Bytes}
 use Rattle.lists.specs.Over.{over, overAt}
 use Rattle.lists.specs.Tabulate.{tabulate}
+use Rattle.lists.proofs.Cond.{and-true}
 use Rattle.lists.proofs.Digits.{fromBits-ext, bit-fromBits, fromBits-bits, sum-digits, sum-digit}
 use Rattle.lists.proofs.Over.{length-over, getD-over-in, length-overAt, getD-overAt-in, overAt-ext}
 use Rattle.lists.proofs.Sum.{sum-ext}
@@ -120,13 +121,9 @@ module _ (s : List ℕ) (r : Resolution) (y : ℕ) (line : List ℕ) (long : scr
 allBelow-lt : (n m : ℕ) (l : List ℕ) → allBelow n m l ≡ true → (k : ℕ) → k < n → getD l k 0 < m
 unfolding allBelow
 allBelow-lt zero m l e k h = absurd (not-suc-le-zero h)
-allBelow-lt (suc n) m l e k h = go (ltb (getD l n 0) m) refl e (allBelow-lt n m l) (eq-or-lt-of-le (le-of-suc-le-suc h))
-  where
-    go : (b : Bool) → ltb (getD l n 0) m ≡ b → b && allBelow n m l ≡ true → (allBelow n m l ≡ true → (k : ℕ) → k < n → getD l k 0 < m)
-        → (k ≡ n) ⊎ (k < n) → getD l k 0 < m
-    go true t e ih (inl q) = rw q (ltb-true (getD l n 0) m t)
-    go true t e ih (inr q) = ih e k q
-    go false t e ih q = let z : _≡_ {A = ℕ} 0 1 = cc in omega arith
+allBelow-lt (suc n) m l e k h =
+    let p = and-true (ltb (getD l n 0) m) (allBelow n m l) e in
+    ⊎-elim (λ q. rw q (ltb-true (getD l n 0) m (p .0))) (λ q. allBelow-lt n m l (p .1) k q) (eq-or-lt-of-le (le-of-suc-le-suc h))
 
 -- the registers that line in was given
 scanLine-withLine : (s : List ℕ) (r : Resolution) (y : ℕ) (line : List ℕ) → screenBytes ≤ length s → y < heightOf r → widthOf r ≤ length line

@@ -276,10 +276,24 @@ register-of-rows s r x y h =
     (λ p hp. ap (λ (w : ℕ). pixelBit w (x % 16) * 2 ^ p) (word-of-row r y (x / 16) p hp (pixel-group r x h) s))
 
 -- equal plane rows give equal registers
-pub registers-ext : (s t : List ℕ) (r : Resolution) (x y : ℕ) → x < widthOf r → y < heightOf r
+registers-ext : (s t : List ℕ) (r : Resolution) (x y : ℕ) → x < widthOf r → y < heightOf r
     → ((n : ℕ) → n < planeRowsOf r → planeRow s r n ≡ planeRow t r n) → register s r x y ≡ register t r x y
 registers-ext s t r x y hx hy e =
     register-of-rows s r x y hx
     ∙ sum-ext (planesOf r) _ (λ p. pixelBit (wordAt (planeRow t r (y * planesOf r + p)) (x / 16 * 2)) (x % 16) * 2 ^ p)
     (λ p hp. ap (λ (l : List ℕ). pixelBit (wordAt l (x / 16 * 2)) (x % 16) * 2 ^ p) (e (y * planesOf r + p) (plane-row r y p hy hp)))
     ∙ sym (register-of-rows t r x y hx)
+
+-- ---- screens that agree in their first 32,000 bytes
+
+module _ (s t : List ℕ) (same : (o : ℕ) → o < screenBytes → getD s o 0 ≡ getD t o 0) (r : Resolution) where
+  planeRow-front : (n : ℕ) → n < planeRowsOf r → planeRow s r n ≡ planeRow t r n
+  unfolding planeRow
+  planeRow-front n h = tabulate-ext (rowBytesOf r) _ (λ c. getD t (rowOffset r n c) 0) (λ c k. same (rowOffset r n c) (row-within r n c h k))
+
+  pub planeRows-front : planeRows s r ≡ planeRows t r
+  unfolding planeRows
+  planeRows-front = tabulate-ext (planeRowsOf r) _ (λ n. planeRow t r n) planeRow-front
+
+  pub register-front : (x y : ℕ) → x < widthOf r → y < heightOf r → register s r x y ≡ register t r x y
+  register-front x y hx hy = registers-ext s t r x y hx hy planeRow-front
