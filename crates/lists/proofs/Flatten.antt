@@ -2,7 +2,7 @@
 -- what is read from where they stand. Assumes nothing.
 use mathlib.Core.Path.{_≡_, sym, ap, _∙_}
 use mathlib.Core.List.{List, [], _∷_, _++_, map, flatten, append-assoc, append-nil}
-use Prim.Native.Nat.{ℕ, zero, suc, _+_, _-_, _*_, _<_}
+use Prim.Native.Nat.{ℕ, zero, suc, _+_, _-_, _*_, _<_, suc-le-suc}
 use native.Mathlib.Nat.{not-suc-le-zero, le-of-suc-le-suc, zero-lt-suc, suc-mul}
 use native.Mathlib.Numerals.{add-one}
 use native.Mathlib.Omega.{arith}
@@ -19,11 +19,17 @@ module _ {A B : Type 0} (f : A → List B) where
   flatten-snoc (y ∷ xs) x = ap (λ (l : List B). f y ++ l) (flatten-snoc xs x) ∙ sym (append-assoc (f y) (flatten (map f xs)) (f x))
 
   -- pieces of k elements each
-  pub length-flatten : (k : ℕ) → ((x : A) → length (f x) ≡ k) → (xs : List A) → length (flatten (map f xs)) ≡ length xs * k
+  pub length-flatten : (k : ℕ) (xs : List A) (z : A) → ((j : ℕ) → j < length xs → length (f (getD xs j z)) ≡ k) → length (flatten (map f xs)) ≡ length xs * k
   unfolding flatten
-  length-flatten k h [] = omega arith
-  length-flatten k h (x ∷ xs) =
-      omega (arith, length-append (f x) (flatten (map f xs)), h x, length-flatten k h xs, suc-mul (length xs) k)
+  length-flatten k [] z h = omega arith
+  length-flatten k (x ∷ xs) z h =
+      omega (
+        arith,
+        length-append (f x) (flatten (map f xs)),
+        h 0 (zero-lt-suc (length xs)),
+        length-flatten k xs z (λ j l. h (suc j) (suc-le-suc l)),
+        suc-mul (length xs) k,
+      )
 
   module _ (xs : List A) (z : A) (i : ℕ) (h : i < length xs) where
     -- one piece more

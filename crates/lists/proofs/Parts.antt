@@ -1,12 +1,13 @@
 -- Parts of a slice, as `&s[a..]` and `&s[a..e]` lend them. Assumes nothing.
 use Prim.Native.Nat.{ℕ, _+_, _-_, _≤_}
 use native.Mathlib.Omega.{arith}
-use mathlib.Core.Path.{_≡_, sym, ap, _∙_}
-use mathlib.Core.List.{List, _++_, append-assoc, append-nil}
+use mathlib.Core.Path.{_≡_, ap, _∙_}
+use mathlib.Core.List.{List, _++_, append-nil}
 use borrow.Rule.Slice.PartMut.{putMid, post-is}
 use lib.ListN.{length, take, drop, length-append, length-drop}
-use lib.Seq.{take-all, take-length, take-at, drop-length, drop-at, drop-drop}
-use Rattle.lists.specs.Over.{over}
+use lib.Seq.{take-all, take-length, drop-length}
+use Rattle.lists.specs.Over.{over, overAt}
+use Rattle.lists.proofs.Over.{over-more}
 
 module _ {A : Type 0} where
   -- the part from a on
@@ -23,15 +24,10 @@ module _ {A : Type 0} where
   pub over-append : (d a b o t : List A) (n : ℕ) → o ≡ over a d → length a ≡ n → t ≡ over b (take (length o - n) (drop n o))
       → putMid n (length o - n) o t ≡ over (a ++ b) d
   over-append d a b o t n is l e =
-      let rest : List A = drop (length a) d in
-      let front : take n o ≡ a = ap (take n) is ∙ take-at a rest n l in
-      let behind : drop n o ≡ rest = ap (drop n) is ∙ drop-at a rest n l in
-      let room : n ≤ length o = omega (arith, ap length is, length-append a rest) in
-      tail-put o t n room
-      ∙ ap (λ (x : List A). x ++ t) front
-      ∙ ap (λ (x : List A). a ++ x) (e ∙ ap (over b) (tail-part o n ∙ behind) ∙ ap (λ (x : List A). b ++ x) (drop-drop (length b) (length a) d))
-      ∙ sym (append-assoc a b (drop (length a + length b) d))
-      ∙ ap (λ (k : ℕ). (a ++ b) ++ drop k d) (sym (length-append a b))
+      tail-put o t n (omega (arith, ap length is, length-append a (drop (length a) d)))
+      ∙ ap (λ (u : List A). take n o ++ u) (e ∙ ap (over b) (tail-part o n))
+      ∙ ap (overAt n b) is
+      ∙ over-more d a b n l
 
   -- what the kit's `bytes::copy` leaves
   pub copied-over : (s d : List A) → take (length s) s ++ drop (length s) d ≡ over s d

@@ -1,13 +1,13 @@
 -- A string that is written piece by piece to the front of an output, each piece to the part from its present end on. Assumes nothing.
-use Prim.Native.Nat.{ℕ, suc, _+_, _-_, _≤_, _<_}
+use Prim.Native.Nat.{ℕ, _+_, _-_, _≤_, _<_}
 use native.Mathlib.Omega.{arith}
 use mathlib.Core.Path.{_≡_, refl, sym, ap, ap₂, _∙_, subst}
 use mathlib.Core.List.{List, [], _∷_, _++_, append-assoc, append-nil}
-use lib.ListN.{length, getD, take, drop, set, length-append, length-drop, take-append-drop}
-use lib.Seq.{length-take-le, take-at, drop-at, drop-drop, drop-cons, set-at, append-snoc}
+use lib.ListN.{length, take, drop, set, length-append, length-drop, take-append-drop}
+use lib.Seq.{length-take-le, take-at, drop-at, drop-drop, getD-at}
 use borrow.Rule.Slice.PartMut.{putMid}
 use Rattle.lists.specs.Over.{over}
-use Rattle.lists.proofs.Over.{length-over}
+use Rattle.lists.proofs.Over.{length-over, over-turn, over-done}
 use Rattle.lists.proofs.Parts.{tail-part, tail-put, over-append, copied-over}
 
 -- o bytes of out are written, the string `rest` of the string `whole` is still to come, and out₀ is what out was
@@ -108,12 +108,14 @@ module _ {a d out : List ℕ} {o : ℕ} (w : Written a d out o) where
   -- one byte after a
   pub written-byte : (x : ℕ) → length a < length d → Written (a ++ x ∷ []) d (set out o x) (o + 1)
   written-byte x h =
-      let more : suc (length a) ≡ length (a ++ x ∷ []) = omega (arith, length-append a (x ∷ [])) in
+      let s : List ℕ = a ++ x ∷ [] in
+      let more : length s ≡ length a + 1 = length-append a (x ∷ []) in
       record {
         bytes = omega (arith, w .bytes, more);
         all =
-            ap (λ (l : List ℕ). set l o x) (w .all ∙ ap (λ (l : List ℕ). a ++ l) (drop-cons d (length a) 0 h))
-            ∙ set-at a (getD d (length a) 0) (drop (suc (length a)) d) x o (sym (w .bytes))
-            ∙ sym (append-snoc a x (drop (suc (length a)) d))
-            ∙ ap (λ (k : ℕ). a ++ x ∷ [] ++ drop k d) more;
+            ap (λ (k : ℕ). set out k x) (w .bytes)
+            ∙ over-done s d (set out (length a) x) (length a + 1) (omega (arith, more))
+            (over-turn s d out (length a) x 0 (omega (arith, more)) h
+            (w .all ∙ ap (λ (l : List ℕ). over l d) (sym (take-at a (x ∷ []) (length a) refl)))
+            (sym (getD-at a x [] 0 (length a) refl)));
       }

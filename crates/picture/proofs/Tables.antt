@@ -1,28 +1,19 @@
 -- Laws of the bytes of tables of four words: how many they are, and that a table is read again from where it stands. Assumes nothing.
-use mathlib.Core.Path.{_≡_, refl}
-use mathlib.Core.List.{List, [], _∷_, _++_, flatten}
-use Prim.Native.Nat.{ℕ, suc, _+_, _*_, _<_, suc-le-suc}
-use native.Mathlib.Nat.{zero-lt-suc, suc-mul}
+use mathlib.Core.Path.{_≡_}
+use mathlib.Core.List.{List, [], _++_}
+use Prim.Native.Nat.{ℕ, _+_, _*_, _<_}
 use native.Mathlib.Omega.{arith}
-use lib.ListN.{length, getD, length-append}
-use Rattle.lists.proofs.Flatten.{piece-back}
+use lib.ListN.{length, getD}
+use Rattle.lists.proofs.Flatten.{length-flatten, piece-back}
 use Rattle.words.specs.Word.{wordsAt, wordsBytes}
 use Rattle.words.proofs.Word.{length-wordsBytes, words-back}
 use Rattle.picture.specs.Tables.{tablesBytes}
 
 pub length-tablesBytes : (tables : List (List ℕ)) → ((j : ℕ) → j < length tables → length (getD tables j []) ≡ 4)
     → length (tablesBytes tables) ≡ length tables * 8
-unfolding tablesBytes flatten
-length-tablesBytes [] four = refl
-length-tablesBytes (t ∷ ts) four =
-    omega (
-      arith,
-      length-append (wordsBytes t) (tablesBytes ts),
-      length-wordsBytes t,
-      four 0 (zero-lt-suc (length ts)),
-      length-tablesBytes ts (λ j h. four (suc j) (suc-le-suc h)),
-      suc-mul (length ts) 8,
-    )
+unfolding tablesBytes
+length-tablesBytes tables four =
+    length-flatten wordsBytes 8 tables [] (λ j h. omega (arith, length-wordsBytes (getD tables j []), four j h))
 
 pub table-back : (before : List ℕ) (tables : List (List ℕ)) (rest : List ℕ) (at i : ℕ) → ((j : ℕ) → j < length tables → length (getD tables j []) ≡ 4)
     → length before ≡ at → i < length tables → wordsAt 4 (before ++ (tablesBytes tables ++ rest)) (at + i * 8) ≡ getD tables i []

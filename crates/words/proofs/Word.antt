@@ -28,7 +28,7 @@ module _ (s : List ℕ) (bytes : Bytes s) where
 
 pub length-wordsBytes : (ws : List ℕ) → length (wordsBytes ws) ≡ length ws * 2
 unfolding wordBytes wordsBytes
-length-wordsBytes ws = length-flatten wordBytes 2 (λ w. refl) ws
+length-wordsBytes ws = length-flatten wordBytes 2 ws 0 (λ j h. refl)
 
 pub word-back : (before : List ℕ) (w : ℕ) (rest : List ℕ) (at : ℕ) → length before ≡ at → wordAt (before ++ (wordBytes w ++ rest)) at ≡ w
 unfolding wordAt wordBytes
