@@ -119,8 +119,8 @@ bound-attained r = (alternating, alternating-size, alternating-bytes, λ body n 
 
 module _ (r : Resolution) (p : Picture) (screen : List ℕ) (out : ℕ) (known : chosen (p .resolution) ≡ Known r) (full : screenBytes ≤ length screen)
     (room : 32128 ≤ out) where
-  judged : writeFile 3 p screen out ≡ writePacked r p screen
-  judged = file-form 3 p screen out full room ∙ form-packed 3 p screen r known refl
+  writeFile-packed : writeFile 3 p screen out ≡ writePacked r p screen
+  writeFile-packed = file-form 3 p screen out full room ∙ form-packed 3 p screen r known refl
 
   -- "the packed writer refuses, with 9, exactly when no byte string under 32,000 bytes unpacks to that screen at that resolution"
   pub refused-exactly : Bytes screen → (writeFile 3 p screen out ≡ refused noPackedBody 0)
@@ -129,24 +129,24 @@ module _ (r : Resolution) (p : Picture) (screen : List ℕ) (out : ℕ) (known :
     where
       never : writeFile 3 p screen out ≡ refused noPackedBody 0 → (body : List ℕ) (n : ℕ) → Bytes body → UnpacksScreen r body screen n → length body < 32000 → ⊥
       never e body n b u l =
-          let a = judged ∙ packed-accepted p screen r (omega (arith, least-shortest r screen .shortest u)) in
+          let a = writeFile-packed ∙ packed-accepted p screen r (omega (arith, least-shortest r screen .shortest u)) in
           let z : _≡_ {A = ℕ} 0 1 = cc in omega arith
 
       must : ((body : List ℕ) (n : ℕ) → Bytes body → UnpacksScreen r body screen n → length body < 32000 → ⊥) → writeFile 3 p screen out ≡ refused noPackedBody 0
       must none =
           let u = least-shortest r screen .unpacks in
           let long : length (leastBody r screen) < 32000 → ⊥ = none (leastBody r screen) _ (body-bytes r screen bytes u) u in
-          judged ∙ packed-refused p screen r (omega arith)
+          writeFile-packed ∙ packed-refused p screen r (omega arith)
 
   -- "Otherwise it writes the picture's form 3 as document 01 fixes it, row by row; the body unpacks to that screen, and every other byte
   -- string that does has at least as many bytes. It reports that body's length and number of records, and a file length 66 above the body's."
   pub written-otherwise : Whole p → (writeFile 3 p screen out ≡ refused noPackedBody 0 → ⊥)
       → (w : Writing) × (writeFile 3 p screen out ≡ accepted w) × WritesPacked r p screen w
   written-otherwise whole h =
-      let long : 32000 ≤ length (leastBody r screen) → ⊥ = λ l. h (judged ∙ packed-refused p screen r l) in
+      let long : 32000 ≤ length (leastBody r screen) → ⊥ = λ l. h (writeFile-packed ∙ packed-refused p screen r l) in
       let below : length (leastBody r screen) < 32000 = omega arith in (
         record { file = packedFile p (leastBody r screen); body = length (leastBody r screen); records = leastRowsRecords (planeRows screen r) },
-        judged ∙ packed-accepted p screen r below,
+        writeFile-packed ∙ packed-accepted p screen r below,
         record {
           packed = leastBody r screen;
           form = refl;

@@ -15,6 +15,7 @@ use Rattle.lists.proofs.Tabulate.{length-tabulate, getD-tabulate}
 use Rattle.words.specs.Word.{wordAt}
 use Rattle.resolution.specs.declared.Resolution.{Resolution}
 use Rattle.resolution.specs.Shapes.{widthOf, planesOf, registersOf}
+use Rattle.resolution.proofs.Shapes.{registers-le}
 use Rattle.screen.specs.Registers.{wordOffset, pixelBit, register, scanLine}
 
 -- ---- bounds
@@ -22,6 +23,9 @@ use Rattle.screen.specs.Registers.{wordOffset, pixelBit, register, scanL
 pub register-lt : (s : List ℕ) (r : Resolution) (x y : ℕ) → register s r x y < registersOf r
 unfolding register pixelBit
 register-lt s r x y = sum-lt (planesOf r) (λ p. pixelBit (wordAt s (wordOffset r y (x / 16) p)) (x % 16)) (λ p. omega arith)
+
+pub register-lt-16 : (s : List ℕ) (r : Resolution) (x y : ℕ) → register s r x y < 16
+register-lt-16 s r x y = omega (arith, register-lt s r x y, registers-le r)
 
 -- ---- the registers of a scan line
 

@@ -13,9 +13,9 @@ use Rattle.resolution.specs.declared.Chosen.the-variants.{Known}
 use Rattle.resolution.specs.declared.Resolution.{Resolution}
 use Rattle.resolution.specs.Choice.{chosen}
 use Rattle.resolution.specs.Shapes.{screenBytes, widthOf, heightOf}
-use Rattle.resolution.proofs.Shapes.{width-le, registers-le}
+use Rattle.resolution.proofs.Shapes.{width-le}
 use Rattle.screen.specs.Registers.{register, scanLine}
-use Rattle.screen.proofs.Registers.{register-lt, length-scanLine, getD-scanLine}
+use Rattle.screen.proofs.Registers.{register-lt-16, length-scanLine, getD-scanLine}
 use Rattle.lines.specs.Lines.{lineOut}
 use Rattle.lines.proofs.Lines.{out-accepted}
 use Rattle.tally.proofs.Counts.{counted-ext}
@@ -36,7 +36,7 @@ module _ (s : List ℕ) (r : Resolution) (number y : ℕ) (d line : List ℕ) (k
       ap (λ (l : List ℕ). getD l x 0) is-line ∙ getD-over-in (scanLine s r y) d x 0 (omega (arith, length-scanLine s r y)) ∙ getD-scanLine s r x y h
 
   line-below : (x : ℕ) → x < widthOf r → getD line x 0 < 16
-  line-below x h = rw (line-register x h) (omega (arith, register-lt s r x y, registers-le r))
+  line-below x h = rw (line-register x h) (register-lt-16 s r x y)
 
 number-of-requires : tie.Need-number-of-requires
 number-of-requires c κs = search needs
