@@ -1,24 +1,16 @@
 -- Laws of the colour that a register shows. Assumes nothing.
 use mathlib.Core.Path.{_≡_, _∙_}
 use mathlib.Core.List.{List}
-use Prim.Native.Nat.{ℕ, _≤_, _<_}
-use native.Mathlib.Omega.{arith}
+use Prim.Native.Nat.{ℕ, _<_}
 use borrow.Author.Tests.{lt-leb}
 use Rattle.outcome.specs.Outcome.{accepted}
 use Rattle.resolution.specs.declared.Resolution.{Resolution}
-use Rattle.resolution.specs.declared.Resolution.the-variants.{Low, Medium, High}
 use Rattle.resolution.specs.Shapes.{registersOf}
 use Rattle.colour.specs.declared.ColourAnswer.{ColourAnswer}
-use Rattle.colour.specs.Shown.{shownBy, judgeRegister, colourAnswer}
-
--- a palette has a word for each register
-pub registers-le : (r : Resolution) → registersOf r ≤ 16
-registers-le Low = omega arith
-registers-le Medium = omega arith
-registers-le High = omega arith
+use Rattle.colour.specs.Shown.{registerColour, judgeRegister, colourAnswer}
 
 -- the answer of a register that is in range
 pub answer-in-range : (a : ColourAnswer) (palette : List ℕ) (v : ℕ) (r q : Resolution) → r ≡ q → v < registersOf r
-    → a ≡ colourAnswer (accepted (shownBy q palette v)) → a ≡ colourAnswer (judgeRegister palette v r)
+    → a ≡ colourAnswer (accepted (registerColour q palette v)) → a ≡ colourAnswer (judgeRegister palette v r)
 unfolding judgeRegister
 answer-in-range a palette v r q e h is = is ∙ rw (lt-leb (registersOf r) v h, e)

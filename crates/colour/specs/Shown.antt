@@ -20,14 +20,14 @@ abbrev pub black : Rgb
 black = record { red = 0; green = 0; blue = 0 }
 
 -- the colour of a register: at high resolution 0 is white and 1 black, whatever the palette holds
-unfoldable pub shownBy : Resolution → List ℕ → ℕ → Rgb
-shownBy Low palette v = wordColour (getD palette v 0)
-shownBy Medium palette v = wordColour (getD palette v 0)
-shownBy High palette v = cond (eqb v 0) white black
+unfoldable pub registerColour : Resolution → List ℕ → ℕ → Rgb
+registerColour Low palette v = wordColour (getD palette v 0)
+registerColour Medium palette v = wordColour (getD palette v 0)
+registerColour High palette v = cond (eqb v 0) white black
 
 -- a register judged at a known resolution
 unfoldable pub judgeRegister : List ℕ → ℕ → Resolution → Outcome Rgb
-judgeRegister palette v r = refuseIf (leb (registersOf r) v) outOfRange (accepted (shownBy r palette v))
+judgeRegister palette v r = refuseIf (leb (registersOf r) v) outOfRange (accepted (registerColour r palette v))
 
 -- colour: the resolution's number is judged, then the register
 unfoldable pub shown : ℕ → List ℕ → ℕ → Outcome Rgb

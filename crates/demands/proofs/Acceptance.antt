@@ -6,10 +6,11 @@ use mathlib.Core.List.{List, [], _++_, append-assoc}
 use Prim.Native.Nat.{ℕ, _+_, _≤_}
 use native.Mathlib.Omega.{arith}
 use lib.ListN.{length, take, drop, length-append, length-drop, take-append-drop}
-use lib.Seq.{take-at, drop-at, getD-drop, length-take-le, take-all}
+use lib.Seq.{take-at, drop-at, length-take-le, take-all}
 use lib.Dec.{eqb}
 use borrow.Author.Tests.{le-ltb, eq-eqb, eqb-true, not-false}
 use Rattle.lists.specs.Bytes.{Bytes}
+use Rattle.lists.proofs.Bytes.{bytes-drop}
 use Rattle.lists.proofs.Cond.{cond-elim, cond-ltb, cond-eqb}
 use Rattle.outcome.specs.Outcome.{Outcome, accepted, refused, later}
 use Rattle.packbits.specs.Unpack.{placed}
@@ -17,11 +18,9 @@ use Rattle.words.specs.Word.{wordAt}
 use Rattle.unpack_rows.specs.UnpackRows.{Rows, unpackRows}
 use Rattle.unpack_rows.proofs.UnpackRows.{RowsBounded, rows-bounded}
 use Rattle.unpack_rows.proofs.Exact.{doneRows}
-use Rattle.resolution.specs.declared.Chosen.{Chosen}
-use Rattle.resolution.specs.declared.Chosen.the-variants.{Known, Unknown}
 use Rattle.resolution.specs.declared.Resolution.{Resolution}
 use Rattle.resolution.specs.Shapes.{screenBytes, rowBytesOf, planeRowsOf}
-use Rattle.resolution.specs.Choice.{chosen, judgeWith}
+use Rattle.resolution.proofs.Choice.{withResolution-elim}
 use Rattle.screen.specs.PlaneRows.{planeRows, screenOf}
 use Rattle.screen.proofs.PlaneRows.{length-screenOf, screen-of-rows}
 use Rattle.reader.specs.Reading.{Reading, untailed, raw, degasResolution, degasPacked, readRaw, tailAfter, readPacked, readChosen, readDegas, readNeo, readFile, readAnswer}
@@ -87,7 +86,7 @@ module _ (file : List ℕ) (r : Resolution) where
         cond-eqb (Found (degasGiven file r true)) (length file) (34 + q .bytes + 32)
         (λ e.
         let input : List ℕ = drop 34 file in
-        let s = rows-sound r input q (λ i. rw (getD-drop 34 file i 0) (bytes (34 + i))) is in
+        let s = rows-sound r input q (bytes-drop 34 file bytes) is in
         let size : length (take (q .bytes) input) ≡ q .bytes = length-take-le (q .bytes) input (s .0) in (
           record {
             header = take 34 file;
@@ -171,14 +170,15 @@ module _ (kind : ℕ) (file : List ℕ) where
   degas-found : kind ≡ 1 → Bytes file → Found (given kind file) (readDegas file)
   unfolding readDegas
   degas-found k bytes =
-      cond-ltb (Found (given kind file)) (length file) 34 (λ h n. omega arith) (λ h. go (chosen (degasResolution file)) refl)
-    where
-      go : (c : Chosen) → chosen (degasResolution file) ≡ c → Found (given kind file) (judgeWith c (λ r. readChosen file r))
-      go (Known r) e =
-          found-map (degasGiven file r (degasPacked file)) (given kind file) (λ fits. inl (k, record { resolution = r; allowed = e; fits = fits })) (λ fits. refl)
-          (readChosen file r)
-          (chosen-found file r bytes)
-      go Unknown e = λ n. omega arith
+      let F : Outcome Reading → Type 0 = Found (given kind file) in
+      cond-ltb F (length file) 34
+      (λ h n. omega arith)
+      (λ h.
+      withResolution-elim F (degasResolution file) (λ r. readChosen file r) (λ n. omega arith)
+      (λ r e.
+      found-map (degasGiven file r (degasPacked file)) (given kind file) (λ fits. inl (k, record { resolution = r; allowed = e; fits = fits })) (λ fits. refl)
+      (readChosen file r)
+      (chosen-found file r bytes)))
 
   neo-found : kind ≡ 2 → Found (given kind file) (readNeo file)
   unfolding readNeo
@@ -189,12 +189,10 @@ module _ (kind : ℕ) (file : List ℕ) where
       (λ size.
       cond-elim F (not (eqb (wordAt file 0) 0))
       (λ h n. omega arith)
-      (λ flag. go (eqb-true _ _ (not-false _ size)) (eqb-true _ _ (not-false _ flag)) (chosen (wordAt file 2)) refl))
-    where
-      go : length file ≡ 32128 → wordAt file 0 ≡ 0 → (c : Chosen) → chosen (wordAt file 2) ≡ c
-          → Found (given kind file) (judgeWith c (λ r. raw (untailed file (wordAt file 2) 4) file 128))
-      go size flag (Known r) e = (inr (k, record { resolution = r; flag = flag; allowed = e; fits = size }), refl)
-      go size flag Unknown e = λ n. omega arith
+      (λ flag.
+      withResolution-elim F (wordAt file 2) (λ r. raw (untailed file (wordAt file 2) 4) file 128) (λ n. omega arith)
+      (λ r e.
+      (inr (k, record { resolution = r; flag = eqb-true _ _ (not-false _ flag); allowed = e; fits = eqb-true _ _ (not-false _ size) }), refl))))
 
   module _ (area : ℕ) (room : screenBytes ≤ area) where
     file-found : Bytes file → Found (given kind file) (readFile kind file area)

@@ -21,7 +21,7 @@ use Rattle.pack.proofs.Valid.{least-is-least}
 use Rattle.resolution.specs.declared.Resolution.the-variants.{Low}
 use Rattle.screen.specs.Registers.{groupOffset, wordOffset, pixelBit, register}
 use Rattle.colour.specs.Palette.{Rgb, level, field, wordColour}
-use Rattle.demands.specs.Examples.{Example, leastBody, unpacked, coloured, firstRegister, Holds, table}
+use Rattle.demands.specs.Examples.{Example, rowPacked, rowUnpacked, coloured, firstRegister, Holds, table}
 
 -- ---- tests of equality
 
@@ -73,17 +73,17 @@ same-colour c red green blue e = go (c .red) (c .green) (c .blue) e
     go r g b f = cc
 
 unfoldable test : Example → Bool
-test (leastBody row body) = leb (length row) 128 && same (least row) body
-test (unpacked packed width outcome) = sameOutcome (unpackRow packed width width) outcome
+test (rowPacked row body) = leb (length row) 128 && same (least row) body
+test (rowUnpacked packed width outcome) = sameOutcome (unpackRow packed width width) outcome
 test (coloured word red green blue) = same (levels (wordColour word)) (red ∷ green ∷ blue ∷ [])
 test (firstRegister words v) = eqb (register (wordsBytes words) Low 0 0) v
 
 test-holds : (e : Example) → T (test e) → Holds e
 unfolding test
-test-holds (leastBody row body) t =
+test-holds (rowPacked row body) t =
     let h = both (leb (length row) 128) (same (least row) body) t in
     (leastRecords row, subst (λ (b : List ℕ). IsLeast row b (leastRecords row)) (same-list (least row) body (h .1)) (least-is-least row (leb→le (length row) 128 (h .0))))
-test-holds (unpacked packed width outcome) t = same-outcome (unpackRow packed width width) outcome t
+test-holds (rowUnpacked packed width outcome) t = same-outcome (unpackRow packed width width) outcome t
 test-holds (coloured word red green blue) t =
     same-colour (wordColour word) red green blue (same-list (levels (wordColour word)) (red ∷ green ∷ blue ∷ []) t)
 test-holds (firstRegister words v) t = eqb→eq (register (wordsBytes words) Low 0 0) v t

@@ -1,31 +1,21 @@
 -- The parts of a written file: their lengths, and what is read where they stand. Assumes nothing.
 use mathlib.Core.Path.{_≡_, refl, sym, ap, _∙_}
-use mathlib.Core.List.{List, [], _∷_, _++_, append-assoc, append-nil, flatten}
+use mathlib.Core.List.{List, [], _++_, append-assoc, append-nil}
 use Prim.Native.Nat.{ℕ, _+_, _*_, _<_}
-use native.Mathlib.Nat.{suc-mul}
 use native.Mathlib.Omega.{arith}
 use lib.ListN.{length, getD, take, drop, length-append}
 use lib.Seq.{drop-at}
 use Rattle.lists.specs.Tabulate.{tabulate}
 use Rattle.lists.proofs.Tabulate.{length-tabulate, getD-tabulate, tabulate-ext, tabulate-getD}
 use Rattle.words.specs.Word.{wordAt, wordsAt, wordBytes, wordsBytes}
-use Rattle.unpack_rows.specs.UnpacksRows.{Wide}
-use Rattle.unpack_rows.proofs.UnpackRows.{wide-at}
+use Rattle.words.proofs.Word.{length-wordsBytes, word-back, words-back}
 use Rattle.resolution.specs.Shapes.{screenBytes}
 use Rattle.picture.specs.declared.Picture.{Picture}
 use Rattle.picture.specs.declared.Table.{Table}
-use Rattle.picture.specs.Tables.{tablesAt, tablesOf, tablesBytes, held}
+use Rattle.picture.specs.Tables.{tablesAt, tablesOf, held}
+use Rattle.picture.proofs.Tables.{length-tablesBytes, table-back}
 use Rattle.writer.specs.Layout.{degasHeader, tailBytes, packedFile, neoMiddle, neoFile}
-use Rattle.writer.proofs.Words.{length-wordsBytes}
 use Rattle.demands.specs.Pictures.{Whole}
-use Rattle.demands.proofs.Words.{word-back, words-back, table-back}
-
--- tables of four words
-length-tablesBytes : (tables : List (List ℕ)) → Wide 4 tables → length (tablesBytes tables) ≡ length tables * 8
-unfolding tablesBytes flatten
-length-tablesBytes [] w = refl
-length-tablesBytes (t ∷ ts) w =
-    omega (arith, length-append (wordsBytes t) (tablesBytes ts), length-wordsBytes t, w .0, length-tablesBytes ts (w .1), suc-mul (length ts) 8)
 
 module _ (p : Picture) (whole : Whole p) where
   -- ---- a DEGAS header, and what follows it
@@ -54,22 +44,24 @@ module _ (p : Picture) (whole : Whole p) where
   abbrev table : ℕ → Table
   table i = getD (p .tail) i (record { words = [] })
 
-  wide-tables : Wide 4 (tablesOf (p .tail))
-  unfolding tablesOf tabulate
-  wide-tables = (whole .words 0 (omega arith), (whole .words 1 (omega arith), (whole .words 2 (omega arith), (whole .words 3 (omega arith), tt))))
-
   length-tables : length (tablesOf (p .tail)) ≡ 4
   unfolding tablesOf
   length-tables = length-tabulate 4 (λ i. table i .words)
 
-  pub length-tailBytes : length (tailBytes p) ≡ 32
-  length-tailBytes = omega (arith, length-tablesBytes (tablesOf (p .tail)) wide-tables, length-tables)
+  four-words : (i : ℕ) → i < length (tablesOf (p .tail)) → length (getD (tablesOf (p .tail)) i []) ≡ 4
+  unfolding tablesOf
+  four-words i h =
+      let l : i < 4 = omega (arith, length-tables) in
+      ap length (getD-tabulate 4 (λ i. table i .words) i [] l) ∙ whole .words i l
+
+  length-tailBytes : length (tailBytes p) ≡ 32
+  length-tailBytes = omega (arith, length-tablesBytes (tablesOf (p .tail)) four-words, length-tables)
 
   table-at : (before : List ℕ) (at i : ℕ) → length before ≡ at → i < 4 → wordsAt 4 (before ++ tailBytes p) (at + i * 8) ≡ table i .words
   unfolding tablesOf
   table-at before at i l h =
       ap (λ (s : List ℕ). wordsAt 4 (before ++ s) (at + i * 8)) (sym (append-nil (tailBytes p)))
-      ∙ table-back before (tablesOf (p .tail)) [] at i (wide-at 4 (tablesOf (p .tail)) wide-tables) l (omega (arith, length-tables))
+      ∙ table-back before (tablesOf (p .tail)) [] at i four-words l (omega (arith, length-tables))
       ∙ getD-tabulate 4 (λ i. table i .words) i [] h
 
   -- its words, where it is a file's end

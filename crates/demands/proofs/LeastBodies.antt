@@ -2,7 +2,7 @@
 use mathlib.Core.Path.{_≡_, refl, _∙_}
 use mathlib.Core.Logic.{_↔_}
 use mathlib.Core.List.{List, [], _∷_}
-use Prim.Native.Nat.{ℕ, zero, suc, _+_, _*_, _%_, _≤_, _<_}
+use Prim.Native.Nat.{ℕ, _+_, _*_, _%_, _≤_, _<_}
 use native.Mathlib.Omega.{arith}
 use lib.ListN.{length, getD}
 use Rattle.lists.specs.Bytes.{Bytes}
@@ -10,8 +10,8 @@ use Rattle.lists.specs.Tabulate.{tabulate}
 use Rattle.lists.proofs.Tabulate.{length-tabulate, getD-tabulate, tabulate-ext, tabulate-le}
 use Rattle.outcome.specs.Outcome.{accepted, refused}
 use Rattle.outcome.specs.Refusal.{noPackedBody}
-use Rattle.unpack_rows.specs.UnpacksRows.{Wide}
-use Rattle.pack.specs.IsLeast.{Separate}
+use Rattle.unpack_rows.proofs.Wide.{Wide}
+use Rattle.pack.proofs.Bounds.{Separate, separate-tabulate}
 use Rattle.pack.proofs.Valid.{least-is-least}
 use Rattle.pack_rows.specs.LeastRows.{leastRows, leastRowsRecords}
 use Rattle.pack_rows.proofs.LeastRows.{rows-unpack, rows-shortest, leastRows-bound, separate-rows}
@@ -20,6 +20,7 @@ use Rattle.resolution.specs.declared.Resolution.{Resolution}
 use Rattle.resolution.specs.declared.Resolution.the-variants.{Low, Medium, High}
 use Rattle.resolution.specs.Shapes.{screenBytes, rowBytesOf, planeRowsOf}
 use Rattle.resolution.specs.Choice.{chosen}
+use Rattle.resolution.proofs.Shapes.{rowBytes-pos, rowBytes-le}
 use Rattle.screen.specs.PlaneRows.{rowOffset, planeRow, planeRows}
 use Rattle.screen.specs.Registers.{groupOffset, wordOffset}
 use Rattle.screen.proofs.Places.{row-within}
@@ -27,20 +28,15 @@ use Rattle.screen.proofs.PlaneRows.{length-planeRows, getD-planeRows}
 use Rattle.picture.specs.declared.Picture.{Picture}
 use Rattle.writer.specs.Layout.{packedFile}
 use Rattle.writer.specs.Write.{Writing, leastBody, writePacked, writeFile}
-use Rattle.resolution.proofs.Shapes.{rowBytes-le}
 use Rattle.writer.proofs.WriteFile.{packed-refused, packed-accepted, form-packed, file-form}
 use Rattle.demands.specs.Screens.{UnpacksScreen}
 use Rattle.demands.specs.LeastBodies.{WritersRows, noRow, nextRow, ShortestBody, WritesPacked, mostBytes, alternating}
 use Rattle.demands.specs.Pictures.{Whole}
+use Rattle.demands.proofs.ByteStrings.{body-bytes}
 use Rattle.demands.proofs.Screens.{wide-planeRows}
 use Rattle.demands.proofs.Files.{length-packedFile}
 
 -- ---- sizes, by the three resolutions
-
-rowBytes-pos : (r : Resolution) → 1 ≤ rowBytesOf r
-rowBytes-pos Low = omega arith
-rowBytes-pos Medium = omega arith
-rowBytes-pos High = omega arith
 
 -- one byte more for each plane row than its width
 rows-most : (r : Resolution) → planeRowsOf r * (rowBytesOf r + 1) ≡ mostBytes r
@@ -78,12 +74,6 @@ module _ (r : Resolution) (screen : List ℕ) where
 
 -- ---- "At each resolution some screen's least body has exactly that many."
 
-separate-tabulate : (n : ℕ) (f : ℕ → ℕ) → ((k : ℕ) → f k ≡ f (suc k) → ⊥) → Separate (tabulate n f)
-unfolding tabulate
-separate-tabulate zero f h = tt
-separate-tabulate (suc zero) f h = tt
-separate-tabulate (suc (suc n)) f h = (h 0, separate-tabulate (suc n) (λ k. f (suc k)) (λ k. h (suc k)))
-
 -- a plane row has the even and the odd bytes of a screen in turn
 rowOffset-parity : (r : Resolution) (n c : ℕ) → rowOffset r n c % 2 ≡ c % 2
 unfolding rowOffset groupOffset wordOffset
@@ -102,16 +92,16 @@ alternating-separate r n h =
     let k : n < planeRowsOf r = omega (arith, length-planeRows alternating r) in
     rw (getD-planeRows alternating r n k, alternating-row r n k) (separate-tabulate (rowBytesOf r) (λ c. c % 2) (λ c e. omega arith))
 
-pub alternating-size : length alternating ≡ screenBytes
+alternating-size : length alternating ≡ screenBytes
 unfolding alternating
 alternating-size = length-tabulate screenBytes (λ o. o % 2)
 
-pub alternating-bytes : Bytes alternating
+alternating-bytes : Bytes alternating
 unfolding alternating
 alternating-bytes i = omega (arith, tabulate-le screenBytes (λ o. o % 2) 1 (λ o. omega arith) i)
 
-pub bound-attained : (r : Resolution) {body : List ℕ} {n : ℕ} → ShortestBody r alternating body n → length body ≡ mostBytes r
-bound-attained r s =
+alternating-most : (r : Resolution) {body : List ℕ} {n : ℕ} → ShortestBody r alternating body n → length body ≡ mostBytes r
+alternating-most r s =
     let rows = separate-rows (rowBytesOf r) (rowBytes-pos r) (planeRows alternating r) (wide-planeRows alternating r) (alternating-separate r) in
     omega (
       arith,
@@ -120,38 +110,43 @@ bound-attained r s =
       rw (length-planeRows alternating r, rows-most r) at rows,
     )
 
+-- a screen, `alternating`, every shortest body of which has that many
+pub bound-attained : (r : Resolution)
+    → (screen : List ℕ) × (length screen ≡ screenBytes) × Bytes screen × ((body : List ℕ) (n : ℕ) → ShortestBody r screen body n → length body ≡ mostBytes r)
+bound-attained r = (alternating, alternating-size, alternating-bytes, λ body n s. alternating-most r s)
+
 -- ---- the packed writer
 
 module _ (r : Resolution) (p : Picture) (screen : List ℕ) (out : ℕ) (known : chosen (p .resolution) ≡ Known r) (full : screenBytes ≤ length screen)
     (room : 32128 ≤ out) where
-  judged : writeFile 3 p screen out ≡ writePacked r p screen
-  judged = file-form 3 p screen out full room ∙ form-packed 3 p screen r known refl
+  writeFile-packed : writeFile 3 p screen out ≡ writePacked r p screen
+  writeFile-packed = file-form 3 p screen out full room ∙ form-packed 3 p screen r known refl
 
-  -- "the packed writer refuses, with 9, exactly when no byte string under 32,000 bytes unpacks to that screen at that resolution"; what
-  -- unpacks to a screen of bytes is a byte string (ByteStrings)
-  pub refused-exactly : (writeFile 3 p screen out ≡ refused noPackedBody 0)
-      ↔ ((body : List ℕ) (n : ℕ) → UnpacksScreen r body screen n → length body < 32000 → ⊥)
-  refused-exactly = (never, must)
+  -- "the packed writer refuses, with 9, exactly when no byte string under 32,000 bytes unpacks to that screen at that resolution"
+  pub refused-exactly : Bytes screen → (writeFile 3 p screen out ≡ refused noPackedBody 0)
+      ↔ ((body : List ℕ) (n : ℕ) → Bytes body → UnpacksScreen r body screen n → length body < 32000 → ⊥)
+  refused-exactly bytes = (never, must)
     where
-      never : writeFile 3 p screen out ≡ refused noPackedBody 0 → (body : List ℕ) (n : ℕ) → UnpacksScreen r body screen n → length body < 32000 → ⊥
-      never e body n u l =
-          let a = judged ∙ packed-accepted p screen r (omega (arith, least-shortest r screen .shortest u)) in
+      never : writeFile 3 p screen out ≡ refused noPackedBody 0 → (body : List ℕ) (n : ℕ) → Bytes body → UnpacksScreen r body screen n → length body < 32000 → ⊥
+      never e body n b u l =
+          let a = writeFile-packed ∙ packed-accepted p screen r (omega (arith, least-shortest r screen .shortest u)) in
           let z : _≡_ {A = ℕ} 0 1 = cc in omega arith
 
-      must : ((body : List ℕ) (n : ℕ) → UnpacksScreen r body screen n → length body < 32000 → ⊥) → writeFile 3 p screen out ≡ refused noPackedBody 0
+      must : ((body : List ℕ) (n : ℕ) → Bytes body → UnpacksScreen r body screen n → length body < 32000 → ⊥) → writeFile 3 p screen out ≡ refused noPackedBody 0
       must none =
-          let long : length (leastBody r screen) < 32000 → ⊥ = none (leastBody r screen) _ (least-shortest r screen .unpacks) in
-          judged ∙ packed-refused p screen r (omega arith)
+          let u = least-shortest r screen .unpacks in
+          let long : length (leastBody r screen) < 32000 → ⊥ = none (leastBody r screen) _ (body-bytes r screen bytes u) u in
+          writeFile-packed ∙ packed-refused p screen r (omega arith)
 
   -- "Otherwise it writes the picture's form 3 as document 01 fixes it, row by row; the body unpacks to that screen, and every other byte
   -- string that does has at least as many bytes. It reports that body's length and number of records, and a file length 66 above the body's."
   pub written-otherwise : Whole p → (writeFile 3 p screen out ≡ refused noPackedBody 0 → ⊥)
       → (w : Writing) × (writeFile 3 p screen out ≡ accepted w) × WritesPacked r p screen w
   written-otherwise whole h =
-      let long : 32000 ≤ length (leastBody r screen) → ⊥ = λ l. h (judged ∙ packed-refused p screen r l) in
+      let long : 32000 ≤ length (leastBody r screen) → ⊥ = λ l. h (writeFile-packed ∙ packed-refused p screen r l) in
       let below : length (leastBody r screen) < 32000 = omega arith in (
         record { file = packedFile p (leastBody r screen); body = length (leastBody r screen); records = leastRowsRecords (planeRows screen r) },
-        judged ∙ packed-accepted p screen r below,
+        writeFile-packed ∙ packed-accepted p screen r below,
         record {
           packed = leastBody r screen;
           form = refl;

@@ -7,4 +7,3 @@ pub mod Refusals
 pub mod Registers
 pub mod RoundTrips
 pub mod Screens
-pub mod Words

@@ -14,10 +14,9 @@ use Rattle.resolution.specs.declared.Resolution.{Resolution}
 use Rattle.resolution.specs.Shapes.{screenBytes, widthOf, heightOf, planesOf}
 use Rattle.screen.specs.Registers.{register}
 use Rattle.screen.specs.PlaneRows.{planeRow, planeRows}
-use Rattle.screen.proofs.PlaneRows.{rowsRegister, register-of-rows}
+use Rattle.screen.proofs.PlaneRows.{rowsRegister, register-of-rows, planeRows-front, register-front}
 use Rattle.reader.specs.Reading.{Reading, degasPacked, readFile, readArea}
 use Rattle.demands.specs.Accepted.{PackedFits, DegasFits, AcceptsDegas, AcceptsNeo, Accepts, degasGiven, given}
-use Rattle.demands.proofs.Screens.{planeRows-front, register-front}
 use Rattle.demands.proofs.Acceptance.{packed-unique, file-complete}
 
 -- ---- what is given is a whole screen

@@ -11,18 +11,17 @@ use Rattle.lists.specs.Over.{over}
 use Rattle.lists.proofs.Over.{getD-over-in}
 use Rattle.lists.proofs.Cond.{cond-leb, cond-ltb, cond-eqb}
 use Rattle.outcome.specs.Outcome.{Outcome, accepted, refused}
-use Rattle.outcome.specs.Refusal.{unknownResolution}
 use Rattle.words.specs.Word.{wordAt}
 use Rattle.unpack_rows.specs.UnpackRows.{unpackRows}
 use Rattle.unpack_rows.proofs.Exact.{doneRows}
-use Rattle.resolution.specs.declared.Chosen.{Chosen}
-use Rattle.resolution.specs.declared.Chosen.the-variants.{Known, Unknown}
+use Rattle.resolution.specs.declared.Chosen.the-variants.{Known}
 use Rattle.resolution.specs.declared.Resolution.{Resolution}
 use Rattle.resolution.specs.Shapes.{screenBytes, widthOf, heightOf, rowBytesOf, planeRowsOf}
-use Rattle.resolution.specs.Choice.{chosen, judgeWith, withResolution}
+use Rattle.resolution.specs.Choice.{chosen, withResolution}
+use Rattle.resolution.proofs.Choice.{withResolution-elim}
 use Rattle.screen.specs.Registers.{register}
 use Rattle.screen.specs.PlaneRows.{planeRows}
-use Rattle.screen.proofs.PlaneRows.{screen-of-rows}
+use Rattle.screen.proofs.PlaneRows.{screen-of-rows, register-front}
 use Rattle.picture.specs.declared.Picture.{Picture}
 use Rattle.reader.specs.Reading.{Reading, degasResolution, readRaw, readPacked, readDegas, readFile, readArea}
 use Rattle.reader.proofs.Reading.{raw-plain, raw-tail, chosen-packed, chosen-raw, degas-known, neo-known, file-degas, file-neo}
@@ -32,7 +31,7 @@ use Rattle.writer.proofs.WriteFile.{known-le, form-plain, form-elite, form-neo,
 use Rattle.demands.specs.Screens.{UnpacksScreen}
 use Rattle.demands.specs.Pictures.{Whole}
 use Rattle.demands.specs.RoundTrips.{kindOf, readBack}
-use Rattle.demands.proofs.Screens.{rows-complete, register-front}
+use Rattle.demands.proofs.Screens.{rows-complete}
 use Rattle.demands.proofs.Files.{length-degasHeader, header-word, header-palette, header-rest, length-tailed, tailed-tail, length-neoFile, neo-flag, neo-resolution, neo-palette, neo-screen}
 use Rattle.demands.proofs.LeastBodies.{least-shortest}
 
@@ -135,20 +134,12 @@ module _ (r : Resolution) (p : Picture) (whole : Whole p) (known : chosen (p .re
 
 -- ---- all forms
 
-by-resolution : (Result : Outcome Writing → Type 0) (number : ℕ) (further : Resolution → Outcome Writing) → Result (refused unknownResolution 0)
-    → ((r : Resolution) → chosen number ≡ Known r → Result (further r)) → Result (withResolution number further)
-by-resolution Result number further unknown known = go (chosen number) refl
-  where
-    go : (c : Chosen) → chosen number ≡ c → Result (judgeWith c further)
-    go (Known r) e = known r e
-    go Unknown e = unknown
-
 module _ (form : ℕ) (p : Picture) (whole : Whole p) (screen : List ℕ) (area : ℕ) (room : screenBytes ≤ area) where
   abbrev Back : Outcome Writing → Type 0
   Back o = ReadsBack form p screen area o
 
   with-known : (further : Resolution → Outcome Writing) → ((r : Resolution) → chosen (p .resolution) ≡ Known r → Back (further r)) → Back (withResolution (p .resolution) further)
-  with-known further known = by-resolution Back (p .resolution) further (λ n. omega arith) known
+  with-known further known = withResolution-elim Back (p .resolution) further (λ n. omega arith) known
 
   form-back : screenBytes ≤ length screen → Back (writeForm form p screen)
   unfolding writeForm writePacked

@@ -1,31 +1,22 @@
--- Laws of a byte string that unpacks to a screen, and of screens that agree in their first 32,000 bytes. Assumes nothing.
+-- Laws of a byte string that unpacks to a screen. Assumes nothing.
 use mathlib.Core.Path.{_≡_, sym, ap, _∙_, subst}
 use mathlib.Core.List.{List, _++_}
-use Prim.Native.Nat.{ℕ, zero, suc, _≤_, _<_}
+use Prim.Native.Nat.{ℕ, _≤_}
 use native.Mathlib.Omega.{arith}
-use lib.ListN.{length, getD, take}
+use lib.ListN.{length, take}
 use Rattle.lists.specs.Bytes.{Bytes}
-use Rattle.lists.specs.Tabulate.{tabulate}
-use Rattle.lists.proofs.Tabulate.{tabulate-ext}
 use Rattle.outcome.specs.Outcome.{accepted}
 use Rattle.unpack_rows.specs.UnpackRows.{Rows, unpackRows}
-use Rattle.unpack_rows.specs.UnpacksRows.{UnpacksRows, Wide}
-use Rattle.unpack_rows.proofs.UnpackRows.{wide-at}
+use Rattle.unpack_rows.specs.UnpacksRows.{UnpacksRows}
 use Rattle.unpack_rows.proofs.Exact.{doneRows, complete-rows, exact-rows}
+use Rattle.unpack_rows.proofs.Wide.{Wide, wide-at, wide-tabulate}
 use Rattle.resolution.specs.declared.Resolution.{Resolution}
-use Rattle.resolution.specs.Shapes.{screenBytes, widthOf, heightOf, rowBytesOf, planeRowsOf}
-use Rattle.screen.specs.Registers.{register}
-use Rattle.screen.specs.PlaneRows.{rowOffset, planeRow, planeRows, screenOf}
-use Rattle.screen.proofs.Places.{row-within}
-use Rattle.screen.proofs.PlaneRows.{length-planeRow, length-planeRows, rows-of-screen, registers-ext}
+use Rattle.resolution.specs.Shapes.{rowBytesOf, planeRowsOf}
+use Rattle.screen.specs.PlaneRows.{planeRow, planeRows, screenOf}
+use Rattle.screen.proofs.PlaneRows.{length-planeRow, length-planeRows, rows-of-screen}
 use Rattle.demands.specs.Screens.{UnpacksScreen}
 
 -- ---- plane rows have their resolution's width
-
-wide-tabulate : (width n : ℕ) (f : ℕ → List ℕ) → ((k : ℕ) → length (f k) ≡ width) → Wide width (tabulate n f)
-unfolding tabulate
-wide-tabulate width zero f h = tt
-wide-tabulate width (suc n) f h = (h 0, wide-tabulate width n (λ k. f (suc k)) (λ k. h (suc k)))
 
 pub wide-planeRows : (s : List ℕ) (r : Resolution) → Wide (rowBytesOf r) (planeRows s r)
 unfolding planeRows
@@ -46,17 +37,3 @@ rows-sound r input q all e =
     let s = exact-rows (planeRowsOf r) (rowBytesOf r) input (q .bytes) (q .records) (q .rows) all .0 e in
     let same : planeRows (screenOf r (q .rows)) r ≡ q .rows = rows-of-screen r (q .rows) (s .0) (λ n h. wide-at (rowBytesOf r) (q .rows) (s .1) n (omega (arith, s .0))) in
     (s .2, subst (λ (rows : List (List ℕ)). UnpacksRows (take (q .bytes) input) rows (q .records)) (sym same) (s .3))
-
--- ---- screens that agree in their first 32,000 bytes
-
-module _ (s t : List ℕ) (same : (o : ℕ) → o < screenBytes → getD s o 0 ≡ getD t o 0) (r : Resolution) where
-  planeRow-front : (n : ℕ) → n < planeRowsOf r → planeRow s r n ≡ planeRow t r n
-  unfolding planeRow
-  planeRow-front n h = tabulate-ext (rowBytesOf r) _ (λ c. getD t (rowOffset r n c) 0) (λ c k. same (rowOffset r n c) (row-within r n c h k))
-
-  pub planeRows-front : planeRows s r ≡ planeRows t r
-  unfolding planeRows
-  planeRows-front = tabulate-ext (planeRowsOf r) _ (λ n. planeRow t r n) planeRow-front
-
-  pub register-front : (x y : ℕ) → x < widthOf r → y < heightOf r → register s r x y ≡ register t r x y
-  register-front x y hx hy = registers-ext s t r x y hx hy planeRow-front

@@ -15,9 +15,9 @@ use Rattle.colour.specs.Palette.{wordColour}
 
 pub data Example : Type 0 where
   -- a row and its least body
-  leastBody : List ℕ → List ℕ → Example
+  rowPacked : List ℕ → List ℕ → Example
   -- packed bytes, a row's width, and what unpacking comes to
-  unpacked : List ℕ → ℕ → Outcome Row → Example
+  rowUnpacked : List ℕ → ℕ → Outcome Row → Example
   -- a palette word, and its red, green and blue
   coloured : ℕ → ℕ → ℕ → ℕ → Example
   -- the plane words of the first group at low resolution, and the first register
@@ -25,22 +25,22 @@ pub data Example : Type 0 where
 
 -- what an example says
 abbrev pub Holds : Example → Type 0
-Holds (leastBody row body) = (records : ℕ) × IsLeast row body records
-Holds (unpacked packed width outcome) = unpackRow packed width width ≡ outcome
+Holds (rowPacked row body) = (records : ℕ) × IsLeast row body records
+Holds (rowUnpacked packed width outcome) = unpackRow packed width width ≡ outcome
 Holds (coloured word red green blue) = wordColour word ≡ record { red = red; green = green; blue = blue }
 Holds (firstRegister words v) = register (wordsBytes words) Low 0 0 ≡ v
 
 abbrev pub table : List Example
 table =
-    leastBody (0x07 ∷ []) (0x00 ∷ 0x07 ∷ [])
-    ∷ leastBody (0x07 ∷ 0x07 ∷ []) (0xFF ∷ 0x07 ∷ [])
-    ∷ leastBody (0x07 ∷ 0x07 ∷ 0x08 ∷ []) (0x02 ∷ 0x07 ∷ 0x07 ∷ 0x08 ∷ [])
-    ∷ leastBody (0x01 ∷ 0x07 ∷ 0x07 ∷ 0x02 ∷ []) (0x03 ∷ 0x01 ∷ 0x07 ∷ 0x07 ∷ 0x02 ∷ [])
-    ∷ leastBody (0x01 ∷ 0x07 ∷ 0x07 ∷ 0x07 ∷ 0x02 ∷ []) (0x00 ∷ 0x01 ∷ 0xFE ∷ 0x07 ∷ 0x00 ∷ 0x02 ∷ [])
-    ∷ leastBody (replicate 40 0x00) (0xD9 ∷ 0x00 ∷ [])
-    ∷ unpacked (0x80 ∷ 0xFF ∷ 0x07 ∷ []) 2 (done 3 2 (0x07 ∷ 0x07 ∷ []))
-    ∷ unpacked (0x01 ∷ 0x07 ∷ []) 2 (refused inputEnds 0)
-    ∷ unpacked (0xFE ∷ 0x07 ∷ []) 2 (refused recordCrosses 0)
+    rowPacked (0x07 ∷ []) (0x00 ∷ 0x07 ∷ [])
+    ∷ rowPacked (0x07 ∷ 0x07 ∷ []) (0xFF ∷ 0x07 ∷ [])
+    ∷ rowPacked (0x07 ∷ 0x07 ∷ 0x08 ∷ []) (0x02 ∷ 0x07 ∷ 0x07 ∷ 0x08 ∷ [])
+    ∷ rowPacked (0x01 ∷ 0x07 ∷ 0x07 ∷ 0x02 ∷ []) (0x03 ∷ 0x01 ∷ 0x07 ∷ 0x07 ∷ 0x02 ∷ [])
+    ∷ rowPacked (0x01 ∷ 0x07 ∷ 0x07 ∷ 0x07 ∷ 0x02 ∷ []) (0x00 ∷ 0x01 ∷ 0xFE ∷ 0x07 ∷ 0x00 ∷ 0x02 ∷ [])
+    ∷ rowPacked (replicate 40 0x00) (0xD9 ∷ 0x00 ∷ [])
+    ∷ rowUnpacked (0x80 ∷ 0xFF ∷ 0x07 ∷ []) 2 (done 3 2 (0x07 ∷ 0x07 ∷ []))
+    ∷ rowUnpacked (0x01 ∷ 0x07 ∷ []) 2 (refused inputEnds 0)
+    ∷ rowUnpacked (0xFE ∷ 0x07 ∷ []) 2 (refused recordCrosses 0)
     ∷ coloured 0x0735 255 109 182
     ∷ coloured 0x0000 0 0 0
     ∷ firstRegister (0x8000 ∷ 0x0000 ∷ 0x8000 ∷ 0x0000 ∷ []) 5

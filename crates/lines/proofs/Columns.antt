@@ -1,7 +1,7 @@
 -- Laws of byte columns: where they lie, and the registers that their bytes make. Assumes nothing.
 use mathlib.Core.Path.{_≡_, refl, sym, ap, _∙_}
 use mathlib.Core.List.{List}
-use Prim.Native.Nat.{ℕ, zero, suc, _+_, _-_, _*_, _/_, _%_, _^_, _≤_, _<_}
+use Prim.Native.Nat.{ℕ, zero, suc, _+_, _-_, _*_, _/_, _%_, _^_, _<_}
 use native.Mathlib.Nat.{add-zero, add-assoc, zero-div, div-add-mod'}
 use native.Mathlib.Omega.{arith}
 use lib.ListN.{getD}
@@ -20,25 +20,24 @@ use Rattle.resolution.proofs.Shapes.{rowBytes-width}
 use Rattle.words.specs.Word.{wordBytes}
 use Rattle.screen.specs.Registers.{groupOffset, wordOffset, register, scanLine, wordOf}
 use Rattle.screen.proofs.Registers.{register-byte}
-use Rattle.lines.specs.Columns.{columnOffset, planeBytes, columnBytes, columnRegister, columnsLine, planeByte}
+use Rattle.lines.specs.Columns.{planeBytes, columnRegister, columnsLine, planeByte}
 
 -- ---- offsets
 
-pub lineBytes-le : (r : Resolution) → lineBytesOf r ≤ 160
-lineBytes-le Low = omega arith
-lineBytes-le Medium = omega arith
-lineBytes-le High = omega arith
+-- where plane 0's byte of column h in scan line y stands
+abbrev columnOffset : Resolution → ℕ → ℕ → ℕ
+columnOffset r y h = y * lineBytesOf r + h / 2 * (planesOf r * 2) + h % 2
 
 -- the last byte of a column lies within the screen
 pub column-within : (r : Resolution) (y : ℕ) → y < heightOf r → (h : ℕ) → h < rowBytesOf r
-    → y * lineBytesOf r + h / 2 * (planesOf r * 2) + h % 2 + (planesOf r - 1) * 2 < screenBytes
+    → columnOffset r y h + (planesOf r - 1) * 2 < screenBytes
 column-within Low y k h l = omega arith
 column-within Medium y k h l = omega arith
 column-within High y k h l = omega arith
 
 -- plane p's byte stands p words further on
 plane-offset : (r : Resolution) (y h p : ℕ) → wordOffset r y (h / 2) p + h % 2 ≡ columnOffset r y h + p * 2
-unfolding columnOffset wordOffset groupOffset
+unfolding wordOffset groupOffset
 plane-offset Low y h p = omega arith
 plane-offset Medium y h p = omega arith
 plane-offset High y h p = omega arith
@@ -54,8 +53,8 @@ columnRegister-sum s Medium at x = rw (add-zero at) (omega (arith, zero-div (2 ^
 columnRegister-sum s High at x = rw (add-zero at) (omega (arith, zero-div (2 ^ (7 - x % 8))))
 
 -- a pixel's register from the bytes of its column
-columnRegister-register : (s : List ℕ) (r : Resolution) (x y : ℕ) → Bytes s → columnRegister (columnBytes s r (x / 8) y) x ≡ register s r x y
-unfolding columnBytes
+columnRegister-register : (s : List ℕ) (r : Resolution) (x y : ℕ) → Bytes s
+    → columnRegister (planeBytes s (columnOffset r y (x / 8)) (planesOf r)) x ≡ register s r x y
 columnRegister-register s r x y bytes =
     let h : ℕ = x / 8 in
     let k : ℕ = x % 8 in
@@ -67,9 +66,9 @@ columnRegister-register s r x y bytes =
 
 -- the columns of a scan line are the scan line
 pub columnsLine-scanLine : (s : List ℕ) (r : Resolution) (y : ℕ) → Bytes s → columnsLine s (y * lineBytesOf r) (planesOf r) (rowBytesOf r) ≡ scanLine s r y
-unfolding columnsLine scanLine columnBytes columnOffset
+unfolding columnsLine scanLine
 columnsLine-scanLine s r y bytes =
-    let f : ℕ → ℕ = λ x. columnRegister (columnBytes s r (x / 8) y) x in
+    let f : ℕ → ℕ = λ x. columnRegister (planeBytes s (columnOffset r y (x / 8)) (planesOf r)) x in
     ap (λ (n : ℕ). tabulate n f) (rowBytes-width r)
     ∙ tabulate-ext (widthOf r) f (λ x. register s r x y) (λ x h. columnRegister-register s r x y bytes)
 

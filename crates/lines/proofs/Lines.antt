@@ -1,7 +1,7 @@
 -- Laws of line out and line in: each undoes the other. Assumes nothing.
 use mathlib.Core.Path.{_≡_, refl, sym, ap, ap₂, _∙_}
-use mathlib.Core.Bool.{Bool, true, false, not, _&&_}
-use mathlib.Core.Logic.{_⊎_, inl, inr}
+use mathlib.Core.Bool.{Bool, true, not}
+use mathlib.Core.Logic.{⊎-elim}
 use mathlib.Core.List.{List}
 use Prim.Native.Nat.{ℕ, zero, suc, _+_, _-_, _*_, _/_, _%_, _^_, _≤_, _<_}
 use native.Mathlib.Nat.{le-refl, add-zero, div-add-mod', mod-eq-of-lt, not-suc-le-zero, le-of-suc-le-suc, eq-or-lt-of-le}
@@ -13,23 +13,26 @@ use borrow.Author.Tests.{ltb-true, ltb-false, leb-false, lt-ltb, lt-leb, le-ltb,
 use Rattle.lists.specs.Bytes.{Bytes}
 use Rattle.lists.specs.Over.{over, overAt}
 use Rattle.lists.specs.Tabulate.{tabulate}
+use Rattle.lists.proofs.Cond.{and-true}
 use Rattle.lists.proofs.Digits.{fromBits-ext, bit-fromBits, fromBits-bits, sum-digits, sum-digit}
 use Rattle.lists.proofs.Over.{length-over, getD-over-in, length-overAt, getD-overAt-in, overAt-ext}
 use Rattle.lists.proofs.Sum.{sum-ext}
 use Rattle.lists.proofs.Tabulate.{length-tabulate, getD-tabulate, tabulate-ext, tabulate-take}
 use Rattle.words.specs.Word.{wordAt, wordBytes}
-use Rattle.outcome.specs.Outcome.{Outcome, accepted, refuseIf}
+use Rattle.words.proofs.Word.{wordAt-lt, wordBytes-wordAt}
+use Rattle.outcome.specs.Outcome.{Outcome, accepted}
 use Rattle.outcome.specs.Refusal.{areaTooShort, outOfRange}
-use Rattle.resolution.specs.declared.Chosen.{Chosen}
-use Rattle.resolution.specs.declared.Chosen.the-variants.{Known, Unknown}
+use Rattle.outcome.proofs.Outcome.{passed}
+use Rattle.resolution.specs.declared.Chosen.the-variants.{Known}
 use Rattle.resolution.specs.declared.Resolution.{Resolution}
 use Rattle.resolution.specs.declared.Resolution.the-variants.{Low, Medium, High}
-use Rattle.resolution.specs.Choice.{chosen, judgeWith}
+use Rattle.resolution.specs.Choice.{chosen}
 use Rattle.resolution.specs.Shapes.{screenBytes, widthOf, heightOf, planesOf, groupsOf, lineBytesOf, registersOf}
+use Rattle.resolution.proofs.Choice.{judgeScreen-fits}
 use Rattle.screen.specs.Registers.{groupOffset, wordOffset, pixelBit, register, scanLine, wordOf, lineBytes, withLine}
 use Rattle.screen.proofs.Places.{line-within, pixel-group}
-use Rattle.screen.proofs.Registers.{register-lt}
-use Rattle.lines.specs.Lines.{allBelow, judgeScreen, judgeLineAt, lineOutAt, lineOut, lineIn}
+use Rattle.screen.proofs.Registers.{register-lt, length-scanLine, getD-scanLine}
+use Rattle.lines.specs.Lines.{allBelow, judgeLineAt, lineOutAt, lineOut, lineIn}
 
 -- ---- the bytes of a scan line
 
@@ -67,7 +70,7 @@ line-room : (s : List ℕ) (r : Resolution) (y : ℕ) (line : List ℕ) → scre
     → y * lineBytesOf r + length (lineBytes r line) ≤ length s
 line-room s r y line long hy = omega (arith, line-within r y hy, length-lineBytes r line)
 
-pub length-withLine : (s : List ℕ) (r : Resolution) (y : ℕ) (line : List ℕ) → screenBytes ≤ length s → y < heightOf r
+length-withLine : (s : List ℕ) (r : Resolution) (y : ℕ) (line : List ℕ) → screenBytes ≤ length s → y < heightOf r
     → length (withLine s r y line) ≡ length s
 unfolding withLine
 length-withLine s r y line long hy = length-overAt (y * lineBytesOf r) (lineBytes r line) s (line-room s r y line long hy)
@@ -118,13 +121,9 @@ module _ (s : List ℕ) (r : Resolution) (y : ℕ) (line : List ℕ) (long : scr
 allBelow-lt : (n m : ℕ) (l : List ℕ) → allBelow n m l ≡ true → (k : ℕ) → k < n → getD l k 0 < m
 unfolding allBelow
 allBelow-lt zero m l e k h = absurd (not-suc-le-zero h)
-allBelow-lt (suc n) m l e k h = go (ltb (getD l n 0) m) refl e (allBelow-lt n m l) (eq-or-lt-of-le (le-of-suc-le-suc h))
-  where
-    go : (b : Bool) → ltb (getD l n 0) m ≡ b → b && allBelow n m l ≡ true → (allBelow n m l ≡ true → (k : ℕ) → k < n → getD l k 0 < m)
-        → (k ≡ n) ⊎ (k < n) → getD l k 0 < m
-    go true t e ih (inl q) = rw q (ltb-true (getD l n 0) m t)
-    go true t e ih (inr q) = ih e k q
-    go false t e ih q = let z : _≡_ {A = ℕ} 0 1 = cc in omega arith
+allBelow-lt (suc n) m l e k h =
+    let p = and-true (ltb (getD l n 0) m) (allBelow n m l) e in
+    ⊎-elim (λ q. rw q (ltb-true (getD l n 0) m (p .0))) (λ q. allBelow-lt n m l (p .1) k q) (eq-or-lt-of-le (le-of-suc-le-suc h))
 
 -- the registers that line in was given
 scanLine-withLine : (s : List ℕ) (r : Resolution) (y : ℕ) (line : List ℕ) → screenBytes ≤ length s → y < heightOf r → widthOf r ≤ length line
@@ -138,16 +137,6 @@ scanLine-withLine s r y line long hy hw fit =
 -- ---- line in after line out
 
 module _ (s : List ℕ) (r : Resolution) (y : ℕ) (bytes : Bytes s) where
-  word-byte : (o h : ℕ) → h < 2 → getD (wordBytes (wordAt s o)) h 0 ≡ getD s (o + h) 0
-  unfolding wordBytes wordAt
-  word-byte o zero l = digits-div (getD s o 0) (bytes (o + 1)) ∙ ap (λ (m : ℕ). getD s m 0) (sym (add-zero o))
-  word-byte o (suc zero) l = digits-mod (getD s o 0) (bytes (o + 1))
-  word-byte o (suc (suc h)) l = absurd (omega arith)
-
-  word-lt : (o : ℕ) → wordAt s o < 65536
-  unfolding wordAt
-  word-lt o = omega (arith, bytes o, bytes (o + 1))
-
   -- plane p's word from the registers of a line that has the scan line's first
   word-out : (line : List ℕ) → ((x : ℕ) → x < widthOf r → getD line x 0 ≡ register s r x y)
       → (g p : ℕ) → g < groupsOf r → p < planesOf r → wordOf line g p ≡ wordAt s (wordOffset r y g p)
@@ -160,7 +149,7 @@ module _ (s : List ℕ) (r : Resolution) (y : ℕ) (bytes : Bytes s) where
       ∙ sum-digit (planesOf r) (λ q. pixelBit (wordAt s (wordOffset r y ((g * 16 + k) / 16) q)) ((g * 16 + k) % 16)) (λ q. omega arith) p hp
       ∙ ap₂ (λ (a b : ℕ). pixelBit (wordAt s (wordOffset r y a p)) b) (digits-div g hk) (digits-mod g hk))
       ∙ fromBits-bits 16 w
-      ∙ mod-eq-of-lt (word-lt (wordOffset r y g p))
+      ∙ mod-eq-of-lt (wordAt-lt s bytes (wordOffset r y g p))
 
   -- nothing changes
   withLine-scanLine : (line : List ℕ) → ((x : ℕ) → x < widthOf r → getD line x 0 ≡ register s r x y) → screenBytes ≤ length s → y < heightOf r
@@ -179,7 +168,7 @@ module _ (s : List ℕ) (r : Resolution) (y : ℕ) (bytes : Bytes s) where
       let f : (g * P + p) * 2 + i % 2 ≡ i = omega (arith, div-add-mod' (i / 2) P) in
       sym
       (ap (λ (w : ℕ). getD (wordBytes w) (i % 2) 0) (word-out line e g p (d .0) (d .1))
-      ∙ word-byte (wordOffset r y g p) (i % 2) (omega arith)
+      ∙ wordBytes-wordAt s bytes (wordOffset r y g p) (i % 2) (omega arith)
       ∙ ap (λ (o : ℕ). getD s o 0) (word-offset r y g p (i % 2))
       ∙ ap (λ (m : ℕ). getD s (y * n + m) 0) f))
       (λ o h. refl))
@@ -191,27 +180,10 @@ lt-allBelow (suc n) m l h = rw (lt-ltb (getD l n 0) m (h n (le-refl (suc n)))) (
 
 -- ---- outcomes
 
--- what is accepted was not refused by the first test
-pub passed : {A : Type 0} (t : Bool) (n : ℕ) (further : Outcome A) (a : A) → refuseIf t n further ≡ accepted a → (t ≡ false) × (further ≡ accepted a)
-passed true n further a e = let z : _≡_ {A = ℕ} 0 1 = cc in absurd (omega arith)
-passed false n further a e = (refl, e)
-
--- what is accepted has a screen and a resolution
-pub by-resolution : {A P : Type 0} (n number : ℕ) (further : Resolution → Outcome A) (a : A) → judgeScreen n number further ≡ accepted a
-    → ((r : Resolution) → chosen number ≡ Known r → screenBytes ≤ n → further r ≡ accepted a → P) → P
-by-resolution {P = P} n number further a e f = go (chosen number) refl (p .1)
-  where
-    p : (ltb n screenBytes ≡ false) × (judgeWith (chosen number) further ≡ accepted a)
-    p = passed (ltb n screenBytes) areaTooShort (judgeWith (chosen number) further) a e
-
-    go : (c : Chosen) → chosen number ≡ c → judgeWith c further ≡ accepted a → P
-    go (Known r) known q = f r known (ltb-false n screenBytes (p .0)) q
-    go Unknown unknown q = let z : _≡_ {A = ℕ} 0 1 = cc in absurd (omega arith)
-
 -- an accepted line lies within the screen and has room
-judged : {A : Type 0} (r : Resolution) (y room : ℕ) (further : Outcome A) (a : A) → judgeLineAt r y room further ≡ accepted a
+judgeLineAt-fits : {A : Type 0} (r : Resolution) (y room : ℕ) (further : Outcome A) (a : A) → judgeLineAt r y room further ≡ accepted a
     → (y < heightOf r) × (widthOf r ≤ room) × (further ≡ accepted a)
-judged r y room further a e =
+judgeLineAt-fits r y room further a e =
     let p = passed (leb (heightOf r) y) outOfRange _ a e in
     let q = passed (ltb room (widthOf r)) areaTooShort _ a (p .1) in
     (leb-false (heightOf r) y (p .0), ltb-false room (widthOf r) (q .0), q .1)
@@ -221,7 +193,7 @@ module _ (s : List ℕ) (number y : ℕ) (r : Resolution) (known : chosen number
   unfolding lineOut
   out-accepted room long hy hw = rw known (simp (le-ltb (length s) screenBytes long, lt-leb (heightOf r) y hy, le-ltb room (widthOf r) hw))
 
-  pub in-accepted : (line : List ℕ) → screenBytes ≤ length s → y < heightOf r → widthOf r ≤ length line → allBelow (widthOf r) (registersOf r) line ≡ true
+  in-accepted : (line : List ℕ) → screenBytes ≤ length s → y < heightOf r → widthOf r ≤ length line → allBelow (widthOf r) (registersOf r) line ≡ true
       → lineIn s number y line ≡ accepted (withLine s r y line)
   unfolding lineIn
   in-accepted line long hy hw fit =
@@ -238,7 +210,7 @@ out-after-in s line after number y room r known hw e =
     let t : List ℕ = withLine s r y line in
     let p = passed (ltb (length s) screenBytes) areaTooShort _ after e in
     let long : screenBytes ≤ length s = ltb-false (length s) screenBytes (p .0) in
-    let j = judged r y (length line) _ after (rw known at (p .1)) in
+    let j = judgeLineAt-fits r y (length line) _ after (rw known at (p .1)) in
     let q = passed (not fit) outOfRange (accepted t) after (j .2) in
     let same : accepted t ≡ accepted after = q .1 in
     let is : t ≡ after = cc in
@@ -249,18 +221,16 @@ out-after-in s line after number y room r known hw e =
 -- line in of what an accepted line out left is accepted and changes nothing
 pub in-after-out : (s l out : List ℕ) (number y : ℕ) → Bytes s → lineOut s number y (length out) ≡ accepted l
     → lineIn s number y (over l out) ≡ accepted s
-unfolding scanLine lineOut
+unfolding lineOut
 in-after-out s l out number y bytes e =
-    by-resolution (length s) number (λ r. lineOutAt s r y (length out)) l e
+    judgeScreen-fits (length s) number (λ r. lineOutAt s r y (length out)) l e
     (λ r known long f.
-    let w : ℕ = widthOf r in
-    let row : ℕ → ℕ = λ x. register s r x y in
-    let j = judged r y (length out) (accepted (tabulate w row)) l f in
-    let same : accepted (tabulate w row) ≡ accepted l = j .2 in
-    let is : tabulate w row ≡ l = cc in
-    let len : length l ≡ w = ap length (sym is) ∙ length-tabulate w row in
-    let at : (x : ℕ) → x < w → getD (over l out) x 0 ≡ register s r x y = λ x h.
-    getD-over-in l out x 0 (omega arith) ∙ ap (λ (t : List ℕ). getD t x 0) (sym is) ∙ getD-tabulate w row x 0 h in
+    let j = judgeLineAt-fits r y (length out) (accepted (scanLine s r y)) l f in
+    let same : accepted (scanLine s r y) ≡ accepted l = j .2 in
+    let is : scanLine s r y ≡ l = cc in
+    let len : length l ≡ widthOf r = ap length (sym is) ∙ length-scanLine s r y in
+    let at : (x : ℕ) → x < widthOf r → getD (over l out) x 0 ≡ register s r x y = λ x h.
+    getD-over-in l out x 0 (omega arith) ∙ ap (λ (t : List ℕ). getD t x 0) (sym is) ∙ getD-scanLine s r x y h in
     in-accepted s number y r known (over l out) long (j .0) (omega (arith, j .1, length-over l out (omega (arith, j .1))))
-    (lt-allBelow w (registersOf r) (over l out) (λ x h. rw (at x h) (register-lt s r x y)))
+    (lt-allBelow (widthOf r) (registersOf r) (over l out) (λ x h. rw (at x h) (register-lt s r x y)))
     ∙ ap accepted (withLine-scanLine s r y bytes (over l out) at long (j .0)))

@@ -8,13 +8,7 @@ use lib.ListN.{getD}
 use lib.Dec.{ltb}
 use Rattle.lists.specs.Digits.{fromBits}
 use Rattle.lists.specs.Tabulate.{tabulate}
-use Rattle.resolution.specs.declared.Resolution.{Resolution}
-use Rattle.resolution.specs.Shapes.{planesOf, lineBytesOf}
 use Rattle.lines.specs.declared.PlaneBytes.{PlaneBytes}
-
--- where plane 0's byte of column h in scan line y stands; plane p's stands p words further on
-unfoldable pub columnOffset : Resolution → ℕ → ℕ → ℕ
-columnOffset r y h = y * lineBytesOf r + h / 2 * (planesOf r * 2) + h % 2
 
 -- the bytes of the column whose first byte stands at an offset, 0 for a plane that is not there
 abbrev pub planeBytes : List ℕ → ℕ → ℕ → PlaneBytes
@@ -24,10 +18,6 @@ planeBytes s at planes = record {
   third = cond (ltb 2 planes) (getD s (at + 4) 0) 0;
   fourth = cond (ltb 3 planes) (getD s (at + 6) 0) 0;
 }
-
--- the bytes of column h of scan line y
-unfoldable pub columnBytes : List ℕ → Resolution → ℕ → ℕ → PlaneBytes
-columnBytes s r h y = planeBytes s (columnOffset r y h) (planesOf r)
 
 -- pixel x of a scan line in a byte of its column: the leftmost is the top bit
 abbrev pub byteBit : ℕ → ℕ → ℕ

@@ -20,11 +20,11 @@ use resolution::Resolution;
 use resolution::SCREEN_BYTES;
 
 // The bytes that hold eight pixels, one for each plane; 0 for a plane that is not there.
-pub struct PlaneBytes {
-    pub first: u8,
-    pub second: u8,
-    pub third: u8,
-    pub fourth: u8,
+struct PlaneBytes {
+    first: u8,
+    second: u8,
+    third: u8,
+    fourth: u8,
 }
 
 // The register of pixel x of a scan line, from the bytes of its column: plane p adds 2^p.

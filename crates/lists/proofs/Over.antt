@@ -1,15 +1,15 @@
--- Laws of `over` and `overAt`, and of the loops that write them, one element a turn. Assumes nothing.
-use mathlib.Core.Path.{_≡_, sym, ap, _∙_}
-use mathlib.Core.List.{List, [], _∷_, _++_, append-assoc, append-nil}
-use Prim.Native.Nat.{ℕ, suc, _+_, _-_, _≤_, _<_}
+-- Laws of `over` and `overAt`, and of the loops that write them, one element or one piece a turn. Assumes nothing.
+use mathlib.Core.Path.{_≡_, refl, sym, ap, _∙_}
+use mathlib.Core.List.{List, _++_, append-assoc, append-nil}
+use Prim.Native.Nat.{ℕ, _+_, _-_, _≤_, _<_}
 use native.Mathlib.Decide.{decLt}
 use native.Mathlib.Numerals.{add-one}
 use native.Mathlib.Omega.{arith}
 use lib.ListN.{length, getD, take, drop, set, length-append, length-drop, drop-of-length-le, List·getD-append}
-use lib.Seq.{drop-cons, drop-drop, take-suc, take-all, append-snoc, set-at, length-take-le, getD-take, getD-drop, getD-append-add, ext-getD, paste, paste-suc}
+use lib.Seq.{drop-drop, take-add, take-all, take-at, drop-at, length-take-le, getD-take, getD-drop, getD-append-add, ext-getD, paste, paste-suc}
 use Rattle.lists.specs.Over.{over, overAt}
 use Rattle.lists.specs.Tabulate.{tabulate}
-use Rattle.lists.proofs.Tabulate.{length-tabulate, getD-tabulate}
+use Rattle.lists.proofs.Tabulate.{length-tabulate, getD-tabulate, tabulate-ext, tabulate-take}
 
 module _ {A : Type 0} where
   -- ---- over the front
@@ -29,38 +29,15 @@ module _ {A : Type 0} where
       ∙ getD-drop (length s) d j z
       ∙ ap (λ (n : ℕ). getD d n z) (sym e)
 
-  -- a turn of the loop that writes s: its store takes k elements to k + 1. Before the first turn `over (take 0 s) d` is d.
-  pub over-turn : (s d out : List A) (k : ℕ) (v z : A) → k < length s → k < length d → out ≡ over (take k s) d → v ≡ getD s k z
-      → set out k v ≡ over (take (k + 1) s) d
-  over-turn s d out k v z hs hd is e =
-      let l : length (take k s) ≡ k = length-take-le k s (omega arith) in
-      let m : length (take (k + 1) s) ≡ suc k = length-take-le (k + 1) s (omega arith) ∙ add-one k in
-      ap (λ (t : List A). set t k v) (is ∙ ap (λ (n : ℕ). take k s ++ drop n d) l ∙ ap (λ (t : List A). take k s ++ t) (drop-cons d k z hd))
-      ∙ set-at (take k s) (getD d k z) (drop (suc k) d) v k l
-      ∙ sym (append-snoc (take k s) v (drop (suc k) d))
-      ∙ ap (λ (x : A). (take k s ++ (x ∷ [])) ++ drop (suc k) d) e
-      ∙ ap (λ (t : List A). t ++ drop (suc k) d) (sym (take-suc s k z hs) ∙ ap (λ (n : ℕ). take n s) (sym (add-one k)))
-      ∙ ap (λ (n : ℕ). take (k + 1) s ++ drop n d) (sym m)
-
-  -- after the last turn
-  pub over-done : (s d out : List A) (k : ℕ) → length s ≤ k → out ≡ over (take k s) d → out ≡ over s d
-  over-done s d out k h is = is ∙ ap (λ (t : List A). over t d) (take-all k s h)
+  -- the front of a list over another
+  pub over-front : (s d out : List A) (n : ℕ) → length s ≡ n → over (take n (over s d)) out ≡ over s out
+  over-front s d out n e = ap (λ (t : List A). over t out) (take-at s (drop (length s) d) n e)
 
   -- a list that is written over whole is gone
   pub over-whole : (s d : List A) → length d ≤ length s → over s d ≡ s
   over-whole s d h = ap (λ (t : List A). s ++ t) (drop-of-length-le d h) ∙ append-nil s
 
-  -- the same loop where s is given by a rule, and its end where s takes up the whole list
-  pub tabulate-turn : (n : ℕ) (f : ℕ → A) (d out : List A) (k : ℕ) (v : A) → k < n → k < length d → out ≡ over (take k (tabulate n f)) d → v ≡ f k
-      → set out k v ≡ over (take (k + 1) (tabulate n f)) d
-  tabulate-turn n f d out k v hn hd is e =
-      over-turn (tabulate n f) d out k v v (omega (arith, length-tabulate n f)) hd is (e ∙ sym (getD-tabulate n f k v hn))
-
-  pub tabulate-done : (n : ℕ) (f : ℕ → A) (d out : List A) (k : ℕ) → n ≤ k → length d ≤ n → out ≡ over (take k (tabulate n f)) d → out ≡ tabulate n f
-  tabulate-done n f d out k hk hd is =
-      over-done (tabulate n f) d out k (omega (arith, length-tabulate n f)) is ∙ over-whole (tabulate n f) d (omega (arith, length-tabulate n f))
-
-  -- ---- from an offset on
+  -- ---- from an offset on, and the loop that writes there
 
   overAt-paste : (at : ℕ) (s d : List A) (k : ℕ) → k ≤ length s → overAt at (take k s) d ≡ paste d at s k
   overAt-paste at s d k h =
@@ -110,6 +87,68 @@ module _ {A : Type 0} where
         ∙ getD-over-past s (drop at d) j z (omega arith)
         ∙ getD-drop at d j z
         ∙ ap (λ (n : ℕ). getD d n z) (sym e)
+
+  -- b from the end of a on, where a stands over the front of d
+  pub over-more : (d a b : List A) (n : ℕ) → length a ≡ n → overAt n b (over a d) ≡ over (a ++ b) d
+  over-more d a b n l =
+      let rest : List A = drop (length a) d in
+      ap (λ (u : List A). u ++ over b (drop n (a ++ rest))) (take-at a rest n l)
+      ∙ ap (λ (u : List A). a ++ over b u) (drop-at a rest n l)
+      ∙ ap (λ (u : List A). a ++ (b ++ u)) (drop-drop (length b) (length a) d)
+      ∙ sym (append-assoc a b (drop (length a + length b) d))
+      ∙ ap (λ (k : ℕ). (a ++ b) ++ drop k d) (sym (length-append a b))
+
+  -- ---- the same loop over the front
+
+  -- a turn of the loop that writes s: its store takes k elements to k + 1. Before the first turn `over (take 0 s) d` is d.
+  pub over-turn : (s d out : List A) (k : ℕ) (v z : A) → k < length s → k < length d → out ≡ over (take k s) d → v ≡ getD s k z
+      → set out k v ≡ over (take (k + 1) s) d
+  over-turn s d out k v z hs hd is e =
+      let same : k ≡ 0 + k = omega arith in
+      ap (λ (n : ℕ). set out n v) same ∙ overAt-turn 0 s d out k v z hs (omega arith) is e
+
+  -- after the last turn
+  pub over-done : (s d out : List A) (k : ℕ) → length s ≤ k → out ≡ over (take k s) d → out ≡ over s d
+  over-done s d out k h is = is ∙ ap (λ (t : List A). over t d) (take-all k s h)
+
+  -- a list of one element is written by one store
+  pub over-one : (s d : List A) (v z : A) → length s ≡ 1 → 0 < length d → v ≡ getD s 0 z → set d 0 v ≡ over s d
+  over-one s d v z one h e = over-done s d (set d 0 v) 1 (omega arith) (over-turn s d d 0 v z (omega arith) h refl e)
+
+  -- the same loop where s is given by a rule, and its end where s takes up the whole list
+  pub tabulate-turn : (n : ℕ) (f : ℕ → A) (d out : List A) (k : ℕ) (v : A) → k < n → k < length d → out ≡ over (take k (tabulate n f)) d → v ≡ f k
+      → set out k v ≡ over (take (k + 1) (tabulate n f)) d
+  tabulate-turn n f d out k v hn hd is e =
+      over-turn (tabulate n f) d out k v v (omega (arith, length-tabulate n f)) hd is (e ∙ sym (getD-tabulate n f k v hn))
+
+  pub tabulate-done : (n : ℕ) (f : ℕ → A) (d out : List A) (k : ℕ) → n ≤ k → length d ≤ n → out ≡ over (take k (tabulate n f)) d → out ≡ tabulate n f
+  tabulate-done n f d out k hk hd is =
+      over-done (tabulate n f) d out k (omega (arith, length-tabulate n f)) is ∙ over-whole (tabulate n f) d (omega (arith, length-tabulate n f))
+
+  -- ---- a turn that writes a piece of s, where `over-turn` writes one element
+
+  over-piece : (s d out t : List A) (k : ℕ) → k + length t ≤ length s → out ≡ over (take k s) d → t ≡ take (length t) (drop k s)
+      → overAt k t out ≡ over (take (k + length t) s) d
+  over-piece s d out t k h is e =
+      ap (overAt k t) is
+      ∙ over-more d (take k s) t k (length-take-le k s (omega arith))
+      ∙ ap (λ (u : List A). over u d) (ap (λ (u : List A). take k s ++ u) e ∙ sym (take-add k (length t) s))
+
+  -- the same of a list given by a rule
+  pub tabulate-piece : (n m : ℕ) (f w : ℕ → A) (d out : List A) (k : ℕ) → k + m ≤ n → out ≡ over (take k (tabulate n f)) d
+      → ((i : ℕ) → i < m → w i ≡ f (k + i)) → overAt k (tabulate m w) out ≡ over (take (k + m) (tabulate n f)) d
+  tabulate-piece n m f w d out k h is e =
+      let s : List A = tabulate n f in
+      let l : length s ≡ n = length-tabulate n f in
+      let p : length (tabulate m w) ≡ m = length-tabulate m w in
+      let z : A = f 0 in
+      let t : tabulate m w ≡ take m (drop k s) =
+      tabulate-ext m w (λ i. getD (drop k s) i z)
+      (λ i b. e i b ∙ sym (getD-tabulate n f (k + i) z (omega arith)) ∙ sym (getD-drop k s i z))
+      ∙ tabulate-take m (drop k s) z (omega (arith, length-drop k s))
+      in
+      over-piece s d out (tabulate m w) k (omega arith) is (t ∙ ap (λ (j : ℕ). take j (drop k s)) (sym p))
+      ∙ ap (λ (j : ℕ). over (take (k + j) s) d) p
 
 -- ---- a list that has f 0, f 1, .. from an offset on, and is d elsewhere
 

@@ -4,9 +4,10 @@ use native.Mathlib.Omega.{arith}
 use mathlib.Core.Path.{_≡_, ap, _∙_}
 use mathlib.Core.List.{List, _++_, append-nil}
 use borrow.Rule.Slice.PartMut.{putMid, post-is}
-use lib.ListN.{length, take, drop, length-drop}
+use lib.ListN.{length, take, drop, length-append, length-drop}
 use lib.Seq.{take-all, take-length, drop-length}
-use Rattle.lists.specs.Over.{over}
+use Rattle.lists.specs.Over.{over, overAt}
+use Rattle.lists.proofs.Over.{over-more}
 
 module _ {A : Type 0} where
   -- the part from a on
@@ -18,6 +19,15 @@ module _ {A : Type 0} where
   tail-put s t a h =
       ap (λ (l : List A). take a s ++ (t ++ l)) (post-is a (length s) s h ∙ drop-length s)
       ∙ ap (λ (l : List A). take a s ++ l) (append-nil t)
+
+  -- the same where the part begins at the end of a, which stands over the front of d, and was given back with b over its front
+  pub over-append : (d a b o t : List A) (n : ℕ) → o ≡ over a d → length a ≡ n → t ≡ over b (take (length o - n) (drop n o))
+      → putMid n (length o - n) o t ≡ over (a ++ b) d
+  over-append d a b o t n is l e =
+      tail-put o t n (omega (arith, ap length is, length-append a (drop (length a) d)))
+      ∙ ap (λ (u : List A). take n o ++ u) (e ∙ ap (over b) (tail-part o n))
+      ∙ ap (overAt n b) is
+      ∙ over-more d a b n l
 
   -- what the kit's `bytes::copy` leaves
   pub copied-over : (s d : List A) → take (length s) s ++ drop (length s) d ≡ over s d

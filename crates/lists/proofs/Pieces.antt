@@ -1,13 +1,14 @@
 -- A string that is written piece by piece to the front of an output, each piece to the part from its present end on. Assumes nothing.
-use Prim.Native.Nat.{ℕ, _+_, _-_, _≤_}
+use Prim.Native.Nat.{ℕ, _+_, _-_, _≤_, _<_}
 use native.Mathlib.Omega.{arith}
 use mathlib.Core.Path.{_≡_, refl, sym, ap, ap₂, _∙_, subst}
-use mathlib.Core.List.{List, [], _++_, append-assoc, append-nil}
-use lib.ListN.{length, take, drop, length-append, length-drop, take-append-drop}
-use lib.Seq.{length-take-le, take-at, drop-at, drop-drop}
+use mathlib.Core.List.{List, [], _∷_, _++_, append-assoc, append-nil}
+use lib.ListN.{length, take, drop, set, length-append, length-drop, take-append-drop}
+use lib.Seq.{length-take-le, take-at, drop-at, drop-drop, getD-at}
 use borrow.Rule.Slice.PartMut.{putMid}
 use Rattle.lists.specs.Over.{over}
-use Rattle.lists.proofs.Parts.{tail-part, tail-put}
+use Rattle.lists.proofs.Over.{length-over, over-turn, over-done}
+use Rattle.lists.proofs.Parts.{tail-part, tail-put, over-append, copied-over}
 
 -- o bytes of out are written, the string `rest` of the string `whole` is still to come, and out₀ is what out was
 pub record Writing (whole rest out₀ out : List ℕ) (o : ℕ) : Type 0 where
@@ -37,7 +38,7 @@ writing-end {whole} {out₀} {out} {o} w =
 
 module _ {whole out₀ out : List ℕ} {o : ℕ} (piece rest : List ℕ) (fits : length whole ≤ length out₀)
     (w : Writing whole (piece ++ rest) out₀ out o) where
-  pub piece-room : o + length piece ≤ length out
+  piece-room : o + length piece ≤ length out
   piece-room =
       omega (
         arith,
@@ -83,3 +84,38 @@ module _ {whole out₀ out : List ℕ} {o : ℕ} (piece rest : List ℕ) (fits :
       ∙ ap (λ (l : List ℕ). take o out ++ l) (e ∙ ap (over piece) (tail-part out o))
       ∙ sym (append-assoc (take o out) piece (drop (length piece) (drop o out))) in
       subst (λ (l : List ℕ). Writing whole rest out₀ l (o + length piece)) (sym p) after-piece
+
+-- ---- a string written whole, and a further one after it
+
+-- what the kit's `bytes::copy` wrote
+pub written-copied : (s d out : List ℕ) (n : ℕ) → n ≡ length s → out ≡ take (length s) s ++ drop (length s) d → Written s d out n
+written-copied s d out n h is = record { bytes = h; all = is ∙ copied-over s d }
+
+-- the same string under another name
+pub written-as : {a d out : List ℕ} {o : ℕ} (b : List ℕ) → a ≡ b → Written a d out o → Written b d out o
+written-as {d = d} {out = out} {o = o} b e w = subst (λ (t : List ℕ). Written t d out o) e w
+
+module _ {a d out : List ℕ} {o : ℕ} (w : Written a d out o) where
+  pub length-written : length a ≤ length d → length out ≡ length d
+  length-written h = ap length (w .all) ∙ length-over a d h
+
+  -- b after a, written to the part from the end of a on
+  pub written-more : (b last : List ℕ) (n : ℕ) → n ≡ length b → last ≡ over b (take (length out - o) (drop o out))
+      → Written (a ++ b) d (putMid o (length out - o) out last) (o + n)
+  written-more b last n h e =
+      record { bytes = omega (arith, w .bytes, length-append a b); all = over-append d a b out last o (w .all) (sym (w .bytes)) e }
+
+  -- one byte after a
+  pub written-byte : (x : ℕ) → length a < length d → Written (a ++ x ∷ []) d (set out o x) (o + 1)
+  written-byte x h =
+      let s : List ℕ = a ++ x ∷ [] in
+      let more : length s ≡ length a + 1 = length-append a (x ∷ []) in
+      record {
+        bytes = omega (arith, w .bytes, more);
+        all =
+            ap (λ (k : ℕ). set out k x) (w .bytes)
+            ∙ over-done s d (set out (length a) x) (length a + 1) (omega (arith, more))
+            (over-turn s d out (length a) x 0 (omega (arith, more)) h
+            (w .all ∙ ap (λ (l : List ℕ). over l d) (sym (take-at a (x ∷ []) (length a) refl)))
+            (sym (getD-at a x [] 0 (length a) refl)));
+      }

@@ -2,8 +2,9 @@
 use mathlib.Core.Path.{_≡_, refl, ap, _∙_}
 use mathlib.Core.List.{List, [], _∷_}
 use Prim.Native.Nat.{ℕ, zero, suc, _≤_, _<_, suc-le-suc, zero-le}
-use native.Mathlib.Nat.{not-suc-le-zero, le-of-suc-le-suc, zero-lt-suc}
+use native.Mathlib.Nat.{not-suc-le-zero, le-of-suc-le-suc, le-refl, zero-lt-suc}
 use lib.ListN.{length, getD, take}
+use lib.Seq.{take-length}
 use Rattle.lists.specs.Tabulate.{tabulate}
 
 module _ {A : Type 0} where
@@ -26,22 +27,24 @@ module _ {A : Type 0} where
       ap (λ (x : A). x ∷ tabulate n (λ k. f (suc k))) (e 0 (zero-lt-suc n))
       ∙ ap (λ (l : List A). g 0 ∷ l) (tabulate-ext n (λ k. f (suc k)) (λ k. g (suc k)) (λ k h. e (suc k) (suc-le-suc h)))
 
-  -- a list is made of its elements
-  pub tabulate-getD : (l : List A) (d : A) → tabulate (length l) (λ k. getD l k d) ≡ l
-  unfolding tabulate
-  tabulate-getD [] d = refl
-  tabulate-getD (x ∷ xs) d = ap (λ (l : List A). x ∷ l) (tabulate-getD xs d)
-
-  -- and its front of its first elements
+  -- the front of a list is made of its first elements
   pub tabulate-take : (n : ℕ) (l : List A) (d : A) → n ≤ length l → tabulate n (λ k. getD l k d) ≡ take n l
   unfolding tabulate
   tabulate-take zero l d h = refl
   tabulate-take (suc n) [] d h = absurd (not-suc-le-zero h)
   tabulate-take (suc n) (x ∷ xs) d h = ap (λ (t : List A). x ∷ t) (tabulate-take n xs d (le-of-suc-le-suc h))
 
+  -- and the list of all
+  pub tabulate-getD : (l : List A) (d : A) → tabulate (length l) (λ k. getD l k d) ≡ l
+  tabulate-getD l d = tabulate-take (length l) l d (le-refl (length l)) ∙ take-length l
+
+  -- what holds of every value of the rule, and of d, holds of every element
+  pub tabulate-all : (P : A → Type 0) (n : ℕ) (f : ℕ → A) (d : A) → P d → ((k : ℕ) → P (f k)) → (k : ℕ) → P (getD (tabulate n f) k d)
+  unfolding tabulate
+  tabulate-all P zero f d e h k = e
+  tabulate-all P (suc n) f d e h zero = h 0
+  tabulate-all P (suc n) f d e h (suc k) = tabulate-all P n (λ k. f (suc k)) d e (λ k. h (suc k)) k
+
 -- a bound on the rule is one on every element
 pub tabulate-le : (n : ℕ) (f : ℕ → ℕ) (b : ℕ) → ((k : ℕ) → f k ≤ b) → (k : ℕ) → getD (tabulate n f) k 0 ≤ b
-unfolding tabulate
-tabulate-le zero f b h k = zero-le
-tabulate-le (suc n) f b h zero = h 0
-tabulate-le (suc n) f b h (suc k) = tabulate-le n (λ k. f (suc k)) b (λ k. h (suc k)) k
+tabulate-le n f b h = tabulate-all (λ x. x ≤ b) n f 0 zero-le h

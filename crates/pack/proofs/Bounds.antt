@@ -1,11 +1,11 @@
 -- The least body's length: at most one more than the row's, and exactly that where no two neighbours are equal. Assumes nothing.
-use Prim.Native.Nat.{ℕ, suc, _+_, _≤_}
+use Prim.Native.Nat.{ℕ, zero, suc, _+_, _≤_}
 use native.Mathlib.Omega.{arith}
 use native.Mathlib.Numerals.{add-one}
 use mathlib.Core.Path.{_≡_, refl, sym, ap, _∙_}
 use mathlib.Core.List.{List, [], _∷_}
 use lib.ListN.{length}
-use Rattle.pack.specs.IsLeast.{Separate}
+use Rattle.lists.specs.Tabulate.{tabulate}
 use Rattle.pack.specs.Least.{size, scan, least}
 use Rattle.pack.proofs.Least.{opening-cases, run-cases, best-cases, best≤literal, run-byte}
 
@@ -25,6 +25,17 @@ least-bound [] = omega arith
 least-bound (x ∷ t) = omega (arith, opening-bound x t, best≤literal x (scan t))
 
 -- ---- for a row in which no two neighbours are equal: one literal is best
+
+abbrev pub Separate : List ℕ → Type 0
+Separate [] = Unit {0}
+Separate (x ∷ []) = Unit {0}
+Separate (x ∷ y ∷ t) = (x ≡ y → ⊥) × Separate (y ∷ t)
+
+pub separate-tabulate : (n : ℕ) (f : ℕ → ℕ) → ((k : ℕ) → f k ≡ f (suc k) → ⊥) → Separate (tabulate n f)
+unfolding tabulate
+separate-tabulate zero f h = tt
+separate-tabulate (suc zero) f h = tt
+separate-tabulate (suc (suc n)) f h = (h 0, separate-tabulate (suc n) (λ k. f (suc k)) (λ k. h (suc k)))
 
 separate-sizes : (x : ℕ) (t : List ℕ) → Separate (x ∷ t)
     → (size (scan (x ∷ t) .opening .rest) ≡ suc (length t)) × (size (scan (x ∷ t) .best) ≡ suc (suc (length t)))

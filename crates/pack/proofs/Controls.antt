@@ -52,13 +52,6 @@ literal-written c n row [] last l e = absurd (omega arith)
 literal-written c n row (a ∷ out) last l e =
     tail-put (c ∷ out) last 1 (omega arith) ∙ ap (λ (t : List ℕ). c ∷ t) (e ∙ ap (over (take n row)) (tail-part (c ∷ out) 1))
 
--- a literal of one byte
-pub byte-written : (s out : List ℕ) → length s ≡ 1 → length s ≤ length out → set out 0 (getD s 0 0) ≡ over s out
-byte-written [] out h l = absurd (omega arith)
-byte-written (x ∷ []) [] h l = absurd (omega arith)
-byte-written (x ∷ []) (a ∷ out) h l = refl
-byte-written (x ∷ y ∷ s) out h l = absurd (omega arith)
-
 -- a repeat
 pub repeat-written : (c : ℕ) (row out : List ℕ) → 1 ≤ length row → 2 ≤ length out
     → set (set out 0 c) 1 (getD row 0 0) ≡ over (c ∷ take 1 row) out

@@ -38,7 +38,7 @@ module _ (x : ℕ) (s : Suffix) where
   pub best≤literal : size (step x s .best) ≤ suc (size (step x s .opening .rest))
   best≤literal = best-cases (λ b. size b ≤ suc (size (step x s .opening .rest))) (λ h. omega arith) (λ h. omega arith)
 
-  pub best≤repeat : size (step x s .best) ≤ suc (suc (size (step x s .run .after)))
+  best≤repeat : size (step x s .best) ≤ suc (suc (size (step x s .run .after)))
   best≤repeat = best-cases (λ b. size b ≤ suc (suc (size (step x s .run .after)))) (λ h. omega arith) (λ h. omega arith)
 
 -- ---- the first run

@@ -8,11 +8,11 @@ use mathlib.Core.List.{List, [], _∷_, _++_}
 use lib.ListN.{length}
 use Rattle.pack.specs.IsLeast.{Dictionary, end, less, same, Preferred}
 
-pub dictionary-refl : (a : List ℕ) → Dictionary a a
+dictionary-refl : (a : List ℕ) → Dictionary a a
 dictionary-refl [] = end
 dictionary-refl (x ∷ a) = same (dictionary-refl a)
 
-pub dictionary-trans : {a b c : List ℕ} → Dictionary a b → Dictionary b c → Dictionary a c
+dictionary-trans : {a b c : List ℕ} → Dictionary a b → Dictionary b c → Dictionary a c
 dictionary-trans end q = end
 dictionary-trans (less h) (less k) = less (lt-trans h k)
 dictionary-trans (less h) (same q) = less h

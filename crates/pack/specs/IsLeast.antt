@@ -21,9 +21,3 @@ Preferred a b = (length a < length b) ⊎ ((length a ≡ length b) × Dictionary
 pub record IsLeast (row body : List ℕ) (records : ℕ) : Type 0 where
   pub unpacks : Unpacks body row records
   pub first : {b : List ℕ} {n : ℕ} → Unpacks b row n → Preferred body b
-
--- no two neighbours are equal
-abbrev pub Separate : List ℕ → Type 0
-Separate [] = Unit {0}
-Separate (x ∷ []) = Unit {0}
-Separate (x ∷ y ∷ t) = (x ≡ y → ⊥) × Separate (y ∷ t)

@@ -25,5 +25,5 @@ abbrev pub packInto : List ℕ → ℕ → Outcome Row
 packInto row room = packWithin (length (least row)) row room
 
 -- the length of the least body of a row of at most 128 bytes; 0 of a wider one
-abbrev pub packedLen : List ℕ → ℕ
-packedLen row = cond (leb (length row) 128) (length (least row)) 0
+abbrev pub leastLen : List ℕ → ℕ
+leastLen row = cond (leb (length row) 128) (length (least row)) 0

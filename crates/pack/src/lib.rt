@@ -8,7 +8,7 @@ ghost use Rattle.packbits.specs.Row.{rowAnswer, rowOutput, widthOutOfRange};
 ghost use Rattle.pack.specs.Least.{least, leastRecords};
 ghost use Rattle.pack.specs.Controls.{recordOf, takenBy, shownBy, ControlsFrom};
 ghost use Rattle.pack.specs.Costs.{costsOf, Small, literalOf, repeatOf, costsWith, stepCosts};
-ghost use Rattle.pack.specs.Pack.{packRow, packInto, packedLen};
+ghost use Rattle.pack.specs.Pack.{packRow, packInto, leastLen};
 use outcome::AREA_TOO_SHORT;
 use outcome::OUT_OF_RANGE;
 use packbits::MAX_WIDTH;
@@ -229,7 +229,7 @@ fn emit(row: &[u8], controls: &[u8; MAX_WIDTH], out: &mut [u8]) -> usize
 
 // The length of the row's least body; 0 of a row wider than 128.
 pub fn packed_len(row: &[u8]) -> usize
-    ensures { λ r. ⌜ r ≡ packedLen (now (row .entry)) ⌝ }
+    ensures { λ r. ⌜ r ≡ leastLen (now (row .entry)) ⌝ }
 {
     if MAX_WIDTH < row.len() {
         return 0;

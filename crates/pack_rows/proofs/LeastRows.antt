@@ -1,20 +1,17 @@
 -- Laws of `leastRows`: the least bodies of rows, end to end, unpack to the rows, and no byte string that does is shorter. Assumes nothing.
-use mathlib.Core.Path.{_≡_, refl, sym, ap, _∙_}
-use mathlib.Core.Logic.{_↔_}
-use mathlib.Core.List.{List, [], _∷_, _++_, append-assoc}
+use mathlib.Core.Path.{_≡_, refl, ap}
+use mathlib.Core.List.{List, [], _∷_, _++_}
 use Prim.Native.Nat.{ℕ, suc, _+_, _*_, _≤_, _<_, suc-le-suc}
 use native.Mathlib.Nat.{suc-mul, zero-lt-suc}
 use native.Mathlib.Numerals.{add-one}
 use native.Mathlib.Omega.{arith}
 use lib.ListN.{length, getD, drop, length-append, drop-of-length-le}
 use lib.Seq.{drop-cons}
-use Rattle.packbits.specs.Unpacks.{Unpacks, full, literal, repeat, nothing}
-use Rattle.unpack_rows.specs.UnpackRows.{unpackRows}
-use Rattle.unpack_rows.specs.UnpacksRows.{UnpacksRows, none, more, Wide}
-use Rattle.unpack_rows.proofs.Exact.{doneRows, complete-rows}
-use Rattle.pack.specs.IsLeast.{Separate}
+use Rattle.packbits.proofs.Exact.{records-few}
+use Rattle.unpack_rows.specs.UnpacksRows.{UnpacksRows, none, more}
+use Rattle.unpack_rows.proofs.Wide.{Wide}
 use Rattle.pack.specs.Least.{least, leastRecords}
-use Rattle.pack.proofs.Bounds.{least-bound, separate-length}
+use Rattle.pack.proofs.Bounds.{least-bound, Separate, separate-length}
 use Rattle.pack.proofs.Optimal.{least-first}
 use Rattle.pack.proofs.Order.{preferred-length}
 use Rattle.pack.proofs.Valid.{least-is-least}
@@ -28,11 +25,6 @@ module _ (width : ℕ) (narrow : width ≤ 128) where
   rows-unpack [] w = none
   rows-unpack (row ∷ rows) w = more (least-is-least row (omega (arith, w .0)) .unpacks) (rows-unpack rows (w .1))
 
-  -- unpacked again, with anything after them
-  pub unpack-leastRows : (rows : List (List ℕ)) → Wide width rows → (rest : List ℕ)
-      → unpackRows (length rows) width (leastRows rows ++ rest) ≡ doneRows (length (leastRows rows)) (leastRowsRecords rows) rows
-  unpack-leastRows rows w rest = complete-rows width w (rows-unpack rows w) rest
-
   pub rows-shortest : {body : List ℕ} {rows : List (List ℕ)} {n : ℕ} → Wide width rows → UnpacksRows body rows n → length (leastRows rows) ≤ length body
   unfolding leastRows
   rows-shortest w none = omega arith
@@ -44,14 +36,6 @@ module _ (width : ℕ) (narrow : width ≤ 128) where
         length-append (least row) (leastRows rows),
         length-append body bodies,
       )
-
-  -- no body of the rows is shorter than a limit, just where the least bodies together are not
-  pub no-body-below : (limit : ℕ) (rows : List (List ℕ)) → Wide width rows
-      → (limit ≤ length (leastRows rows)) ↔ ((body : List ℕ) (n : ℕ) → UnpacksRows body rows n → limit ≤ length body)
-  no-body-below limit rows w = (
-    λ l body n u. omega (arith, rows-shortest w u),
-    λ f. f (leastRows rows) (leastRowsRecords rows) (rows-unpack rows w),
-  )
 
 -- ---- lengths
 
@@ -85,12 +69,6 @@ separate-rows width some (row ∷ rows) w s =
     )
 
 -- a record has one byte at least
-records-few : {body row : List ℕ} {n : ℕ} → Unpacks body row n → n ≤ length body
-records-few full = omega arith
-records-few (literal bytes {body} x l u) = omega (arith, records-few u, length-append bytes body)
-records-few (repeat x y u) = omega (arith, records-few u)
-records-few (nothing u) = omega (arith, records-few u)
-
 pub leastRecords-bound : (row : List ℕ) → length row ≤ 128 → leastRecords row ≤ length (least row)
 leastRecords-bound row h = records-few (least-is-least row h .unpacks)
 
@@ -113,10 +91,3 @@ module _ (rows : List (List ℕ)) (k : ℕ) where
   pub leastRowsRecords-past : length rows ≤ k → leastRowsRecords (drop k rows) ≡ 0
   unfolding leastRowsRecords
   leastRowsRecords-past h = ap leastRowsRecords (drop-of-length-le rows h)
-
--- rows in two parts
-pub leastRows-append : (rows others : List (List ℕ)) → leastRows (rows ++ others) ≡ leastRows rows ++ leastRows others
-unfolding leastRows
-leastRows-append [] others = refl
-leastRows-append (row ∷ rows) others =
-    ap (λ (l : List ℕ). least row ++ l) (leastRows-append rows others) ∙ sym (append-assoc (least row) (leastRows rows) (leastRows others))

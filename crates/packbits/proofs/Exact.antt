@@ -7,10 +7,11 @@ use native.Mathlib.Omega.{arith}
 use mathlib.Core.Bool.{Bool, true, false, cond}
 use mathlib.Core.List.{List, [], _∷_, _++_, append-assoc}
 use lib.ListN.{length, getD, take, drop, replicate, length-append, length-drop, length-replicate, take-append-drop}
-use lib.Seq.{length-take-le, take-at, drop-at, take-add, getD-drop, take-append-seam}
+use lib.Seq.{length-take-le, take-at, drop-at, take-add, take-append-seam}
 use lib.Dec.{ltb, eqb}
 use borrow.Author.Tests.{ltb-true, ltb-false, eqb-true, eqb-false}
 use Rattle.lists.specs.Bytes.{Bytes}
+use Rattle.lists.proofs.Bytes.{bytes-drop}
 use Rattle.outcome.specs.Outcome.{Outcome, refused, later}
 use Rattle.packbits.specs.declared.Record.{Record}
 use Rattle.packbits.specs.declared.Record.the-variants.{Literal, Repeat, Nothing}
@@ -132,7 +133,7 @@ sound-record : (x : ℕ) (tail : List ℕ) (room : ℕ) (r : Record) → r ≡ c
     → Sound (drop (packedLen r) (x ∷ tail)) (room - rowLen r) p → Sound (x ∷ tail) room (after (packedLen r) (rowBytes r (x ∷ tail)) p)
 sound-record x tail room r is h w p s = λ e bytes.
     let input : List ℕ = x ∷ tail in
-    let left = s e (λ i. rw (getD-drop (packedLen r) input i 0) (bytes (packedLen r + i))) in
+    let left = s e (bytes-drop (packedLen r) input bytes) in
     let long : length (rowBytes r input ++ p .made) ≡ room = omega (arith, length-append (rowBytes r input) (p .made), w .makes, w .fits, left .0) in
     let Before-record = Before x tail (p .made) (p .bytes) (p .records) in (
       long,
@@ -152,6 +153,14 @@ all-sound = by-records Sound (λ input e bytes. (refl, omega arith, full)) (λ i
 pub sound : (input : List ℕ) (width used records : ℕ) (row : List ℕ) → Bytes input → unpack input width ≡ done used records row
     → (length row ≡ width) × (used ≤ length input) × Unpacks (take used input) row records
 sound input width used records row bytes e = subst (Sound input width) (accepted-full (progress input width) used records row e) (all-sound input width) refl bytes
+
+-- ---- a record has one byte at least
+
+pub records-few : {body row : List ℕ} {n : ℕ} → Unpacks body row n → n ≤ length body
+records-few full = omega arith
+records-few (literal bytes {body} x l u) = omega (arith, records-few u, length-append bytes body)
+records-few (repeat x y u) = omega (arith, records-few u)
+records-few (nothing u) = omega (arith, records-few u)
 
 -- ---- exact: accepted with these bytes used, these records and this row, just where the relation has them
 

@@ -10,8 +10,9 @@ use Rattle.lists.specs.Sum.{sum}
 use Rattle.lists.proofs.Sum.{sum-ext, sum-add}
 use Rattle.outcome.specs.Outcome.{Outcome, accepted}
 use Rattle.outcome.specs.Refusal.{outOfRange}
+use Rattle.outcome.proofs.Outcome.{passed}
 use Rattle.resolution.specs.declared.Resolution.{Resolution}
-use Rattle.lines.proofs.Lines.{passed, by-resolution}
+use Rattle.resolution.proofs.Choice.{judgeScreen-fits}
 use Rattle.tally.specs.declared.Rectangle.{Rectangle}
 use Rattle.tally.specs.Area.{fits, judgeAreaAt}
 use Rattle.tally.specs.Counts.{counts, tallied, tallyAnswer}
@@ -43,7 +44,7 @@ pondFrom-total c class floor l =
 -- ---- readings
 
 -- what is judged once the counts are known
-abbrev pub fromCounts : ℕ → ℕ → Legend → List ℕ → Outcome PondCounts
+abbrev fromCounts : ℕ → ℕ → Legend → List ℕ → Outcome PondCounts
 fromCounts class floor l c = judgeLegend floor l (accepted (pondFrom c class floor l))
 
 module _ (s : List ℕ) (number : ℕ) (a : Rectangle) (class floor : ℕ) (l : Legend) where
@@ -51,7 +52,7 @@ module _ (s : List ℕ) (number : ℕ) (a : Rectangle) (class floor : ℕ) (l : 
   pub pond-total : (p : PondCounts) → pondReading s number a class floor l ≡ accepted p → p .sure + p .unsure + p .other ≡ a .columns * a .lines
   unfolding pondReading
   pond-total p e =
-      by-resolution (length s) number (λ r. judgeAreaAt r a (judgeLegend floor l (accepted (pondOf s r a class floor l)))) p e
+      judgeScreen-fits (length s) number (λ r. judgeAreaAt r a (judgeLegend floor l (accepted (pondOf s r a class floor l)))) p e
       (λ r known long f.
       let q = passed (not (fits r a)) outOfRange _ p f in
       let t = passed (ltb 100 floor) outOfRange _ p (q .1) in

@@ -1,2 +1,3 @@
 pub mod BodyRows
 pub mod Reading
+pub mod Sound

@@ -40,7 +40,7 @@ unfolding wordAt
 first-word file n h = rw (getD-take n file 0 0 (omega arith), getD-take n file 1 0 h)
 
 -- of such a file the first 32,067 bytes, or more, decide
-pub read-long : (file : List ℕ) (n : ℕ) → 32066 < n → n ≤ length file → readFile 1 (take n file) screenBytes ≡ readFile 1 file screenBytes
+read-long : (file : List ℕ) (n : ℕ) → 32066 < n → n ≤ length file → readFile 1 (take n file) screenBytes ≡ readFile 1 file screenBytes
 read-long file n h k =
     file-degas (take n file) 1 screenBytes (omega arith) refl
     ∙ degas-long (take n file) (omega (arith, length-take-le n file k))

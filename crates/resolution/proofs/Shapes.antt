@@ -1,10 +1,10 @@
 -- Laws of the three shapes, each by its three cases. Assumes nothing.
 use mathlib.Core.Path.{_≡_, refl}
-use Prim.Native.Nat.{_*_, _≤_}
+use Prim.Native.Nat.{_*_, _≤_, _<_}
 use native.Mathlib.Omega.{arith}
 use Rattle.resolution.specs.declared.Resolution.{Resolution}
 use Rattle.resolution.specs.declared.Resolution.the-variants.{Low, Medium, High}
-use Rattle.resolution.specs.Shapes.{screenBytes, widthOf, heightOf, planesOf, rowBytesOf, planeRowsOf, lineBytesOf}
+use Rattle.resolution.specs.Shapes.{screenBytes, widthOf, heightOf, planesOf, rowBytesOf, planeRowsOf, groupsOf, lineBytesOf, registersOf}
 
 -- every screen has 32,000 bytes
 pub planeRows-rowBytes : (r : Resolution) → planeRowsOf r * rowBytesOf r ≡ screenBytes
@@ -28,6 +28,33 @@ rowBytes-width Low = refl
 rowBytes-width Medium = refl
 rowBytes-width High = refl
 
+-- a plane row has a word of each group
+pub rowBytes-groups : (r : Resolution) → rowBytesOf r ≡ groupsOf r * 2
+rowBytes-groups Low = refl
+rowBytes-groups Medium = refl
+rowBytes-groups High = refl
+
+pub lineBytes-groups : (r : Resolution) → lineBytesOf r ≡ groupsOf r * (planesOf r * 2)
+lineBytes-groups Low = refl
+lineBytes-groups Medium = refl
+lineBytes-groups High = refl
+
+-- no shape is empty
+pub groups-pos : (r : Resolution) → 0 < groupsOf r
+groups-pos Low = omega arith
+groups-pos Medium = omega arith
+groups-pos High = omega arith
+
+pub planes-pos : (r : Resolution) → 0 < planesOf r
+planes-pos Low = omega arith
+planes-pos Medium = omega arith
+planes-pos High = omega arith
+
+pub rowBytes-pos : (r : Resolution) → 0 < rowBytesOf r
+rowBytes-pos Low = omega arith
+rowBytes-pos Medium = omega arith
+rowBytes-pos High = omega arith
+
 -- numbers that no shape exceeds
 pub width-le : (r : Resolution) → widthOf r ≤ 640
 width-le Low = omega arith
@@ -48,3 +75,18 @@ pub planeRows-le : (r : Resolution) → planeRowsOf r ≤ 800
 planeRows-le Low = omega arith
 planeRows-le Medium = omega arith
 planeRows-le High = omega arith
+
+pub planes-le : (r : Resolution) → planesOf r ≤ 4
+planes-le Low = omega arith
+planes-le Medium = omega arith
+planes-le High = omega arith
+
+pub lineBytes-le : (r : Resolution) → lineBytesOf r ≤ 160
+lineBytes-le Low = omega arith
+lineBytes-le Medium = omega arith
+lineBytes-le High = omega arith
+
+pub registers-le : (r : Resolution) → registersOf r ≤ 16
+registers-le Low = omega arith
+registers-le Medium = omega arith
+registers-le High = omega arith

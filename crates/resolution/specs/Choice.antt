@@ -1,13 +1,15 @@
--- The resolution that a number names; above 2 there is none (document 01, "Numbers given back": 5). Assumes nothing: these are definitions.
+-- The resolution that a number names; above 2 there is none (document 01, "Numbers given back": 5), and what is judged with it.
+-- Assumes nothing: these are definitions.
 use Prim.Native.Nat.{ℕ}
 use mathlib.Core.Bool.{cond}
-use lib.Dec.{eqb}
-use Rattle.outcome.specs.Outcome.{Outcome, refused}
-use Rattle.outcome.specs.Refusal.{unknownResolution}
+use lib.Dec.{ltb, eqb}
+use Rattle.outcome.specs.Outcome.{Outcome, refused, refuseIf}
+use Rattle.outcome.specs.Refusal.{areaTooShort, unknownResolution}
 use Rattle.resolution.specs.declared.Chosen.{Chosen}
 use Rattle.resolution.specs.declared.Chosen.the-variants.{Known, Unknown}
 use Rattle.resolution.specs.declared.Resolution.{Resolution}
 use Rattle.resolution.specs.declared.Resolution.the-variants.{Low, Medium, High}
+use Rattle.resolution.specs.Shapes.{screenBytes}
 
 -- 0 low, 1 medium, 2 high
 abbrev pub chosen : ℕ → Chosen
@@ -21,3 +23,7 @@ judgeWith Unknown further = refused unknownResolution 0
 -- the same from the resolution's number
 abbrev pub withResolution : {A : Type 0} → ℕ → (Resolution → Outcome A) → Outcome A
 withResolution number further = judgeWith (chosen number) further
+
+-- the length of a screen and the resolution's number, judged in this order
+abbrev pub judgeScreen : {A : Type 0} → ℕ → ℕ → (Resolution → Outcome A) → Outcome A
+judgeScreen screenLen number further = refuseIf (ltb screenLen screenBytes) areaTooShort (withResolution number further)

@@ -35,39 +35,39 @@ tests-accepted false true v a h = absurd (omega arith)
 tests-accepted false false true a h = absurd (omega arith)
 tests-accepted false false false a h = (refl, refl, refl)
 
-module _ (screen : ℕ) (r : Resolution) (n room : ℕ) where
+module _ (screenLen : ℕ) (r : Resolution) (n room : ℕ) where
   -- what is in range is accepted
-  pub judgeRow-accepted : {A : Type 0} (a : A) → screenBytes ≤ screen → n < planeRowsOf r → rowBytesOf r ≤ room → judgeRow screen r n room a ≡ accepted a
+  pub judgeRow-accepted : {A : Type 0} (a : A) → screenBytes ≤ screenLen → n < planeRowsOf r → rowBytesOf r ≤ room → judgeRow screenLen r n room a ≡ accepted a
   unfolding judgeRow
-  judgeRow-accepted a h k l = simp (le-ltb screen screenBytes h, lt-leb (planeRowsOf r) n k, le-ltb room (rowBytesOf r) l)
+  judgeRow-accepted a h k l = simp (le-ltb screenLen screenBytes h, lt-leb (planeRowsOf r) n k, le-ltb room (rowBytesOf r) l)
 
   -- the number 0 tells that all is in range
-  pub judgeRow-fits : {A : Type 0} (a : A) (v : Answer) → v ≡ answer (judgeRow screen r n room a) → v .number ≡ 0
-      → (screenBytes ≤ screen) × (n < planeRowsOf r) × (rowBytesOf r ≤ room)
+  pub judgeRow-fits : {A : Type 0} (a : A) (v : Answer) → v ≡ answer (judgeRow screenLen r n room a) → v .number ≡ 0
+      → (screenBytes ≤ screenLen) × (n < planeRowsOf r) × (rowBytesOf r ≤ room)
   unfolding judgeRow
   judgeRow-fits a v e z =
-      let t = tests-accepted (ltb screen screenBytes) (leb (planeRowsOf r) n) (ltb room (rowBytesOf r)) a (ap (λ (w : Answer). w .number) (sym e) ∙ z) in
-      (ltb-false screen screenBytes (t .0), leb-false (planeRowsOf r) n (t .1), ltb-false room (rowBytesOf r) (t .2))
+      let t = tests-accepted (ltb screenLen screenBytes) (leb (planeRowsOf r) n) (ltb room (rowBytesOf r)) a (ap (λ (w : Answer). w .number) (sym e) ∙ z) in
+      (ltb-false screenLen screenBytes (t .0), leb-false (planeRowsOf r) n (t .1), ltb-false room (rowBytesOf r) (t .2))
 
-  module _ {A B C : Type 0} (a : A) (b : B) (gives : A → C) (was : C) (v : Answer) (e : v ≡ answer (judgeRow screen r n room b)) where
+  module _ {A B C : Type 0} (a : A) (b : B) (gives : A → C) (was : C) (v : Answer) (e : v ≡ answer (judgeRow screenLen r n room b)) where
     -- the answer does not depend on the value that is judged
-    same-answer : v ≡ answer (judgeRow screen r n room a)
+    same-answer : v ≡ answer (judgeRow screenLen r n room a)
     unfolding judgeRow
-    same-answer = e ∙ tests-answer (ltb screen screenBytes) (leb (planeRowsOf r) n) (ltb room (rowBytesOf r)) b a
+    same-answer = e ∙ tests-answer (ltb screenLen screenBytes) (leb (planeRowsOf r) n) (ltb room (rowBytesOf r)) b a
 
     -- another number than 0: the area stays as it was
-    pub judged-refused : (v .number ≡ 0 → ⊥) → (v ≡ answer (judgeRow screen r n room a)) × (was ≡ later (judgeRow screen r n room a) gives was)
+    pub judged-refused : (v .number ≡ 0 → ⊥) → (v ≡ answer (judgeRow screenLen r n room a)) × (was ≡ later (judgeRow screenLen r n room a) gives was)
     unfolding judgeRow
     judged-refused h = (
       same-answer,
       sym
-          (tests-refused (ltb screen screenBytes) (leb (planeRowsOf r) n) (ltb room (rowBytesOf r)) a b gives was
+          (tests-refused (ltb screenLen screenBytes) (leb (planeRowsOf r) n) (ltb room (rowBytesOf r)) a b gives was
           (λ z. h (ap (λ (w : Answer). w .number) e ∙ z))),
     )
 
     -- the number 0: the area is what the value gives it
     pub judged-accepted : (x : C) → v .number ≡ 0 → x ≡ gives a
-        → (v ≡ answer (judgeRow screen r n room a)) × (x ≡ later (judgeRow screen r n room a) gives was)
+        → (v ≡ answer (judgeRow screenLen r n room a)) × (x ≡ later (judgeRow screenLen r n room a) gives was)
     judged-accepted x z is =
         let f = judgeRow-fits b v e z in
         (same-answer, is ∙ ap (λ (o : Outcome A). later o gives was) (sym (judgeRow-accepted a (f .0) (f .1) (f .2))))

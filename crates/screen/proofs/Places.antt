@@ -1,5 +1,4 @@
--- Where words, scan lines and plane rows lie: sizes and bounds, each by the three resolutions. Assumes nothing.
-use mathlib.Core.Path.{_≡_, refl}
+-- Where words, scan lines and plane rows lie, each by the three resolutions. Assumes nothing.
 use Prim.Native.Nat.{ℕ, _+_, _*_, _/_, _≤_, _<_}
 use native.Mathlib.Omega.{arith}
 use Rattle.resolution.specs.declared.Resolution.{Resolution}
@@ -7,36 +6,6 @@ use Rattle.resolution.specs.declared.Resolution.the-variants.{Low, Medium, High
 use Rattle.resolution.specs.Shapes.{screenBytes, widthOf, heightOf, planesOf, groupsOf, rowBytesOf, lineBytesOf, planeRowsOf}
 use Rattle.screen.specs.Registers.{groupOffset, wordOffset}
 use Rattle.screen.specs.PlaneRows.{rowOffset, rowAt, columnAt}
-
--- ---- sizes
-
--- a plane row has a word of each group
-pub rowBytes-groups : (r : Resolution) → rowBytesOf r ≡ groupsOf r * 2
-rowBytes-groups Low = refl
-rowBytes-groups Medium = refl
-rowBytes-groups High = refl
-
-pub lineBytes-groups : (r : Resolution) → lineBytesOf r ≡ groupsOf r * (planesOf r * 2)
-lineBytes-groups Low = refl
-lineBytes-groups Medium = refl
-lineBytes-groups High = refl
-
-pub groups-pos : (r : Resolution) → 0 < groupsOf r
-groups-pos Low = omega arith
-groups-pos Medium = omega arith
-groups-pos High = omega arith
-
-pub planes-pos : (r : Resolution) → 0 < planesOf r
-planes-pos Low = omega arith
-planes-pos Medium = omega arith
-planes-pos High = omega arith
-
-pub planes-le : (r : Resolution) → planesOf r ≤ 4
-planes-le Low = omega arith
-planes-le Medium = omega arith
-planes-le High = omega arith
-
--- ---- bounds
 
 -- a pixel's group is one of the scan line's
 pub pixel-group : (r : Resolution) (x : ℕ) → x < widthOf r → x / 16 < groupsOf r

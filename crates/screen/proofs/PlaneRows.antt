@@ -17,9 +17,10 @@ use Rattle.lists.proofs.Tabulate.{length-tabulate, getD-tabulate, tabulate-ext,
 use Rattle.words.specs.Word.{wordAt}
 use Rattle.resolution.specs.declared.Resolution.{Resolution}
 use Rattle.resolution.specs.Shapes.{screenBytes, widthOf, heightOf, planesOf, groupsOf, rowBytesOf, lineBytesOf, planeRowsOf}
+use Rattle.resolution.proofs.Shapes.{rowBytes-groups, lineBytes-groups, groups-pos, planes-pos}
 use Rattle.screen.specs.Registers.{groupOffset, wordOffset, pixelBit, register}
 use Rattle.screen.specs.PlaneRows.{rowOffset, rowAt, columnAt, planeRow, planeRows, withRow, screenOf}
-use Rattle.screen.proofs.Places.{rowBytes-groups, lineBytes-groups, groups-pos, planes-pos, pixel-group, column-group, plane-row, row-within, rowAt-lt, columnAt-lt}
+use Rattle.screen.proofs.Places.{pixel-group, column-group, plane-row, row-within, rowAt-lt, columnAt-lt}
 
 -- ---- an offset as digits: scan line y, group g of G, plane p of P, byte h of a word
 
@@ -60,7 +61,7 @@ place-digits G P o hG hP =
 -- ---- the plane row and the column of an offset
 
 module _ (r : Resolution) (n c : ℕ) (h : c < rowBytesOf r) where
-  pub rowAt-rowOffset : rowAt r (rowOffset r n c) ≡ n
+  rowAt-rowOffset : rowAt r (rowOffset r n c) ≡ n
   unfolding rowOffset groupOffset wordOffset rowAt
   rowAt-rowOffset =
       let G : ℕ = groupsOf r in
@@ -70,7 +71,7 @@ module _ (r : Resolution) (n c : ℕ) (h : c < rowBytesOf r) where
       let p = plane-is G P (n / P) (c / 2) (n % P) (c % 2) (column-group r c h) hp (omega arith) in
       rw (lineBytes-groups r, l, p) (div-add-mod' n P)
 
-  pub columnAt-rowOffset : columnAt r (rowOffset r n c) ≡ c
+  columnAt-rowOffset : columnAt r (rowOffset r n c) ≡ c
   unfolding rowOffset groupOffset wordOffset columnAt
   columnAt-rowOffset =
       let G : ℕ = groupsOf r in
@@ -105,7 +106,7 @@ pub length-planeRows : (s : List ℕ) (r : Resolution) → length (planeRows s r
 unfolding planeRows
 length-planeRows s r = length-tabulate (planeRowsOf r) (λ n. planeRow s r n)
 
-pub getD-planeRow : (s : List ℕ) (r : Resolution) (n c : ℕ) → c < rowBytesOf r → getD (planeRow s r n) c 0 ≡ getD s (rowOffset r n c) 0
+getD-planeRow : (s : List ℕ) (r : Resolution) (n c : ℕ) → c < rowBytesOf r → getD (planeRow s r n) c 0 ≡ getD s (rowOffset r n c) 0
 unfolding planeRow
 getD-planeRow s r n c h = getD-tabulate (rowBytesOf r) (λ c. getD s (rowOffset r n c) 0) c 0 h
 
@@ -125,13 +126,13 @@ unfolding screenOf
 getD-screenOf r rows o h = getD-tabulate screenBytes (λ o. getD (getD rows (rowAt r o) []) (columnAt r o) 0) o 0 h
 
 -- byte c of row n
-pub byte-of-screen : (r : Resolution) (rows : List (List ℕ)) (n c : ℕ) → n < planeRowsOf r → c < rowBytesOf r
+byte-of-screen : (r : Resolution) (rows : List (List ℕ)) (n c : ℕ) → n < planeRowsOf r → c < rowBytesOf r
     → getD (screenOf r rows) (rowOffset r n c) 0 ≡ getD (getD rows n []) c 0
 byte-of-screen r rows n c h k =
     getD-screenOf r rows (rowOffset r n c) (row-within r n c h k)
     ∙ ap₂ (λ (i j : ℕ). getD (getD rows i []) j 0) (rowAt-rowOffset r n c k) (columnAt-rowOffset r n c k)
 
-pub row-of-screen : (r : Resolution) (rows : List (List ℕ)) (n : ℕ) → n < planeRowsOf r → length (getD rows n []) ≡ rowBytesOf r
+row-of-screen : (r : Resolution) (rows : List (List ℕ)) (n : ℕ) → n < planeRowsOf r → length (getD rows n []) ≡ rowBytesOf r
     → planeRow (screenOf r rows) r n ≡ getD rows n []
 unfolding planeRow
 row-of-screen r rows n h e =
@@ -166,7 +167,7 @@ unfolding withRow
 length-withRow s r n row = length-stores (rowBytesOf r) (rowOffset r n) (λ c. getD row c 0) s
 
 -- only a row's first bytes count
-pub withRow-ext : (s : List ℕ) (r : Resolution) (n : ℕ) (row other : List ℕ) → ((c : ℕ) → c < rowBytesOf r → getD row c 0 ≡ getD other c 0)
+withRow-ext : (s : List ℕ) (r : Resolution) (n : ℕ) (row other : List ℕ) → ((c : ℕ) → c < rowBytesOf r → getD row c 0 ≡ getD other c 0)
     → withRow s r n row ≡ withRow s r n other
 unfolding withRow
 withRow-ext s r n row other e = stores-ext (rowBytesOf r) (rowOffset r n) (λ c. getD row c 0) (λ c. getD other c 0) s e
@@ -198,19 +199,6 @@ module _ (s : List ℕ) (r : Resolution) (n : ℕ) (row : List ℕ) where
   past-kept o h k =
       getD-stores-other (rowBytesOf r) (rowOffset r n) (λ c. getD row c 0) s o (λ c l e. omega (arith, row-within r n c h l, e))
 
-  -- the row that was put
-  pub row-put : screenBytes ≤ length s → n < planeRowsOf r → rowBytesOf r ≤ length row → planeRow (withRow s r n row) r n ≡ take (rowBytesOf r) row
-  unfolding planeRow
-  row-put h k l =
-      tabulate-ext (rowBytesOf r) _ (λ c. getD row c 0) (λ c m. byte-put c h k m) ∙ tabulate-take (rowBytesOf r) row 0 l
-
-  -- any other row
-  pub row-kept : (m : ℕ) → (m ≡ n → ⊥) → planeRow (withRow s r n row) r m ≡ planeRow s r m
-  unfolding planeRow
-  row-kept m h =
-      tabulate-ext (rowBytesOf r) _ (λ c. getD s (rowOffset r m c) 0)
-      (λ c k. byte-kept (rowOffset r m c) (λ e. h (sym (rowAt-rowOffset r m c k) ∙ e)))
-
 -- ---- rows put one after the other
 
 -- the screen with the first n of rows put into it
@@ -219,7 +207,7 @@ putRows r zero rows s = s
 putRows r (suc n) rows s = withRow (putRows r n rows s) r n (getD rows n [])
 
 module _ (r : Resolution) (rows : List (List ℕ)) (s : List ℕ) where
-  pub length-putRows : (n : ℕ) → length (putRows r n rows s) ≡ length s
+  length-putRows : (n : ℕ) → length (putRows r n rows s) ≡ length s
   unfolding putRows
   length-putRows zero = refl
   length-putRows (suc n) = length-withRow (putRows r n rows s) r n (getD rows n []) ∙ length-putRows n
@@ -288,7 +276,7 @@ register-of-rows s r x y h =
     (λ p hp. ap (λ (w : ℕ). pixelBit w (x % 16) * 2 ^ p) (word-of-row r y (x / 16) p hp (pixel-group r x h) s))
 
 -- equal plane rows give equal registers
-pub registers-ext : (s t : List ℕ) (r : Resolution) (x y : ℕ) → x < widthOf r → y < heightOf r
+registers-ext : (s t : List ℕ) (r : Resolution) (x y : ℕ) → x < widthOf r → y < heightOf r
     → ((n : ℕ) → n < planeRowsOf r → planeRow s r n ≡ planeRow t r n) → register s r x y ≡ register t r x y
 registers-ext s t r x y hx hy e =
     register-of-rows s r x y hx
@@ -296,21 +284,16 @@ registers-ext s t r x y hx hy e =
     (λ p hp. ap (λ (l : List ℕ). pixelBit (wordAt l (x / 16 * 2)) (x % 16) * 2 ^ p) (e (y * planesOf r + p) (plane-row r y p hy hp)))
     ∙ sym (register-of-rows t r x y hx)
 
--- a word of a plane row of the screen made from plane rows
-word-of-screen : (r : Resolution) (rows : List (List ℕ)) (n g : ℕ) → n < planeRowsOf r → g < groupsOf r
-    → wordAt (planeRow (screenOf r rows) r n) (g * 2) ≡ wordAt (getD rows n []) (g * 2)
-unfolding wordAt
-word-of-screen r rows n g h k =
-    ap₂ (λ (i j : ℕ). i * 256 + j) (byte (g * 2) (omega (arith, rowBytes-groups r))) (byte (g * 2 + 1) (omega (arith, rowBytes-groups r)))
-  where
-    byte : (c : ℕ) → c < rowBytesOf r → getD (planeRow (screenOf r rows) r n) c 0 ≡ getD (getD rows n []) c 0
-    byte c l = getD-planeRow (screenOf r rows) r n c l ∙ byte-of-screen r rows n c h l
+-- ---- screens that agree in their first 32,000 bytes
 
--- the registers of the screen made from plane rows
-pub register-of-screen : (r : Resolution) (rows : List (List ℕ)) (x y : ℕ) → x < widthOf r → y < heightOf r
-    → register (screenOf r rows) r x y ≡ rowsRegister r (λ p. getD rows (y * planesOf r + p) []) x
-register-of-screen r rows x y hx hy =
-    register-of-rows (screenOf r rows) r x y hx
-    ∙ sum-ext (planesOf r) _ (λ p. pixelBit (wordAt (getD rows (y * planesOf r + p) []) (x / 16 * 2)) (x % 16) * 2 ^ p)
-    (λ p hp.
-    ap (λ (w : ℕ). pixelBit w (x % 16) * 2 ^ p) (word-of-screen r rows (y * planesOf r + p) (x / 16) (plane-row r y p hy hp) (pixel-group r x hx)))
+module _ (s t : List ℕ) (same : (o : ℕ) → o < screenBytes → getD s o 0 ≡ getD t o 0) (r : Resolution) where
+  planeRow-front : (n : ℕ) → n < planeRowsOf r → planeRow s r n ≡ planeRow t r n
+  unfolding planeRow
+  planeRow-front n h = tabulate-ext (rowBytesOf r) _ (λ c. getD t (rowOffset r n c) 0) (λ c k. same (rowOffset r n c) (row-within r n c h k))
+
+  pub planeRows-front : planeRows s r ≡ planeRows t r
+  unfolding planeRows
+  planeRows-front = tabulate-ext (planeRowsOf r) _ (λ n. planeRow t r n) planeRow-front
+
+  pub register-front : (x y : ℕ) → x < widthOf r → y < heightOf r → register s r x y ≡ register t r x y
+  register-front x y hx hy = registers-ext s t r x y hx hy planeRow-front

@@ -4,23 +4,38 @@ use mathlib.Core.List.{List}
 use Prim.Native.Nat.{ℕ, zero, suc, _+_, _-_, _*_, _/_, _%_, _^_, _<_}
 use native.Mathlib.Nat.{add-zero}
 use native.Mathlib.Omega.{arith}
-use lib.ListN.{getD}
+use lib.ListN.{length, getD}
 use lib.Arith.{digits-div, digits-mod}
 use lib.Pow.{shr-shr, field, mod-mod-pow}
 use Rattle.lists.specs.Bytes.{Bytes}
 use Rattle.lists.specs.Sum.{sum}
 use Rattle.lists.proofs.Digits.{sum-lt}
 use Rattle.lists.proofs.Sum.{sum-ext}
+use Rattle.lists.proofs.Tabulate.{length-tabulate, getD-tabulate}
 use Rattle.words.specs.Word.{wordAt}
 use Rattle.resolution.specs.declared.Resolution.{Resolution}
-use Rattle.resolution.specs.Shapes.{planesOf, registersOf}
-use Rattle.screen.specs.Registers.{wordOffset, pixelBit, register}
+use Rattle.resolution.specs.Shapes.{widthOf, planesOf, registersOf}
+use Rattle.resolution.proofs.Shapes.{registers-le}
+use Rattle.screen.specs.Registers.{wordOffset, pixelBit, register, scanLine}
 
 -- ---- bounds
 
 pub register-lt : (s : List ℕ) (r : Resolution) (x y : ℕ) → register s r x y < registersOf r
 unfolding register pixelBit
 register-lt s r x y = sum-lt (planesOf r) (λ p. pixelBit (wordAt s (wordOffset r y (x / 16) p)) (x % 16)) (λ p. omega arith)
+
+pub register-lt-16 : (s : List ℕ) (r : Resolution) (x y : ℕ) → register s r x y < 16
+register-lt-16 s r x y = omega (arith, register-lt s r x y, registers-le r)
+
+-- ---- the registers of a scan line
+
+pub length-scanLine : (s : List ℕ) (r : Resolution) (y : ℕ) → length (scanLine s r y) ≡ widthOf r
+unfolding scanLine
+length-scanLine s r y = length-tabulate (widthOf r) (λ x. register s r x y)
+
+pub getD-scanLine : (s : List ℕ) (r : Resolution) (x y : ℕ) → x < widthOf r → getD (scanLine s r y) x 0 ≡ register s r x y
+unfolding scanLine
+getD-scanLine s r x y h = getD-tabulate (widthOf r) (λ x. register s r x y) x 0 h
 
 -- ---- a register from bytes
 

@@ -9,15 +9,16 @@ use lib.ListN.{length, getD, take, set}
 use Rattle.lists.specs.Over.{over}
 use Rattle.lists.specs.Stores.{stores}
 use Rattle.lists.specs.Tabulate.{tabulate}
-use Rattle.lists.proofs.Over.{over-turn, over-done}
+use Rattle.lists.proofs.Over.{over-done, tabulate-turn}
 use Rattle.lists.proofs.Stores.{stores-turn}
-use Rattle.lists.proofs.Tabulate.{length-tabulate, getD-tabulate}
+use Rattle.lists.proofs.Tabulate.{length-tabulate}
 use Rattle.resolution.specs.declared.Resolution.{Resolution}
 use Rattle.resolution.specs.declared.Resolution.the-variants.{Low, Medium, High}
 use Rattle.resolution.specs.Shapes.{screenBytes, planesOf, groupsOf, rowBytesOf, planeRowsOf}
+use Rattle.resolution.proofs.Shapes.{rowBytes-groups, planes-le}
 use Rattle.screen.specs.Registers.{groupOffset, wordOffset}
 use Rattle.screen.specs.PlaneRows.{rowOffset, planeRow, withRow}
-use Rattle.screen.proofs.Places.{rowBytes-groups, planes-le, row-within}
+use Rattle.screen.proofs.Places.{row-within}
 
 -- where byte c of such words lies
 abbrev pub strided : ℕ → ℕ → ℕ → ℕ
@@ -103,18 +104,13 @@ pub copy-turn : {start stride words size at g : ℕ} (s row₀ row : List ℕ) �
     → row ≡ over (take (g * 2) (wordsOf s start stride words)) row₀
     → set (set row (g * 2) (getD s at 0)) (g * 2 + 1) (getD s (at + 1) 0) ≡ over (take ((g + 1) * 2) (wordsOf s start stride words)) row₀
 copy-turn {start} {stride} {words} {size} {at} {g} s row₀ row w h l is =
-    let t : List ℕ = wordsOf s start stride words in
     let f : ℕ → ℕ = λ c. getD s (strided start stride c) 0 in
-    let e : length t ≡ words * 2 = length-tabulate (words * 2) f in
-    let a : getD s at 0 ≡ getD t (g * 2) 0 =
-    ap (λ (o : ℕ). getD s o 0) (first-byte w) ∙ sym (getD-tabulate (words * 2) f (g * 2) 0 (omega arith)) in
-    let b : getD s (at + 1) 0 ≡ getD t (g * 2 + 1) 0 =
-    ap (λ (o : ℕ). getD s o 0) (second-byte w) ∙ sym (getD-tabulate (words * 2) f (g * 2 + 1) 0 (omega arith)) in
     let n : g * 2 + 1 + 1 ≡ (g + 1) * 2 = omega arith in
-    let first : set row (g * 2) (getD s at 0) ≡ over (take (g * 2 + 1) t) row₀ =
-    over-turn t row₀ row (g * 2) (getD s at 0) 0 (omega arith) (omega arith) is a in
-    over-turn t row₀ (set row (g * 2) (getD s at 0)) (g * 2 + 1) (getD s (at + 1) 0) 0 (omega arith) (omega arith) first b
-    ∙ ap (λ (k : ℕ). over (take k t) row₀) n
+    let first : set row (g * 2) (getD s at 0) ≡ over (take (g * 2 + 1) (tabulate (words * 2) f)) row₀ =
+    tabulate-turn (words * 2) f row₀ row (g * 2) (getD s at 0) (omega arith) (omega arith) is (ap (λ (o : ℕ). getD s o 0) (first-byte w)) in
+    tabulate-turn (words * 2) f row₀ (set row (g * 2) (getD s at 0)) (g * 2 + 1) (getD s (at + 1) 0) (omega arith) (omega arith) first
+    (ap (λ (o : ℕ). getD s o 0) (second-byte w))
+    ∙ ap (λ (k : ℕ). over (take k (tabulate (words * 2) f)) row₀) n
 
 pub store-turn : {start stride words size at g : ℕ} (row screen₀ screen : List ℕ) → AtWord start stride words size at g
     → screen ≡ stores (g * 2) (strided start stride) (λ c. getD row c 0) screen₀

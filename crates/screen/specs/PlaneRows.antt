@@ -40,8 +40,8 @@ screenOf r rows = tabulate screenBytes (λ o. getD (getD rows (rowAt r o) []) (c
 
 -- a plane row's number n, with a screen and a row buffer of so many bytes: judged, and accepted with `value`
 unfoldable pub judgeRow : {A : Type 0} → ℕ → Resolution → ℕ → ℕ → A → Outcome A
-judgeRow screen r n room value =
-    refuseIf (ltb screen screenBytes) areaTooShort
+judgeRow screenLen r n room value =
+    refuseIf (ltb screenLen screenBytes) areaTooShort
     (refuseIf (leb (planeRowsOf r) n) outOfRange
     (refuseIf (ltb room (rowBytesOf r)) areaTooShort
     (accepted value)))

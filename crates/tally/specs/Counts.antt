@@ -8,7 +8,7 @@ use Rattle.lists.specs.Sum.{sum}
 use Rattle.lists.specs.Tabulate.{tabulate}
 use Rattle.outcome.specs.Outcome.{Outcome, accepted, refused}
 use Rattle.resolution.specs.declared.Resolution.{Resolution}
-use Rattle.lines.specs.Lines.{judgeScreen}
+use Rattle.resolution.specs.Choice.{judgeScreen}
 use Rattle.tally.specs.declared.Rectangle.{Rectangle}
 use Rattle.tally.specs.declared.TallyAnswer.{TallyAnswer}
 use Rattle.tally.specs.Area.{judgeAreaAt, areaSum}

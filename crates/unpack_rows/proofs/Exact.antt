@@ -1,18 +1,20 @@
 -- `unpackRows` accepts with exactly the bodies of the relation `UnpacksRows`. Assumes nothing.
 use mathlib.Core.Path.{_≡_, refl, sym, ap, _∙_, subst}
 use mathlib.Core.Logic.{_↔_}
-use Prim.Native.Nat.{ℕ, zero, suc, _+_, _≤_}
+use Prim.Native.Nat.{ℕ, zero, suc, _≤_}
 use native.Mathlib.Omega.{arith}
 use mathlib.Core.List.{List, _++_, append-assoc}
 use lib.ListN.{length, take, drop, length-append, length-drop, take-append-drop}
-use lib.Seq.{take-add, drop-append-seam, getD-drop, length-take-le}
+use lib.Seq.{take-add, drop-append-seam, length-take-le}
 use Rattle.lists.specs.Bytes.{Bytes}
+use Rattle.lists.proofs.Bytes.{bytes-drop}
 use Rattle.outcome.specs.Outcome.{Outcome, accepted, refused}
 use Rattle.packbits.specs.Row.{Row, done}
 use Rattle.packbits.specs.Unpack.{unpack}
 use Rattle.packbits.proofs.Exact.{sound, complete}
 use Rattle.unpack_rows.specs.UnpackRows.{Rows, rowThen, andThen, unpackRows}
-use Rattle.unpack_rows.specs.UnpacksRows.{UnpacksRows, none, more, Wide}
+use Rattle.unpack_rows.specs.UnpacksRows.{UnpacksRows, none, more}
+use Rattle.unpack_rows.proofs.Wide.{Wide}
 
 -- accepted with so many packed bytes, so many records and these rows
 abbrev pub doneRows : ℕ → ℕ → List (List ℕ) → Outcome Rows
@@ -41,7 +43,7 @@ sound-rowThen : (n width : ℕ) (input : List ℕ) (r : Row) → unpack input wi
 sound-rowThen n width input r is (refused number place) s = tt
 sound-rowThen n width input r is (accepted q) s = λ bytes.
     let first = sound input width (r .bytes) (r .records) (r .made) bytes is in
-    let left = s (λ i. rw (getD-drop (r .bytes) input i 0) (bytes (r .bytes + i))) in (
+    let left = s (bytes-drop (r .bytes) input bytes) in (
       ap suc (left .0),
       (first .0, left .1),
       omega (arith, length-drop (r .bytes) input, first .1, left .2),
@@ -53,7 +55,7 @@ sound-andThen : (n width : ℕ) (input : List ℕ) (o : Outcome Row) → unpack 
 sound-andThen n width input (refused number place) is next ih = tt
 sound-andThen n width input (accepted r) is next ih = sound-rowThen n width input r is (next r) (ih r)
 
-pub sound-rows : (n width : ℕ) (input : List ℕ) → Sound n width input (unpackRows n width input)
+sound-rows : (n width : ℕ) (input : List ℕ) → Sound n width input (unpackRows n width input)
 unfolding unpackRows
 sound-rows zero width input = λ bytes. (refl, tt, omega arith, none)
 sound-rows (suc n) width input =

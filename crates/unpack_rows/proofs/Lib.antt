@@ -2,3 +2,4 @@ pub mod Exact
 pub mod Judging
 pub mod Next
 pub mod UnpackRows
+pub mod Wide

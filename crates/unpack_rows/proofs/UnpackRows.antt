@@ -2,14 +2,14 @@
 use mathlib.Core.Path.{_≡_, refl}
 use Prim.Native.Nat.{ℕ, zero, suc, _≤_}
 use native.Mathlib.Omega.{arith}
-use mathlib.Core.List.{List, [], _∷_}
-use lib.ListN.{length, getD, drop, length-drop}
+use mathlib.Core.List.{List}
+use lib.ListN.{length, drop, length-drop}
 use Rattle.outcome.specs.Outcome.{Outcome, accepted, refused}
 use Rattle.packbits.specs.Row.{Row}
 use Rattle.packbits.specs.Unpack.{unpack}
 use Rattle.packbits.proofs.Unpack.{RowBounded, row-bounded}
 use Rattle.unpack_rows.specs.UnpackRows.{Rows, rowThen, andThen, unpackRows}
-use Rattle.unpack_rows.specs.UnpacksRows.{Wide}
+use Rattle.unpack_rows.proofs.Wide.{Wide}
 
 -- n rows of the width that was asked, and no more records than bytes used, all of them there; a refusal has a number, and a place in the
 -- input or at its end
@@ -38,9 +38,3 @@ rows-bounded zero width input = (refl, tt, omega arith, omega arith)
 rows-bounded (suc n) width input =
     bounded-andThen input width n (unpack input width) (row-bounded input width) (λ r. unpackRows n width (drop (r .bytes) input))
     (λ r. rows-bounded n width (drop (r .bytes) input))
-
--- row k of rows of one width has that width
-pub wide-at : (width : ℕ) (rows : List (List ℕ)) → Wide width rows → (k : ℕ) → suc k ≤ length rows → length (getD rows k []) ≡ width
-wide-at width [] w k h = absurd (omega arith)
-wide-at width (row ∷ rows) w zero h = w .0
-wide-at width (row ∷ rows) w (suc k) h = wide-at width rows (w .1) k (omega arith)

@@ -1,8 +1,6 @@
 -- The relation "a byte string is, end to end, one such string for each row" (document 01, "Packed rows"). Assumes nothing: these are definitions.
 use Prim.Native.Nat.{ℕ, _+_}
-use mathlib.Core.Path.{_≡_}
 use mathlib.Core.List.{List, [], _∷_, _++_}
-use lib.ListN.{length}
 use Rattle.packbits.specs.Unpacks.{Unpacks}
 
 -- `UnpacksRows body rows n`: body is one string for each row, in turn, each of which unpacks to its row, with n records in all
@@ -10,8 +8,3 @@ pub data UnpacksRows : List ℕ → List (List ℕ) → ℕ → Type 0 where
   none : UnpacksRows [] [] 0
   more : {body bodies row : List ℕ} {rows : List (List ℕ)} {n m : ℕ} → Unpacks body row n → UnpacksRows bodies rows m
       → UnpacksRows (body ++ bodies) (row ∷ rows) (n + m)
-
--- each row has this width
-abbrev pub Wide : ℕ → List (List ℕ) → Type 0
-Wide width [] = Unit {0}
-Wide width (row ∷ rows) = (length row ≡ width) × Wide width rows

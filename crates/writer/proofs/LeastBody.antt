@@ -17,7 +17,7 @@ use Rattle.resolution.specs.declared.Resolution.{Resolution}
 use Rattle.resolution.specs.declared.Resolution.the-variants.{Low, Medium, High}
 use Rattle.resolution.specs.Shapes.{screenBytes, rowBytesOf, planeRowsOf}
 use Rattle.pack.specs.Least.{least, leastRecords}
-use Rattle.pack.specs.Pack.{packInto, packedLen}
+use Rattle.pack.specs.Pack.{packInto, leastLen}
 use Rattle.pack.proofs.Bounds.{least-bound}
 use Rattle.pack.proofs.Pack.{pack-done}
 use Rattle.pack_rows.specs.LeastRows.{leastRows, leastRowsRecords}
@@ -47,8 +47,8 @@ module _ (s : List ℕ) (r : Resolution) (n : ℕ) where
   pub row-records : leastRecords (planeRow s r n) ≤ length (least (planeRow s r n))
   row-records = leastRecords-bound (planeRow s r n) row-narrow
 
-  pub row-packedLen : packedLen (planeRow s r n) ≡ length (least (planeRow s r n))
-  row-packedLen = simp (le-leb (length (planeRow s r n)) 128 row-narrow)
+  pub row-leastLen : leastLen (planeRow s r n) ≡ length (least (planeRow s r n))
+  row-leastLen = simp (le-leb (length (planeRow s r n)) 128 row-narrow)
 
   pub row-packInto : (room : ℕ) → length (least (planeRow s r n)) ≤ room
       → packInto (planeRow s r n) room ≡ done (length (least (planeRow s r n))) (leastRecords (planeRow s r n)) (least (planeRow s r n))

@@ -1,12 +1,13 @@
--- `colour::known_colour` meets its contract: the register is judged, and each arm is a case of `shownBy`. Assumes nothing.
+-- `colour::known_colour` meets its contract: the register is judged, and each arm is a case of `registerColour`. Assumes nothing.
 use mathlib.Core.Path.{_∙_}
 use Prim.Native.Nat.{_≤_, _<_}
 use native.Mathlib.Omega.{arith}
 use borrow.Author.Tests.{le-leb}
 use Rattle.resolution.specs.declared.Resolution.the-variants.{Low, Medium, High}
 use Rattle.resolution.specs.Shapes.{registersOf}
-use Rattle.colour.specs.Shown.{shownBy, judgeRegister}
-use Rattle.colour.proofs.Shown.{registers-le, answer-in-range}
+use Rattle.colour.specs.Shown.{registerColour, judgeRegister}
+use Rattle.colour.proofs.Shown.{answer-in-range}
+use Rattle.resolution.proofs.Shapes.{registers-le}
 use borrow.Author.Needs.{needs}
 use Rattle.colour.proofs.known_colour.Statement.{statement}
 use Rattle.colour.proofs.known_colour.Tie as tie
@@ -43,21 +44,21 @@ monochrome-requires : tie.Need-monochrome-requires
 monochrome-requires c κs = search needs
 
 returns-2 : tie.Need-returns-2
-unfolding shownBy
+unfolding registerColour
 returns-2 c =
     let a = c .before .before .before .before .before .args in
     let h : a .register < registersOf (a .r) = omega arith in
     answer-in-range (c .palette-colour .result) (a .palette) (a .register) (a .r) Low (c .before .enum-told .given .1) h (c .palette-colour .ensures)
 
 returns-3 : tie.Need-returns-3
-unfolding shownBy
+unfolding registerColour
 returns-3 c =
     let a = c .before .before .before .before .before .args in
     let h : a .register < registersOf (a .r) = omega arith in
     answer-in-range (c .palette-colour2 .result) (a .palette) (a .register) (a .r) Medium (c .before .enum-told2 .given .1) h (c .palette-colour2 .ensures)
 
 returns-4 : tie.Need-returns-4
-unfolding shownBy
+unfolding registerColour
 returns-4 c =
     let a = c .before .before .before .before .before .args in
     let h : a .register < registersOf (a .r) = omega arith in

@@ -8,11 +8,10 @@ use lib.Arith.{digits-div}
 use lib.ListN.{length, take}
 use Rattle.lists.specs.Over.{over}
 use Rattle.lists.specs.Tabulate.{tabulate}
-use Rattle.lists.proofs.Over.{length-overAt, over-done}
+use Rattle.lists.proofs.Over.{length-overAt, over-done, tabulate-piece}
 use Rattle.lists.proofs.Tabulate.{length-tabulate}
 use Rattle.lines.specs.declared.PlaneBytes.{PlaneBytes}
 use Rattle.lines.specs.Columns.{planeBytes, columnRegister, columnsLine}
-use Rattle.lines.proofs.Pieces.{over-tabulate-piece}
 use Rattle.lines.proofs.copy_columns.Statement.{statement}
 use Rattle.lines.proofs.copy_columns.Tie as tie
 
@@ -75,7 +74,7 @@ loop-again c =
       i .1,
       omega arith,
       ap length e ∙ length-overAt (l .h * 8) (tabulate 8 w) (l .out) room ∙ i .3,
-      e ∙ over-tabulate-piece (a .columns * 8) 8 f w (now (a .out)) (l .out) (l .h * 8) (omega arith) (i .4)
+      e ∙ tabulate-piece (a .columns * 8) 8 f w (now (a .out)) (l .out) (l .h * 8) (omega arith) (i .4)
           (λ j b.
           ap (λ (c : PlaneBytes). columnRegister c (l .h * 8 + j)) (q .column-planes .ensures ∙ ap column (sym (digits-div (l .h) b))))
           ∙ ap (λ (n : ℕ). over (take n (tabulate (a .columns * 8) f)) (now (a .out))) next,

@@ -2,28 +2,18 @@
 use mathlib.Core.Path.{_≡_, sym, ap, _∙_}
 use mathlib.Core.List.{List}
 use native.Mathlib.Omega.{arith}
-use Prim.Native.Nat.{ℕ, _≤_}
+use Prim.Native.Nat.{ℕ}
 use denote.Ref.{now}
 use borrow.Author.Needs.{needs}
-use lib.ListN.{length, take, drop, replicate}
-use lib.Seq.{take-at}
+use lib.ListN.{length, take, replicate}
 use Rattle.lists.specs.Over.{over}
-use Rattle.lists.proofs.Over.{length-over}
-use Rattle.lists.proofs.Tabulate.{length-tabulate}
-use Rattle.resolution.specs.declared.Resolution.{Resolution}
+use Rattle.lists.proofs.Over.{length-over, over-front}
 use Rattle.resolution.specs.Shapes.{widthOf}
 use Rattle.resolution.proofs.Shapes.{width-le}
-use Rattle.screen.specs.Registers.{register, scanLine}
+use Rattle.screen.specs.Registers.{scanLine}
+use Rattle.screen.proofs.Registers.{length-scanLine}
 use Rattle.lines.proofs.copy_line.Statement.{statement}
 use Rattle.lines.proofs.copy_line.Tie as tie
-
-length-scanLine : (s : List ℕ) (r : Resolution) (y : ℕ) → length (scanLine s r y) ≡ widthOf r
-unfolding scanLine
-length-scanLine s r y = length-tabulate (widthOf r) (λ x. register s r x y)
-
--- the front of a list over another
-over-front : (l d out : List ℕ) (n : ℕ) → length l ≡ n → over (take n (over l d)) out ≡ over l out
-over-front l d out n e = ap (λ (m : List ℕ). over m out) (take-at l (drop (length l) d) n e)
 
 slice-aggregate-fill-line : tie.Need-slice-aggregate-fill-line
 slice-aggregate-fill-line c = search needs

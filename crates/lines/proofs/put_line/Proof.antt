@@ -13,7 +13,7 @@ use Rattle.words.specs.Word.{wordBytes}
 use Rattle.resolution.specs.Shapes.{screenBytes, widthOf, planesOf, lineBytesOf}
 use Rattle.screen.specs.Registers.{wordOf, lineBytes, withLine}
 use Rattle.screen.proofs.Places.{line-within}
-use Rattle.lines.proofs.Columns.{lineBytes-le}
+use Rattle.resolution.proofs.Shapes.{lineBytes-le}
 use Rattle.lines.proofs.put_line.Statement.{statement}
 use Rattle.lines.proofs.put_line.Tie as tie
 

@@ -1,8 +1,8 @@
 -- `pack::put_literal` meets its contract. The copy is the kit's; a single byte is stored.
 use native.Mathlib.Omega.{arith}
-use mathlib.Core.Path.{_∙_}
+use mathlib.Core.Path.{refl, _∙_}
+use Rattle.lists.proofs.Over.{over-one}
 use Rattle.lists.proofs.Parts.{copied-over}
-use Rattle.pack.proofs.Controls.{byte-written}
 use borrow.Author.Needs.{needs}
 use Rattle.pack.proofs.put_literal.Statement.{statement}
 use Rattle.pack.proofs.put_literal.Tie as tie
@@ -22,7 +22,7 @@ same-length c = search needs
 returns : tie.Need-returns
 returns c =
     let s = c .before .before .before .before in
-    byte-written (s .args .shown .now) (s .args .out .now) (omega arith) (s .pre)
+    over-one (s .args .shown .now) (s .args .out .now) _ 0 (omega arith) (omega (arith, s .pre)) refl
 
 same-length-2 : tie.Need-same-length-2
 same-length-2 c = search needs

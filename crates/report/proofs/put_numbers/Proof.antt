@@ -1,10 +1,9 @@
 -- `report::put_numbers` meets its contract: the lines are written one after the other. Assumes nothing.
 use native.Mathlib.Omega.{arith}
 use denote.Ref.{now}
-use Rattle.lists.proofs.Pieces.{Written}
+use Rattle.lists.proofs.Pieces.{Written, written-more}
 use Rattle.report.specs.Labels.{resolutionLabel, recordsLabel, bodyLabel, tailLabel}
 use Rattle.report.specs.Summary.{line, numbersText}
-use Rattle.report.proofs.Pieces.{written-more}
 use borrow.Author.Needs.{needs}
 use Rattle.report.proofs.put_numbers.Statement.{statement}
 use Rattle.report.proofs.put_numbers.Tie as tie

@@ -1,9 +1,8 @@
 -- `report::put_reading` meets its contract: the tally's line is written after the numbers. Assumes nothing.
 use native.Mathlib.Omega.{arith}
 use denote.Ref.{now}
-use Rattle.lists.proofs.Pieces.{Written}
+use Rattle.lists.proofs.Pieces.{Written, written-more}
 use Rattle.report.specs.Summary.{numbersText, tallyLine}
-use Rattle.report.proofs.Pieces.{written-more}
 use borrow.Author.Needs.{needs}
 use Rattle.report.proofs.put_reading.Statement.{statement}
 use Rattle.report.proofs.put_reading.Tie as tie

@@ -9,7 +9,7 @@ use Rattle.lists.specs.Over.{over}
 use Rattle.resolution.specs.Shapes.{screenBytes}
 use Rattle.reader.specs.Reading.{readFile}
 use Rattle.report.specs.Summary.{summary, numbersText, tallyLine}
-use Rattle.report.proofs.Reading.{read-sound}
+use Rattle.reader.proofs.Sound.{read-sound}
 use Rattle.report.proofs.Summary.{text-refused, text-accepted}
 use borrow.Author.Needs.{needs}
 use Rattle.report.proofs.put_summary.Statement.{statement}

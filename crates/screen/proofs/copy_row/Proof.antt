@@ -5,8 +5,7 @@ use native.Mathlib.Omega.{arith}
 use borrow.Author.Needs.{needs}
 use lib.ListN.{length, take, length-set}
 use Rattle.lists.specs.Over.{over}
-use Rattle.resolution.proofs.Shapes.{planeRows-le}
-use Rattle.screen.proofs.Places.{planes-le}
+use Rattle.resolution.proofs.Shapes.{planeRows-le, planes-le}
 use Rattle.screen.proofs.Strides.{RowWords, row-bytes, AtWord, first-word, next-word, at-within, wordsOf, copy-turn, copy-done}
 use Rattle.screen.proofs.copy_row.Statement.{statement}
 use Rattle.screen.proofs.copy_row.Tie as tie

@@ -7,28 +7,20 @@ use denote.Ref.{now}
 use borrow.Author.Needs.{needs}
 use lib.ListN.{length, getD, replicate}
 use Rattle.lists.specs.Over.{over}
-use Rattle.lists.specs.Tabulate.{tabulate}
 use Rattle.lists.proofs.Over.{length-over, getD-over-in}
-use Rattle.lists.proofs.Tabulate.{length-tabulate, getD-tabulate}
 use Rattle.outcome.specs.Outcome.{Outcome, later}
 use Rattle.resolution.specs.declared.Chosen.the-variants.{Known}
 use Rattle.resolution.specs.declared.Resolution.{Resolution}
-use Rattle.resolution.specs.declared.Resolution.the-variants.{Low, Medium, High}
 use Rattle.resolution.specs.Choice.{chosen}
-use Rattle.resolution.specs.Shapes.{screenBytes, widthOf, heightOf, registersOf}
+use Rattle.resolution.specs.Shapes.{screenBytes, widthOf, heightOf}
 use Rattle.resolution.proofs.Shapes.{width-le}
 use Rattle.screen.specs.Registers.{register, scanLine}
-use Rattle.screen.proofs.Registers.{register-lt}
+use Rattle.screen.proofs.Registers.{register-lt-16, length-scanLine, getD-scanLine}
 use Rattle.lines.specs.Lines.{lineOut}
 use Rattle.lines.proofs.Lines.{out-accepted}
 use Rattle.tally.proofs.Counts.{counted-ext}
 use Rattle.tally.proofs.count_line.Statement.{statement}
 use Rattle.tally.proofs.count_line.Tie as tie
-
-registers-le : (r : Resolution) → registersOf r ≤ 16
-registers-le Low = omega arith
-registers-le Medium = omega arith
-registers-le High = omega arith
 
 -- what line out leaves in an area d that has room for the line
 module _ (s : List ℕ) (r : Resolution) (number y : ℕ) (d line : List ℕ) (known : chosen number ≡ Known r) (long : screenBytes ≤ length s) (hy : y < heightOf r)
@@ -37,19 +29,14 @@ module _ (s : List ℕ) (r : Resolution) (number y : ℕ) (d line : List ℕ) (k
   is-line = is ∙ ap (λ (o : Outcome (List ℕ)). later o (λ l. over l d) d) (out-accepted s number y r known (length d) long hy room)
 
   same-room : length line ≡ length d
-  unfolding scanLine
-  same-room = ap length is-line ∙ length-over (scanLine s r y) d (omega (arith, length-tabulate (widthOf r) (λ x. register s r x y)))
+  same-room = ap length is-line ∙ length-over (scanLine s r y) d (omega (arith, length-scanLine s r y))
 
   line-register : (x : ℕ) → x < widthOf r → getD line x 0 ≡ register s r x y
-  unfolding scanLine
   line-register x h =
-      let f : ℕ → ℕ = λ x. register s r x y in
-      ap (λ (l : List ℕ). getD l x 0) is-line
-      ∙ getD-over-in (tabulate (widthOf r) f) d x 0 (omega (arith, length-tabulate (widthOf r) f))
-      ∙ getD-tabulate (widthOf r) f x 0 h
+      ap (λ (l : List ℕ). getD l x 0) is-line ∙ getD-over-in (scanLine s r y) d x 0 (omega (arith, length-scanLine s r y)) ∙ getD-scanLine s r x y h
 
   line-below : (x : ℕ) → x < widthOf r → getD line x 0 < 16
-  line-below x h = rw (line-register x h) (omega (arith, register-lt s r x y, registers-le r))
+  line-below x h = rw (line-register x h) (register-lt-16 s r x y)
 
 number-of-requires : tie.Need-number-of-requires
 number-of-requires c κs = search needs

@@ -9,7 +9,7 @@ use lib.Seq.{length-take-le}
 use Rattle.lists.specs.Over.{over}
 use Rattle.resolution.specs.Shapes.{screenBytes}
 use Rattle.writer.specs.Layout.{degasHeader, tailBytes, eliteFile}
-use Rattle.writer.proofs.Append.{over-append}
+use Rattle.lists.proofs.Parts.{over-append}
 use borrow.Author.Needs.{needs}
 use Rattle.writer.proofs.write_elite.Statement.{statement}
 use Rattle.writer.proofs.write_elite.Tie as tie

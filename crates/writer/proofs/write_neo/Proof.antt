@@ -10,7 +10,7 @@ use Rattle.lists.specs.Over.{over}
 use Rattle.resolution.specs.Shapes.{screenBytes}
 use Rattle.words.specs.Word.{wordBytes}
 use Rattle.writer.specs.Layout.{degasHeader, neoMiddle, neoFile}
-use Rattle.writer.proofs.Append.{over-append}
+use Rattle.lists.proofs.Parts.{over-append}
 use borrow.Author.Needs.{needs}
 use Rattle.writer.proofs.write_neo.Statement.{statement}
 use Rattle.writer.proofs.write_neo.Tie as tie

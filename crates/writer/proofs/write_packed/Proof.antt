@@ -8,7 +8,7 @@ use lib.ListN.{length, length-append}
 use Rattle.lists.specs.Over.{over}
 use Rattle.writer.specs.Layout.{degasHeader, tailBytes, packedFile}
 use Rattle.writer.specs.Write.{leastBody}
-use Rattle.writer.proofs.Append.{over-append}
+use Rattle.lists.proofs.Parts.{over-append}
 use Rattle.writer.proofs.WriteFile.{packed-refused, packed-accepted}
 use borrow.Author.Needs.{needs}
 use Rattle.writer.proofs.write_packed.Statement.{statement}

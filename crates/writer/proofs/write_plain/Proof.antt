@@ -6,7 +6,7 @@ use lib.ListN.{length, take, length-append}
 use lib.Seq.{length-take-le}
 use Rattle.resolution.specs.Shapes.{screenBytes}
 use Rattle.writer.specs.Layout.{degasHeader, plainFile}
-use Rattle.writer.proofs.Append.{over-append}
+use Rattle.lists.proofs.Parts.{over-append}
 use borrow.Author.Needs.{needs}
 use Rattle.writer.proofs.write_plain.Statement.{statement}
 use Rattle.writer.proofs.write_plain.Tie as tie

@@ -6,10 +6,9 @@ use native.Mathlib.Omega.{arith}
 use lib.ListN.{length, take, getD, length-drop}
 use lib.Seq.{take-all}
 use Rattle.lists.proofs.Parts.{tail-part}
-use Rattle.lists.proofs.Pieces.{Written}
+use Rattle.lists.proofs.Pieces.{Written, length-written, written-more, written-as}
 use Rattle.report.specs.Labels.{blank}
 use Rattle.report.specs.Summary.{item, items}
-use Rattle.report.proofs.Pieces.{written-length, written-more, written-as}
 use Rattle.report.proofs.Summary.{items-more}
 use borrow.Author.Needs.{needs}
 use Rattle.report.proofs.text.put_counts.Statement.{statement}
@@ -68,7 +67,7 @@ loop-again c =
       omega arith,
       omega (arith, p .put-count .ensures .0 .1),
       w,
-      written-length w (omega (arith, w .bytes, p .put-count .ensures .0 .1)),
+      length-written w (omega (arith, w .bytes, p .put-count .ensures .0 .1)),
     )
 
 same-length : tie.Need-same-length Inv-loop μ-loop

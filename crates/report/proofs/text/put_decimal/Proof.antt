@@ -2,9 +2,9 @@
 use mathlib.Core.Path.{_≡_, ap, _∙_}
 use native.Mathlib.Omega.{arith}
 use lib.ListN.{length, take}
+use Rattle.lists.proofs.Pieces.{written-copied, written-as}
 use Rattle.report.specs.Decimal.{decimal}
 use Rattle.report.proofs.Decimal.{fewest-le, digits-decimal, length-decimal}
-use Rattle.report.proofs.Pieces.{written-copied, written-as}
 use borrow.Author.Needs.{needs}
 use Rattle.report.proofs.text.put_decimal.Statement.{statement}
 use Rattle.report.proofs.text.put_decimal.Tie as tie

@@ -1,9 +1,9 @@
 -- `report::text::put_item` meets its contract: the number's digits are written after the label. Assumes nothing.
 use native.Mathlib.Omega.{arith}
 use denote.Ref.{now}
+use Rattle.lists.proofs.Pieces.{written-copied, written-more}
 use Rattle.report.specs.Decimal.{decimal}
 use Rattle.report.specs.Summary.{item}
-use Rattle.report.proofs.Pieces.{written-copied, written-more}
 use borrow.Author.Needs.{needs}
 use Rattle.report.proofs.text.put_item.Statement.{statement}
 use Rattle.report.proofs.text.put_item.Tie as tie

@@ -1,9 +1,8 @@
 -- `report::text::put_line` meets its contract: a newline is written after the item. Assumes nothing.
 use native.Mathlib.Omega.{arith}
 use denote.Ref.{now}
-use Rattle.lists.proofs.Pieces.{Written}
+use Rattle.lists.proofs.Pieces.{Written, written-byte}
 use Rattle.report.specs.Summary.{item, line}
-use Rattle.report.proofs.Pieces.{written-byte}
 use borrow.Author.Needs.{needs}
 use Rattle.report.proofs.text.put_line.Statement.{statement}
 use Rattle.report.proofs.text.put_line.Tie as tie

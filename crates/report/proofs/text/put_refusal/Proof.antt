@@ -1,10 +1,9 @@
 -- `report::text::put_refusal` meets its contract: the place's line is written after the number. Assumes nothing.
 use native.Mathlib.Omega.{arith}
 use denote.Ref.{now}
-use Rattle.lists.proofs.Pieces.{Written}
+use Rattle.lists.proofs.Pieces.{Written, written-more}
 use Rattle.report.specs.Labels.{refusedLabel, atLabel}
 use Rattle.report.specs.Summary.{item, line, refusalLine}
-use Rattle.report.proofs.Pieces.{written-more}
 use borrow.Author.Needs.{needs}
 use Rattle.report.proofs.text.put_refusal.Statement.{statement}
 use Rattle.report.proofs.text.put_refusal.Tie as tie

@@ -4,10 +4,9 @@ use native.Mathlib.Omega.{arith}
 use lib.ListN.{length, set}
 use denote.Ref.{now}
 use borrow.Rule.Slice.PartMut.{putMid}
-use Rattle.lists.proofs.Pieces.{Written}
+use Rattle.lists.proofs.Pieces.{Written, written-copied, length-written, written-more, written-byte}
 use Rattle.report.specs.Labels.{tallyLabel}
 use Rattle.report.specs.Summary.{items, tallyLine}
-use Rattle.report.proofs.Pieces.{written-copied, written-length, written-more, written-byte}
 use borrow.Author.Needs.{needs}
 use Rattle.report.proofs.text.put_tally.Statement.{statement}
 use Rattle.report.proofs.text.put_tally.Tie as tie
@@ -64,7 +63,7 @@ add-result : tie.Need-add-result
 add-result c = search needs
 
 same-length : tie.Need-same-length
-same-length c = written-length (written c) (omega (arith, written c .bytes, short c))
+same-length c = length-written (written c) (omega (arith, written c .bytes, short c))
 
 returns : tie.Need-returns
 returns c = ((written c .bytes, short c), written c .all)

@@ -2,8 +2,8 @@
 use mathlib.Core.Path.{sym, ap, _∙_}
 use denote.Ref.{now}
 use lib.Seq.{length-take-le}
-use Rattle.pack.specs.Pack.{packedLen}
-use Rattle.writer.proofs.LeastBody.{row-room, row-front, row-packedLen}
+use Rattle.pack.specs.Pack.{leastLen}
+use Rattle.writer.proofs.LeastBody.{row-room, row-front, row-leastLen}
 use borrow.Author.Needs.{needs}
 use Rattle.writer.proofs.body.row_len.Statement.{statement}
 use Rattle.writer.proofs.body.row_len.Tie as tie
@@ -39,8 +39,8 @@ returns c =
     let t = w .before .before in
     let s = t .before .before .before in
     c .packed-len .ensures
-    ∙ ap packedLen (row-front (now (s .args .screen)) (s .args .r) (s .args .n) _ (s .pre .0) (s .pre .1) (t .take-row .ensures .1) _ (w .row-bytes .ensures))
-    ∙ row-packedLen (now (s .args .screen)) (s .args .r) (s .args .n)
+    ∙ ap leastLen (row-front (now (s .args .screen)) (s .args .r) (s .args .n) _ (s .pre .0) (s .pre .1) (t .take-row .ensures .1) _ (w .row-bytes .ensures))
+    ∙ row-leastLen (now (s .args .screen)) (s .args .r) (s .args .n)
 
 pub row-len-spec : {M : Type 1} → statement M
 row-len-spec =

@@ -4,8 +4,8 @@ use native.Mathlib.Omega.{arith}
 use denote.Ref.{now}
 use lib.ListN.{length, length-append}
 use Rattle.words.specs.Word.{wordBytes, wordsBytes}
-use Rattle.writer.proofs.Append.{over-append}
-use Rattle.writer.proofs.Words.{length-wordsBytes}
+use Rattle.lists.proofs.Parts.{over-append}
+use Rattle.words.proofs.Word.{length-wordsBytes}
 use borrow.Author.Needs.{needs}
 use Rattle.writer.proofs.parts.put_degas_header.Statement.{statement}
 use Rattle.writer.proofs.parts.put_degas_header.Tie as tie

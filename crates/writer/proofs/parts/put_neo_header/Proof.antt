@@ -6,7 +6,7 @@ use denote.Ref.{now}
 use lib.ListN.{length, length-append}
 use Rattle.words.specs.Word.{wordBytes}
 use Rattle.writer.specs.Layout.{degasHeader, neoMiddle}
-use Rattle.writer.proofs.Append.{over-append}
+use Rattle.lists.proofs.Parts.{over-append}
 use borrow.Author.Needs.{needs}
 use Rattle.writer.proofs.parts.put_neo_header.Statement.{statement}
 use Rattle.writer.proofs.parts.put_neo_header.Tie as tie

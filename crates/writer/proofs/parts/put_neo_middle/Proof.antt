@@ -5,7 +5,7 @@ use Prim.Native.Nat.{ℕ}
 use denote.Ref.{now}
 use lib.ListN.{replicate}
 use Rattle.words.specs.Word.{wordBytes}
-use Rattle.writer.proofs.Append.{over-append}
+use Rattle.lists.proofs.Parts.{over-append}
 use borrow.Author.Needs.{needs}
 use Rattle.writer.proofs.parts.put_neo_middle.Statement.{statement}
 use Rattle.writer.proofs.parts.put_neo_middle.Tie as tie

@@ -2,7 +2,7 @@
 use mathlib.Core.Path.{_≡_}
 use native.Mathlib.Omega.{arith}
 use lib.ListN.{length}
-use Rattle.writer.proofs.Words.{length-wordsBytes}
+use Rattle.words.proofs.Word.{length-wordsBytes}
 use borrow.Author.Needs.{needs}
 use Rattle.writer.proofs.parts.put_table.Statement.{statement}
 use Rattle.writer.proofs.parts.put_table.Tie as tie

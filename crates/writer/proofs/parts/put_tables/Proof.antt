@@ -9,7 +9,7 @@ use lib.Seq.{take-all}
 use Rattle.lists.specs.Over.{over}
 use Rattle.words.specs.Word.{wordsBytes}
 use Rattle.picture.specs.Tables.{tablesBytes}
-use Rattle.writer.proofs.Flatten.{length-flatten-take, flatten-turn}
+use Rattle.lists.proofs.Flatten.{length-flatten-take, flatten-turn}
 use borrow.Author.Needs.{needs}
 use Rattle.writer.proofs.parts.put_tables.Statement.{statement}
 use Rattle.writer.proofs.parts.put_tables.Tie as tie

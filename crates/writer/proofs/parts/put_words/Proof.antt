@@ -8,8 +8,8 @@ use lib.ListN.{length, take}
 use lib.Seq.{take-all, length-take-le}
 use Rattle.lists.specs.Over.{over}
 use Rattle.words.specs.Word.{wordBytes, wordsBytes}
-use Rattle.writer.proofs.Flatten.{flatten-turn}
-use Rattle.writer.proofs.Words.{length-wordsBytes}
+use Rattle.lists.proofs.Flatten.{flatten-turn}
+use Rattle.words.proofs.Word.{length-wordsBytes}
 use borrow.Author.Needs.{needs}
 use Rattle.writer.proofs.parts.put_words.Statement.{statement}
 use Rattle.writer.proofs.parts.put_words.Tie as tie

@@ -11,14 +11,14 @@ use Rattle.outcome.specs.Outcome.{Outcome, accepted, refused}
 use Rattle.packbits.specs.Unpack.{placed}
 use Rattle.unpack_rows.specs.UnpackRows.{Rows, unpackRows}
 use Rattle.unpack_rows.proofs.UnpackRows.{RowsBounded, rows-bounded}
-use Rattle.resolution.specs.declared.Chosen.{Chosen}
-use Rattle.resolution.specs.declared.Chosen.the-variants.{Known, Unknown}
+use Rattle.resolution.specs.declared.Chosen.the-variants.{Known}
 use Rattle.resolution.specs.declared.Resolution.{Resolution}
 use Rattle.resolution.specs.Shapes.{screenBytes, rowBytesOf, planeRowsOf}
-use Rattle.resolution.specs.Choice.{chosen, judgeWith}
+use Rattle.resolution.specs.Choice.{chosen}
+use Rattle.resolution.proofs.Choice.{withResolution-elim}
 use Rattle.screen.proofs.PlaneRows.{length-screenOf}
 use Rattle.reader.specs.Reading.{Reading, degasResolution, degasPacked, tailAfter, readRaw, readPacked, readChosen, readDegas, readFile}
 use Rattle.reader.proofs.Reading.{file-degas}
 
 -- an accepted reading has a whole screen and a known resolution; a refusal has a number
 abbrev pub Sound : Outcome Reading → Type 0
@@ -53,11 +53,9 @@ module _ (file : List ℕ) (r : Resolution) (known : chosen (degasResolution fil
 
 degas-sound : (file : List ℕ) → Sound (readDegas file)
 unfolding readDegas
-degas-sound file = cond-ltb Sound (length file) 34 (λ _ e. omega arith) (λ _. go (chosen (degasResolution file)) refl)
-  where
-    go : (c : Chosen) → chosen (degasResolution file) ≡ c → Sound (judgeWith c (λ r. readChosen file r))
-    go (Known r) e = chosen-sound file r e
-    go Unknown e = λ z. omega arith
+degas-sound file =
+    cond-ltb Sound (length file) 34 (λ _ e. omega arith)
+    (λ _. withResolution-elim Sound (degasResolution file) (λ r. readChosen file r) (λ e. omega arith) (λ r known. chosen-sound file r known))
 
 pub read-sound : (file : List ℕ) → Sound (readFile 1 file screenBytes)
 read-sound file = rw (file-degas file 1 screenBytes (omega arith) refl) (degas-sound file)

@@ -1,0 +1,22 @@
+-- Rows of one width. Assumes nothing.
+use mathlib.Core.Path.{_≡_}
+use Prim.Native.Nat.{ℕ, zero, suc, _<_}
+use native.Mathlib.Omega.{arith}
+use mathlib.Core.List.{List, [], _∷_}
+use lib.ListN.{length, getD}
+use Rattle.lists.specs.Tabulate.{tabulate}
+
+-- each row has this width
+abbrev pub Wide : ℕ → List (List ℕ) → Type 0
+Wide width [] = Unit {0}
+Wide width (row ∷ rows) = (length row ≡ width) × Wide width rows
+
+pub wide-at : (width : ℕ) (rows : List (List ℕ)) → Wide width rows → (k : ℕ) → k < length rows → length (getD rows k []) ≡ width
+wide-at width [] w k h = absurd (omega arith)
+wide-at width (row ∷ rows) w zero h = w .0
+wide-at width (row ∷ rows) w (suc k) h = wide-at width rows (w .1) k (omega arith)
+
+pub wide-tabulate : (width n : ℕ) (f : ℕ → List ℕ) → ((k : ℕ) → length (f k) ≡ width) → Wide width (tabulate n f)
+unfolding tabulate
+wide-tabulate width zero f h = tt
+wide-tabulate width (suc n) f h = (h 0, wide-tabulate width n (λ k. f (suc k)) (λ k. h (suc k)))
