@@ -1,4 +1,4 @@
--- A row read record by record from an offset of a file: the invariant of the loops that read it, and its laws. Assumes nothing.
+-- A row read record by record from an offset of a file: the invariant of the loop that reads it, and its laws. Assumes nothing.
 use mathlib.Core.Path.{_≡_, sym, ap, _∙_}
 use Prim.Native.Nat.{ℕ, _+_, _-_, _≤_, _<_}
 use native.Mathlib.Nat.{add-zero}
@@ -10,7 +10,7 @@ use borrow.Author.Tests.{eq-eqb, ne-eqb}
 use Rattle.packbits.specs.declared.Record.{Record}
 use Rattle.packbits.specs.Records.{packedLen, rowLen, rowBytes, fault, recordAt}
 use Rattle.packbits.specs.Row.{rowAnswer}
-use Rattle.packbits.specs.Unpack.{Progress, stopped, after, progress, outcomeOf, placed}
+use Rattle.packbits.specs.Unpack.{Progress, stopped, after, progress, outcomeOf, unpackAt}
 use Rattle.packbits.proofs.Records.{WholeAt, whole-at}
 use Rattle.packbits.proofs.Unpack.{progress-full, progress-whole, progress-fault}
 
@@ -18,19 +18,27 @@ use Rattle.packbits.proofs.Unpack.{progress-full, progress-whole, progress-faul
 abbrev pub left : List ℕ → ℕ → ℕ → ℕ → Progress
 left file at used room = progress (drop (at + used) file) room
 
--- `used` packed bytes of the row are read, and what is left of the file gives the rest of the row
-pub record Reading (file : List ℕ) (at width used room : ℕ) : Type 0 where
+-- `used` packed bytes of the row, so many records, are read, and what is left of the file gives the rest of the row
+pub record Reading (file : List ℕ) (at width used room records : ℕ) : Type 0 where
   pub within : used ≤ length file - at
+  pub counted : records ≤ used
   pub bytes : used + left file at used room .bytes ≡ progress (drop at file) width .bytes
+  pub total : records + left file at used room .records ≡ progress (drop at file) width .records
   pub fault : left file at used room .fault ≡ progress (drop at file) width .fault
 
 pub left-all : (file : List ℕ) (at width : ℕ) → left file at 0 width ≡ progress (drop at file) width
 left-all file at width = rw add-zero
 
-pub reading-start : (file : List ℕ) (at width : ℕ) → Reading file at width 0 width
+pub reading-start : (file : List ℕ) (at width : ℕ) → Reading file at width 0 width 0
 reading-start file at width =
     let e = left-all file at width in
-    record { within = omega arith; bytes = omega (arith, ap (λ (p : Progress). p .bytes) e); fault = ap (λ (p : Progress). p .fault) e }
+    record {
+      within = omega arith;
+      counted = omega arith;
+      bytes = omega (arith, ap (λ (p : Progress). p .bytes) e);
+      total = omega (arith, ap (λ (p : Progress). p .records) e);
+      fault = ap (λ (p : Progress). p .fault) e;
+    }
 
 -- ---- no room left
 
@@ -49,24 +57,38 @@ module _ (file : List ℕ) (at used room : ℕ) (r : Record) (is : r ≡ recordA
         let more : at + used + packedLen r ≡ at + (used + packedLen r) = omega arith in
         progress-whole (drop (at + used) file) room r is h ok ∙ rw (drop-drop (packedLen r) (at + used) file, more)
 
-    pub reading-turn : (width : ℕ) → Reading file at width used room → Reading file at width (used + packedLen r) (room - rowLen r)
-    reading-turn width g =
+    pub reading-turn : (width records : ℕ) → Reading file at width used room records
+        → Reading file at width (used + packedLen r) (room - rowLen r) (records + 1)
+    reading-turn width records g =
         let w : WholeAt r file (at + used) room = whole-at file (at + used) room r is ok in
         record {
           within = omega (arith, w .has, w .takes);
+          counted = omega (arith, w .takes, g .counted);
           bytes = omega (arith, ap (λ (p : Progress). p .bytes) left-whole, g .bytes);
+          total = omega (arith, ap (λ (p : Progress). p .records) left-whole, g .total);
           fault = sym (ap (λ (p : Progress). p .fault) left-whole) ∙ g .fault;
         }
 
--- ---- the answer
+-- ---- the answer, where no record is left or the next is at fault
 
-module _ (at : ℕ) (p : Progress) (used : ℕ) (bytes : p .bytes ≡ used) where
-  pub answer-refused : (number : ℕ) → p .fault ≡ number → (number ≡ 0 → ⊥)
-      → rowAnswer (placed at (outcomeOf p)) ≡ record { number = number; place = at + used; bytes = 0; records = 0 }
-  unfolding outcomeOf
-  answer-refused number is e = rw (is, bytes) (simp (ne-eqb number 0 e))
+module _ (file : List ℕ) (at width used room records : ℕ) (g : Reading file at width used room records) (number : ℕ)
+    (stop : left file at used room ≡ stopped number) where
+  abbrev all : Progress
+  all = progress (drop at file) width
 
-  pub answer-accepted : (records : ℕ) → p .fault ≡ 0 → p .records ≡ records
-      → rowAnswer (placed at (outcomeOf p)) ≡ record { number = 0; place = 0; bytes = used; records = records }
+  fault-is : all .fault ≡ number
+  fault-is = sym (g .fault) ∙ ap (λ (p : Progress). p .fault) stop
+
+  bytes-is : all .bytes ≡ used
+  bytes-is = omega (arith, ap (λ (p : Progress). p .bytes) stop, g .bytes)
+
+  records-is : all .records ≡ records
+  records-is = omega (arith, ap (λ (p : Progress). p .records) stop, g .total)
+
+  pub answer-refused : (number ≡ 0 → ⊥) → rowAnswer (unpackAt file at width) ≡ record { number = number; place = at + used; bytes = 0; records = 0 }
   unfolding outcomeOf
-  answer-accepted records is counted = simp (eq-eqb (p .fault) 0 is, bytes, counted)
+  answer-refused e = rw (fault-is, bytes-is) (simp (ne-eqb number 0 e))
+
+  pub answer-accepted : number ≡ 0 → rowAnswer (unpackAt file at width) ≡ record { number = 0; place = 0; bytes = used; records = records }
+  unfolding outcomeOf
+  answer-accepted e = simp (eq-eqb (all .fault) 0 (fault-is ∙ e), bytes-is, records-is)

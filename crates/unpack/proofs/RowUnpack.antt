@@ -6,7 +6,8 @@ use native.Mathlib.Decide.{decLt}
 use native.Mathlib.Omega.{arith}
 use mathlib.Core.Bool.{Bool, true, false, cond}
 use mathlib.Core.List.{List}
-use lib.ListN.{length, take}
+use lib.ListN.{length, take, drop, length-append}
+use lib.Seq.{take-at}
 use lib.Dec.{eqb}
 use borrow.Author.Tests.{lt-ltb, le-ltb, eq-eqb, ne-eqb, eqb-false}
 use Rattle.lists.specs.Bytes.{Bytes}
@@ -14,9 +15,11 @@ use Rattle.lists.specs.Over.{over}
 use Rattle.outcome.specs.Outcome.{Outcome, accepted, refused}
 use Rattle.outcome.specs.Refusal.{areaTooShort, outOfRange}
 use Rattle.packbits.specs.Row.{Row, done, rowAnswer, rowOutput}
-use Rattle.packbits.specs.Unpack.{Progress, outcomeOf, unpack, placed, unpackRow}
+use Rattle.packbits.specs.Unpack.{Progress, outcomeOf, unpack, placed, unpackAt, unpackRow}
 use Rattle.packbits.specs.Unpacks.{Unpacks}
 use Rattle.packbits.proofs.Exact.{exact}
+use Rattle.packbits.proofs.Unpack.{RowBounded}
+use Rattle.unpack.specs.RowAt.{unpackRowAt}
 
 -- ---- the cases, in the order of judging
 
@@ -38,6 +41,21 @@ module _ (packed : List ℕ) (width room : ℕ) where
     unfolding unpackRow
     row-room h = simp (ne-eqb width 0 some, le-ltb 128 width narrow, le-ltb room width h)
 
+-- ---- the same from an offset of a file
+
+module _ (file : List ℕ) (at width : ℕ) where
+  pub at-empty : width ≡ 0 → unpackRowAt file at width ≡ refused outOfRange 0
+  unfolding unpackRowAt
+  at-empty h = simp (eq-eqb width 0 h)
+
+  pub at-wide : 128 < width → unpackRowAt file at width ≡ refused outOfRange 0
+  unfolding unpackRowAt
+  at-wide h = simp (ne-eqb width 0 (omega arith), lt-ltb 128 width h)
+
+  pub at-range : (width ≡ 0 → ⊥) → width ≤ 128 → unpackRowAt file at width ≡ unpackAt file at width
+  unfolding unpackRowAt
+  at-range some narrow = simp (ne-eqb width 0 some, le-ltb 128 width narrow)
+
 -- ---- the answer and the output
 
 pub answer-placed : (o : Outcome Row) → rowAnswer (placed 0 o) ≡ rowAnswer o
@@ -49,15 +67,32 @@ pub refused-keeps : (o : Outcome Row) (out : List ℕ) → (rowAnswer o .number 
 refused-keeps (accepted r) out h = absurd (h refl)
 refused-keeps (refused number place) out h = refl
 
--- an accepted row stands at the front of the output
-pub accepted-output : (p : Progress) (out : List ℕ) → rowAnswer (outcomeOf p) .number ≡ 0 → rowOutput (outcomeOf p) out ≡ over (p .made) out
+-- a full row is accepted
+pub full-outcome : (at : ℕ) (p : Progress) → p .fault ≡ 0 → placed at (outcomeOf p) ≡ done (p .bytes) (p .records) (p .made)
 unfolding outcomeOf
-accepted-output p out = go (eqb (p .fault) 0) refl
+full-outcome at p e = simp (eq-eqb (p .fault) 0 e)
+
+-- an accepted row stands at the front of the output
+pub accepted-output : (at : ℕ) (p : Progress) (out : List ℕ) → rowAnswer (placed at (outcomeOf p)) .number ≡ 0
+    → rowOutput (placed at (outcomeOf p)) out ≡ over (p .made) out
+unfolding outcomeOf
+accepted-output at p out = go (eqb (p .fault) 0) refl
   where
-    go : (b : Bool) → eqb (p .fault) 0 ≡ b → rowAnswer (cond b (done (p .bytes) (p .records) (p .made)) (refused (p .fault) (p .bytes))) .number ≡ 0
-        → rowOutput (cond b (done (p .bytes) (p .records) (p .made)) (refused (p .fault) (p .bytes))) out ≡ over (p .made) out
+    go : (b : Bool) → eqb (p .fault) 0 ≡ b → rowAnswer (placed at (cond b (done (p .bytes) (p .records) (p .made)) (refused (p .fault) (p .bytes)))) .number ≡ 0
+        → rowOutput (placed at (cond b (done (p .bytes) (p .records) (p .made)) (refused (p .fault) (p .bytes)))) out ≡ over (p .made) out
     go true q e = refl
     go false q e = absurd (eqb-false _ _ q e)
+
+-- the buffer in which a row was made holds it, and copied from there it stands at the front of the output
+module _ (at : ℕ) (input : List ℕ) (width : ℕ) (buffer : List ℕ) where
+  pub made-inside : (o : Outcome Row) → RowBounded input width o → rowAnswer o .number ≡ 0 → width ≤ length (rowOutput (placed at o) buffer)
+  made-inside (accepted r) b e = omega (arith, b .0, length-append (r .made) (drop (length (r .made)) buffer))
+  made-inside (refused number place) b e = absurd (b .0 e)
+
+  pub made-copied : (o : Outcome Row) (out : List ℕ) → RowBounded input width o → rowAnswer o .number ≡ 0
+      → over (take width (rowOutput (placed at o) buffer)) out ≡ rowOutput o out
+  made-copied (accepted r) out b e = ap (λ (l : List ℕ). over l out) (take-at (r .made) (drop (length (r .made)) buffer) width (b .0))
+  made-copied (refused number place) out b e = absurd (b .0 e)
 
 -- ---- what is accepted
 
