@@ -34,7 +34,7 @@ fn put_part(source: &[u8], from: usize, n: usize, out: &mut [u8])
 }
 
 // Writes one byte n times to the front of an output.
-fn put_repeat(byte: u8, n: usize, out: &mut [u8])
+fn put_run(byte: u8, n: usize, out: &mut [u8])
     requires { ⌜ n ≤ length (now out) ⌝ }
     ensures { λ _. ⌜ now (out .exit) ≡ over (replicate n byte) (now (out .entry)) ⌝ }
 {
@@ -42,6 +42,33 @@ fn put_repeat(byte: u8, n: usize, out: &mut [u8])
     while k < n {
         out[k] = byte;
         k += 1;
+    }
+}
+
+// The same as two runs of k bytes, which overlap where n is less than 2 k.
+fn put_twice(byte: u8, k: usize, n: usize, out: &mut [u8])
+    requires { ⌜ (k ≤ n) × (n ≤ k + k) × (n ≤ length (now out)) ⌝ }
+    ensures { λ _. ⌜ now (out .exit) ≡ over (replicate n byte) (now (out .entry)) ⌝ }
+{
+    put_run(byte, k, out);
+    put_run(byte, k, &mut out[n - k..]);
+}
+
+// The same. Of up to 16 bytes it is two runs of a constant length, which cost less than a loop.
+fn put_repeat(byte: u8, n: usize, out: &mut [u8])
+    requires { ⌜ n ≤ length (now out) ⌝ }
+    ensures { λ _. ⌜ now (out .exit) ≡ over (replicate n byte) (now (out .entry)) ⌝ }
+{
+    if 16 < n {
+        put_run(byte, n, out);
+    } else if 8 <= n {
+        put_twice(byte, 8, n, out);
+    } else if 4 <= n {
+        put_twice(byte, 4, n, out);
+    } else if 2 <= n {
+        put_twice(byte, 2, n, out);
+    } else {
+        put_run(byte, n, out);
     }
 }
 
