@@ -93,29 +93,29 @@ fn put_row(file: &[u8], at: usize, width: usize, out: &mut [u8]) -> RowAnswer
     ensures { λ r. ⌜ r ≡ rowAnswer (unpackAt (now (file .entry)) at width) ⌝ }
     ensures { λ _. ⌜ now (out .exit) ≡ over (progress (drop at (now (file .entry))) width .made) (now (out .entry)) ⌝ }
 {
-    let mut used: usize = 0;
+    let mut from = at;
     let mut to: usize = 0;
     let mut records: usize = 0;
     while to < width {
-        let r = packbits::record_at(file, at + used, width - to);
+        let r = packbits::record_at(file, from, width - to);
         let number = packbits::fault_of(r);
         if number != 0 {
             return RowAnswer {
                 number,
-                place: at + used,
+                place: from,
                 bytes: 0,
                 records: 0,
             };
         }
-        put_record(file, at + used, r, &mut out[to..]);
-        used += packbits::packed_len(r);
+        put_record(file, from, r, &mut out[to..]);
+        from += packbits::packed_len(r);
         to += packbits::row_len(r);
         records += 1;
     }
     RowAnswer {
         number: 0,
         place: 0,
-        bytes: used,
+        bytes: from - at,
         records,
     }
 }

@@ -12,16 +12,16 @@ use Rattle.unpack.proofs.put_row.Statement.{statement}
 use Rattle.unpack.proofs.put_row.Tie as tie
 
 abbrev Inv-loop : tie.InvT-loop
-Inv-loop file at width out₀ used₀ to₀ records₀ out used to records = Putting file at width out₀ out used to records
+Inv-loop file at width out₀ from₀ to₀ records₀ out from to records = Putting file at width out₀ out from to records
 
 abbrev μ-loop : tie.MeasureT-loop
-μ-loop file at width out₀ used₀ to₀ records₀ out used to records = length file - at - used
+μ-loop file at width out₀ from₀ to₀ records₀ out from to records = length file - from
 
 -- in a turn that goes on the record is whole
 whole-here : (c : tie.Else1 Inv-loop μ-loop)
     → let l = c .before .before .before .before .loop in
     let a = c .before .before .before .before .before .before .before .args in
-    WholeAt (c .before .before .record-at .result) (a .file .now) (a .at + l .used) (a .width - l .to)
+    WholeAt (c .before .before .record-at .result) (a .file .now) (l .from) (a .width - l .to)
 whole-here c =
     let rec = c .before .before .record-at in
     whole-at _ _ _ (rec .result) (rec .ensures) (sym (c .before .fault-of .ensures) ∙ c .if1 .left)
@@ -30,9 +30,6 @@ loop-holds : tie.Need-loop-holds Inv-loop μ-loop
 loop-holds c =
     let a = c .before .before .args in
     putting-start (a .file .now) (a .at) (a .width) (a .out .now) (omega arith)
-
-add-record-at : tie.Need-add-record-at Inv-loop μ-loop
-add-record-at c = omega (arith, c .before .loop .inv .reading .within)
 
 sub-record-at : tie.Need-sub-record-at Inv-loop μ-loop
 sub-record-at c = omega arith
@@ -43,9 +40,6 @@ record-at-requires c κs = search needs
 fault-of-requires : tie.Need-fault-of-requires Inv-loop μ-loop
 fault-of-requires c κs = search needs
 
-add-t13 : tie.Need-add-t13 Inv-loop μ-loop
-add-t13 c = omega (arith, c .before .before .before .before .loop .inv .reading .within)
-
 same-length : tie.Need-same-length Inv-loop μ-loop
 same-length c = c .before .before .before .before .loop .inv .writing .kept
 
@@ -55,14 +49,11 @@ returns c =
     let l = c .before .before .before .before .loop in
     let a = c .before .before .before .before .before .before .before .args in
     let bad : fault (rec .result) ≡ 0 → ⊥ = λ e. c .if1 .taken (c .before .fault-of .ensures ∙ e) in
-    let stop = left-fault (a .file .now) (a .at) (l .used) (a .width - l .to) (rec .result) (rec .ensures) (omega arith) bad in
+    let stop = left-fault (a .file .now) (l .from) (a .width - l .to) (rec .result) (rec .ensures) (omega arith) bad in
     rw (c .before .fault-of .ensures) (
-      sym (answer-refused (a .file .now) (a .at) (a .width) (l .used) (a .width - l .to) (l .records) (l .inv .reading) (fault (rec .result)) stop bad),
-      putting-done (a .file .now) (a .at) (a .width) (a .out .now) (omega arith) (l .out) (l .used) (l .to) (l .records) (l .inv) (fault (rec .result)) stop,
+      sym (answer-refused (a .file .now) (a .at) (a .width) (l .from) (a .width - l .to) (l .records) (l .inv .reading) (fault (rec .result)) stop bad),
+      putting-done (a .file .now) (a .at) (a .width) (a .out .now) (omega arith) (l .out) (l .from) (l .to) (l .records) (l .inv) (fault (rec .result)) stop,
     )
-
-add-put-record : tie.Need-add-put-record Inv-loop μ-loop
-add-put-record c = omega (arith, c .before .before .before .before .loop .inv .reading .within)
 
 sub-put-record : tie.Need-sub-put-record Inv-loop μ-loop
 sub-put-record c = c .before .before .before .before .loop .inv .writing .room
@@ -79,15 +70,15 @@ put-record-requires c κs =
     let l = c .before .before .before .before .before .loop in
     let a = c .before .before .before .before .before .before .before .before .args in (
       whole-here (c .before) .has,
-      record-fits (a .file .now) (a .at) (a .width) (a .out .now) (omega arith) (l .out) (l .used) (l .to) (l .records) (l .inv) (rec .result) (rec .ensures)
+      record-fits (a .file .now) (a .at) (a .width) (a .out .now) (omega arith) (l .out) (l .from) (l .to) (l .records) (l .inv) (rec .result) (rec .ensures)
           (c .before .before .before .before .loop-test .taken) (sym (c .before .before .fault-of .ensures) ∙ c .before .if1 .left),
     )
 
 packed-len-requires : tie.Need-packed-len-requires Inv-loop μ-loop
 packed-len-requires c κs = search needs
 
-add-used : tie.Need-add-used Inv-loop μ-loop
-add-used c = let w = whole-here (c .before .before .before .before .before) in omega (arith, w .has, c .packed-len .ensures)
+add-from : tie.Need-add-from Inv-loop μ-loop
+add-from c = let w = whole-here (c .before .before .before .before .before) in omega (arith, w .has, c .packed-len .ensures)
 
 row-len-requires : tie.Need-row-len-requires Inv-loop μ-loop
 row-len-requires c κs = search needs
@@ -113,8 +104,11 @@ loop-again c =
     let l = turn .before .before .before .before .loop in
     let a = turn .before .before .before .before .before .before .before .args in
     rw (c .before .packed-len .ensures, c .row-len .ensures)
-    (putting-turn (a .file .now) (a .at) (a .width) (a .out .now) (omega arith) (l .out) (l .used) (l .to) (l .records) (l .inv) (rec .result) (rec .ensures)
+    (putting-turn (a .file .now) (a .at) (a .width) (a .out .now) (omega arith) (l .out) (l .from) (l .to) (l .records) (l .inv) (rec .result) (rec .ensures)
     (turn .before .before .before .loop-test .taken) (sym (turn .before .fault-of .ensures) ∙ turn .if1 .left) _ (c .before .before .before .before .put-record .ensures))
+
+sub-t16 : tie.Need-sub-t16 Inv-loop μ-loop
+sub-t16 c = omega (arith, c .before .loop .inv .reading .counted)
 
 same-length-2 : tie.Need-same-length-2 Inv-loop μ-loop
 same-length-2 c = c .before .loop .inv .writing .kept
@@ -123,9 +117,9 @@ returns-2 : tie.Need-returns-2 Inv-loop μ-loop
 returns-2 c =
     let l = c .before .loop in
     let a = c .before .before .before .before .args in
-    let stop = left-full (a .file .now) (a .at) (l .used) (a .width - l .to) (omega (arith, c .loop-test .left)) in (
-      sym (answer-accepted (a .file .now) (a .at) (a .width) (l .used) (a .width - l .to) (l .records) (l .inv .reading) 0 stop refl),
-      putting-done (a .file .now) (a .at) (a .width) (a .out .now) (omega arith) (l .out) (l .used) (l .to) (l .records) (l .inv) 0 stop,
+    let stop = left-full (a .file .now) (l .from) (a .width - l .to) (omega (arith, c .loop-test .left)) in (
+      sym (answer-accepted (a .file .now) (a .at) (a .width) (l .from) (a .width - l .to) (l .records) (l .inv .reading) 0 stop refl),
+      putting-done (a .file .now) (a .at) (a .width) (a .out .now) (omega arith) (l .out) (l .from) (l .to) (l .records) (l .inv) 0 stop,
     )
 
 pub put-row-spec : {M : Type 1} → statement M
@@ -135,24 +129,22 @@ put-row-spec =
     Inv-loop
     μ-loop
     loop-holds
-    add-record-at
     sub-record-at
     record-at-requires
     fault-of-requires
-    add-t13
     same-length
     returns
-    add-put-record
     sub-put-record
     part-put-record-start
     part-put-record-end
     put-record-requires
     packed-len-requires
-    add-used
+    add-from
     row-len-requires
     add-to
     add-records
     loop-less
     loop-again
+    sub-t16
     same-length-2
     returns-2)
