@@ -4,6 +4,7 @@ use Prim.Native.Nat.{ℕ, _+_, _-_, _≤_, _<_}
 use native.Mathlib.Nat.{add-assoc, add-zero, sub-zero}
 use native.Mathlib.Numerals.{add-one}
 use native.Mathlib.Omega.{arith}
+use mathlib.Core.Bool.{false}
 use mathlib.Core.List.{List, []}
 use lib.ListN.{length, getD, drop, replicate}
 use lib.Seq.{drop-drop, getD-drop}
@@ -11,7 +12,7 @@ use Rattle.lists.specs.Over.{over}
 use Rattle.lists.proofs.Over.{length-over, over-whole}
 use Rattle.outcome.specs.Outcome.{Outcome, accepted, refused, later}
 use Rattle.packbits.specs.declared.RowAnswer.{RowAnswer}
-use Rattle.packbits.specs.Row.{Row, done, rowAnswer, rowOutput}
+use Rattle.packbits.specs.Row.{Row, done, rowAnswer, rowOutput, widthOutOfRange}
 use Rattle.packbits.specs.Unpack.{Progress, progress, unpackAt, placed}
 use Rattle.packbits.proofs.Unpack.{bounded}
 use Rattle.unpack.specs.RowAt.{unpackRowAt}
@@ -21,11 +22,11 @@ use Rattle.unpack_rows.proofs.Judging.{judged, judged-start, row-bounds, judged
 use Rattle.unpack_rows.proofs.Next.{rowsOf, Next, next}
 use Rattle.unpack_rows.proofs.UnpackRows.{RowsBounded, rows-bounded}
 use Rattle.resolution.specs.declared.Resolution.{Resolution}
+use Rattle.resolution.specs.declared.Resolution.the-variants.{Low, Medium, High}
 use Rattle.resolution.specs.Shapes.{screenBytes, rowBytesOf, planeRowsOf}
 use Rattle.resolution.proofs.Shapes.{rowBytes-le}
 use Rattle.screen.specs.PlaneRows.{withRow, putRow, screenOf}
 use Rattle.screen.proofs.Judged.{judgeRow-accepted}
-use Rattle.screen.proofs.Places.{rowBytes-groups, groups-pos}
 use Rattle.screen.proofs.PlaneRows.{putRows, length-screenOf, withRow-over, put-all}
 
 -- ---- the rows of a body, and what is left of them past so many of its bytes
@@ -41,8 +42,13 @@ abbrev pub bodyAnswer : List ℕ → Resolution → RowAnswer
 bodyAnswer file r = rowsAnswer (unpackRowsAt file 34 (rowBytesOf r) (planeRowsOf r))
 
 -- a plane row's width is in range
+width-in-range : (r : Resolution) → widthOutOfRange (rowBytesOf r) ≡ false
+width-in-range Low = refl
+width-in-range Medium = refl
+width-in-range High = refl
+
 row-at : (file : List ℕ) (at : ℕ) (r : Resolution) → unpackRowAt file at (rowBytesOf r) ≡ unpackAt file at (rowBytesOf r)
-row-at file at r = at-range file at (rowBytesOf r) (λ e. omega (arith, rowBytes-groups r, groups-pos r)) (omega (arith, rowBytes-le r))
+row-at file at r = at-range file at (rowBytesOf r) (width-in-range r)
 
 placed-number : (at : ℕ) (o : Outcome Rows) → rowsAnswer (placed at o) .number ≡ rowsAnswer o .number
 placed-number at (accepted q) = refl
