@@ -146,11 +146,11 @@ pub fn unpack_row_at(file: &[u8], at: usize, width: usize) -> Unpacked
         return refused_row(packbits::row_refused(OUT_OF_RANGE));
     }
     let mut row = [0u8; MAX_WIDTH];
-    let answer = put_row(file, at, width, &mut row);
-    if answer.number != 0 {
-        return refused_row(answer);
+    let put = put_row(file, at, width, &mut row);
+    if put.number != 0 {
+        return refused_row(put);
     }
-    Unpacked { answer, row }
+    Unpacked { answer: put, row }
 }
 
 // Unpacks one row to a named width. The output is written once the row is whole, so that a refusal changes nothing. Input left after the
