@@ -3,7 +3,7 @@ use mathlib.Core.Path.{_≡_, refl, sym, ap, _∙_}
 use Prim.Native.Nat.{ℕ, _+_, _-_, _≤_, _<_}
 use native.Mathlib.Omega.{arith}
 use mathlib.Core.List.{List}
-use lib.ListN.{length, drop}
+use lib.ListN.{drop}
 use lib.Seq.{drop-drop}
 use borrow.Author.Tests.{eq-eqb, ne-eqb}
 use Rattle.packbits.specs.declared.Record.{Record}
@@ -19,14 +19,13 @@ left file from room = progress (drop from file) room
 
 -- the row that starts at one offset is read up to another, so many records of it, and what is left of the file gives the rest of it
 pub record Reading (file : List ℕ) (at width from room records : ℕ) : Type 0 where
-  pub within : from ≤ at + (length file - at)
   pub counted : at + records ≤ from
   pub bytes : from + left file from room .bytes ≡ at + left file at width .bytes
   pub total : records + left file from room .records ≡ left file at width .records
   pub fault : left file from room .fault ≡ left file at width .fault
 
 pub reading-start : (file : List ℕ) (at width : ℕ) → Reading file at width at width 0
-reading-start file at width = record { within = omega arith; counted = omega arith; bytes = refl; total = omega arith; fault = refl }
+reading-start file at width = record { counted = omega arith; bytes = refl; total = omega arith; fault = refl }
 
 -- ---- no room left
 
@@ -48,7 +47,6 @@ module _ (file : List ℕ) (from room : ℕ) (r : Record) (is : r ≡ recordAt (
     reading-turn at width records g =
         let w : WholeAt r file from room = whole-at file from room r is ok in
         record {
-          within = omega (arith, w .has, g .counted);
           counted = omega (arith, w .takes, g .counted);
           bytes = omega (arith, ap (λ (p : Progress). p .bytes) left-whole, g .bytes);
           total = omega (arith, ap (λ (p : Progress). p .records) left-whole, g .total);
