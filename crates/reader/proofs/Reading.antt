@@ -104,8 +104,8 @@ module _ (file : List ℕ) (r : Resolution) (q : RowAnswer) where
   fault-after (refused number place) is e = rw is
 
   module _ (input : List ℕ) (width n : ℕ) (ok : q .number ≡ 0) where
-    bytes-after : (o : Outcome Rows) → RowsBounded input width n o → q ≡ rowsAnswer (placed 34 o) → (rowsAnswer o .number ≡ 0) × (q .bytes ≤ length input)
-    bytes-after (accepted rows) b is = (refl, rw is (b .2))
+    bytes-after : (o : Outcome Rows) → RowsBounded input width n o → q ≡ rowsAnswer (placed 34 o) → q .bytes ≤ length input
+    bytes-after (accepted rows) b is = rw is (b .2)
     bytes-after (refused number place) b is = absurd (b .0 (sym (ap (λ (a : RowAnswer). a .number) is) ∙ ok))
 
     tail-after : (o : Outcome Rows) → RowsBounded input width n o → q ≡ rowsAnswer (placed 34 o) → (length file ≡ 34 + q .bytes + 32 → ⊥)
@@ -115,14 +115,15 @@ module _ (file : List ℕ) (r : Resolution) (q : RowAnswer) where
         rw e (simp (ne-eqb (length file) (34 + rows .bytes + 32) (λ k. h (k ∙ ap (λ (m : ℕ). 34 + m + 32) (sym e)))))
     tail-after (refused number place) b is h = absurd (b .0 (sym (ap (λ (a : RowAnswer). a .number) is) ∙ ok))
 
-    done-after : (o : Outcome Rows) → RowsBounded input width n o → q ≡ rowsAnswer (placed 34 o) → length file ≡ 34 + q .bytes + 32 → (area : List ℕ)
+    done-after : (o : Outcome Rows) → RowsBounded input width n o → q ≡ rowsAnswer (placed 34 o) → length file ≡ 34 + q .bytes + 32
+        → (screen was area : List ℕ) → screen ≡ later o (λ s. screenOf r (s .rows)) was
         → (_≡_ {A = ReadAnswer} (record { number = 0; place = 0; picture = withTail file (degasResolution file) 2 (34 + q .bytes); body = q .bytes; records = q .records }) (readAnswer (tailAfter file r (placed 34 o))))
-        × (later o (λ s. over (screenOf r (s .rows)) area) area ≡ readArea (tailAfter file r (placed 34 o)) area)
-    done-after (accepted rows) b is h area =
+        × (over screen area ≡ readArea (tailAfter file r (placed 34 o)) area)
+    done-after (accepted rows) b is h screen was area made =
         let e : q .bytes ≡ rows .bytes = ap (λ (a : RowAnswer). a .bytes) is in
         let f : q .records ≡ rows .records = ap (λ (a : RowAnswer). a .records) is in
-        rw (e, f) (simp (eq-eqb (length file) (34 + rows .bytes + 32) (h ∙ ap (λ (m : ℕ). 34 + m + 32) e)) (refl, refl))
-    done-after (refused number place) b is h area = absurd (b .0 (sym (ap (λ (a : RowAnswer). a .number) is) ∙ ok))
+        rw (e, f, made) (simp (eq-eqb (length file) (34 + rows .bytes + 32) (h ∙ ap (λ (m : ℕ). 34 + m + 32) e)) (refl, refl))
+    done-after (refused number place) b is h screen was area made = absurd (b .0 (sym (ap (λ (a : RowAnswer). a .number) is) ∙ ok))
 
 module _ (file : List ℕ) (r : Resolution) where
   pub packed-long : 32065 < length file → readPacked file r ≡ refused wrongLength 0
@@ -141,18 +142,17 @@ module _ (file : List ℕ) (r : Resolution) where
     packed-fault e = rw (le-ltb 32065 (length file) short) (fault-after file r q rows is e)
 
     module _ (ok : q .number ≡ 0) where
-      -- the rows are accepted, and their bytes are there
-      pub packed-rows : (rowsAnswer rows .number ≡ 0) × (q .bytes ≤ length file - 34)
-      packed-rows =
-          let b = bytes-after file r q (drop 34 file) (rowBytesOf r) (planeRowsOf r) ok rows bound is in
-          (b .0, omega (arith, length-drop 34 file, b .1))
+      -- the rows' bytes are there
+      pub packed-bytes : q .bytes ≤ length file - 34
+      packed-bytes = omega (arith, length-drop 34 file, bytes-after file r q (drop 34 file) (rowBytesOf r) (planeRowsOf r) ok rows bound is)
 
       pub packed-tail : (length file ≡ 34 + q .bytes + 32 → ⊥) → readPacked file r ≡ refused wrongTail (34 + q .bytes)
       unfolding readPacked
       packed-tail h = rw (le-ltb 32065 (length file) short) (tail-after file r q (drop 34 file) (rowBytesOf r) (planeRowsOf r) ok rows bound is h)
 
-      pub packed-done : length file ≡ 34 + q .bytes + 32 → (area : List ℕ)
+      pub packed-done : length file ≡ 34 + q .bytes + 32 → (screen was area : List ℕ) → screen ≡ later rows (λ s. screenOf r (s .rows)) was
           → (_≡_ {A = ReadAnswer} (record { number = 0; place = 0; picture = withTail file (degasResolution file) 2 (34 + q .bytes); body = q .bytes; records = q .records }) (readAnswer (readPacked file r)))
-          × (later rows (λ s. over (screenOf r (s .rows)) area) area ≡ readArea (readPacked file r) area)
+          × (over screen area ≡ readArea (readPacked file r) area)
       unfolding readPacked
-      packed-done h area = rw (le-ltb 32065 (length file) short) (done-after file r q (drop 34 file) (rowBytesOf r) (planeRowsOf r) ok rows bound is h area)
+      packed-done h screen was area made =
+          rw (le-ltb 32065 (length file) short) (done-after file r q (drop 34 file) (rowBytesOf r) (planeRowsOf r) ok rows bound is h screen was area made)

@@ -1,29 +1,42 @@
-// A packed body that has been judged, unpacked into the screen row by row.
+// A packed body unpacked into a screen, row by row.
 ghost use mathlib.Core.Path.{_≡_};
 ghost use Prim.Native.Nat.{_≤_};
 ghost use lib.ListN.{length, drop};
-ghost use Rattle.lists.specs.Over.{over};
 ghost use Rattle.outcome.specs.Outcome.{later};
 ghost use Rattle.resolution.specs.Shapes.{rowBytesOf, planeRowsOf};
 ghost use Rattle.screen.specs.PlaneRows.{screenOf};
-ghost use Rattle.unpack_rows.specs.UnpackRows.{unpackRows, rowsAnswer};
+ghost use Rattle.unpack_rows.specs.UnpackRows.{unpackRows, unpackRowsAt, rowsAnswer};
+use packbits::RowAnswer;
 use resolution::Resolution;
 
-// Writes each plane row of the body that starts at offset 34 where it belongs in the area.
-pub(crate) fn write_rows(file: &[u8], r: Resolution, area: &mut [u8])
-    requires { ⌜ (32000 ≤ length (now area)) × (34 ≤ length (now file)) ⌝ }
-    requires { ⌜ rowsAnswer (unpackRows (planeRowsOf r) (rowBytesOf r) (drop 34 (now file))) .number ≡ 0 ⌝ }
-    ensures { λ _. ⌜ now (area .exit) ≡ later (unpackRows (planeRowsOf r) (rowBytesOf r) (drop 34 (now (file .entry)))) (λ q. over (screenOf r (q .rows)) (now (area .entry))) (now (area .entry)) ⌝ }
+// Unpacks each plane row of the body that starts at offset 34 to where it belongs in a screen. After a refusal the screen holds the rows
+// before the fault.
+pub(crate) fn unpack_body(file: &[u8], r: Resolution, screen: &mut [u8]) -> RowAnswer
+    requires { ⌜ (length (now screen) ≡ 32000) × (34 ≤ length (now file)) ⌝ }
+    ensures answer { λ a. ⌜ a ≡ rowsAnswer (unpackRowsAt (now (file .entry)) 34 (rowBytesOf r) (planeRowsOf r)) ⌝ }
+    ensures screen { λ a. ⌜ (a .number ≡ 0 → now (screen .exit) ≡ later (unpackRows (planeRowsOf r) (rowBytesOf r) (drop 34 (now (file .entry)))) (λ q. screenOf r (q .rows)) (now (screen .entry))) ⌝ }
 {
     let width = r.row_bytes();
     let rows = r.plane_rows();
-    let mut row = [0u8; 80];
-    let mut from: usize = 34;
+    let mut used: usize = 0;
+    let mut records: usize = 0;
     let mut n: usize = 0;
     while n < rows {
-        let used = unpack::put_row(file, from, width, &mut row);
-        screen::put_row(area, r, n, &row);
-        from += used;
+        let unpacked = unpack::unpack_row_at(file, 34 + used, width);
+        let answer = unpacked.answer;
+        if answer.number != 0 {
+            return answer;
+        }
+        let row = unpacked.row;
+        screen::put_row(screen, r, n, &row);
+        used += answer.bytes;
+        records += answer.records;
         n += 1;
+    }
+    RowAnswer {
+        number: 0,
+        place: 0,
+        bytes: used,
+        records,
     }
 }

@@ -94,7 +94,7 @@ fn read_raw(file: &[u8], area: &mut [u8]) -> ReadAnswer
     parts::refused(WRONG_LENGTH, 0)
 }
 
-// A packed DEGAS file: the rows of its body, and then exactly 32 bytes.
+// A packed DEGAS file: the rows of its body, unpacked into a screen of the reader's own, and then exactly 32 bytes.
 fn read_packed(file: &[u8], r: Resolution, area: &mut [u8]) -> ReadAnswer
     requires { ⌜ 32000 ≤ length (now area) ⌝ }
     requires { ⌜ 34 ≤ length (now file) ⌝ }
@@ -104,7 +104,8 @@ fn read_packed(file: &[u8], r: Resolution, area: &mut [u8]) -> ReadAnswer
     if 32065 < file.len() {
         return parts::refused(WRONG_LENGTH, 0);
     }
-    let rows = unpack_rows::judge_rows(file, 34, r.row_bytes(), r.plane_rows());
+    let mut screen = [0u8; SCREEN_BYTES];
+    let rows = body::unpack_body(file, r, &mut screen);
     if rows.number != 0 {
         return parts::refused(rows.number, rows.place);
     }
@@ -112,7 +113,7 @@ fn read_packed(file: &[u8], r: Resolution, area: &mut [u8]) -> ReadAnswer
     if file.len() != end + 32 {
         return parts::refused(WRONG_TAIL, end);
     }
-    body::write_rows(file, r, area);
+    bytes::copy(&screen, area);
     let resolution = words::word_at(file, 0) % 4;
     let picture = parts::with_tail(file, resolution, end);
     ReadAnswer {

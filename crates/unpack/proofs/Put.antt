@@ -1,91 +1,70 @@
--- Laws of `putting`, and of the loop that puts a row into an output, record by record. Assumes nothing.
+-- A row put into an output record by record: the loop's invariant and its laws. Assumes nothing.
 use mathlib.Core.Path.{_≡_, ap, _∙_, subst}
 use Prim.Native.Nat.{ℕ, _+_, _-_, _≤_, _<_}
 use native.Mathlib.Nat.{sub-zero}
 use native.Mathlib.Omega.{arith}
 use mathlib.Core.List.{List, _++_}
 use lib.ListN.{length, take, drop}
-use borrow.Author.Tests.{lt-ltb, le-ltb}
 use borrow.Rule.Slice.PartMut.{putMid}
 use Rattle.lists.specs.Over.{over}
 use Rattle.lists.proofs.Pieces.{Writing, writing-start, piece-fits, writing-more, writing-end}
-use Rattle.outcome.specs.Refusal.{areaTooShort}
 use Rattle.packbits.specs.declared.Record.{Record}
 use Rattle.packbits.specs.Records.{packedLen, rowLen, rowBytes, fault, recordAt}
-use Rattle.packbits.specs.Unpack.{Progress, stopped, progress}
+use Rattle.packbits.specs.Unpack.{Progress, stopped}
 use Rattle.packbits.proofs.Records.{WholeAt, whole-at}
 use Rattle.packbits.proofs.Unpack.{bounded}
-use Rattle.unpack.specs.Put.{putting}
-use Rattle.unpack.proofs.Reading.{left, Reading, left-all, reading-start, left-whole, reading-turn}
+use Rattle.unpack.proofs.Reading.{left, Reading, reading-start, left-whole, reading-turn}
 
--- ---- an output shorter than the row, and one that has room for it
-
-module _ (file : List ℕ) (at width room : ℕ) where
-  pub putting-short : room < width → putting file at width room ≡ stopped areaTooShort
-  unfolding putting
-  putting-short h = simp (lt-ltb room width h)
-
-  pub putting-room : width ≤ room → putting file at width room ≡ progress (drop at file) width
-  unfolding putting
-  putting-room h = simp (le-ltb room width h)
-
--- ---- the loop
-
--- `used` packed bytes are read and the `to` bytes of the row that they make are written
-pub record Putting (file : List ℕ) (at width : ℕ) (out₀ out : List ℕ) (used to : ℕ) : Type 0 where
+-- the row that starts at one offset is read up to another, so many records, and the `to` bytes of it that they make are written
+pub record Putting (file : List ℕ) (at width : ℕ) (out₀ out : List ℕ) (from to records : ℕ) : Type 0 where
   pub inside : to ≤ width
-  pub reading : Reading file at width used (width - to)
-  pub writing : Writing (progress (drop at file) width .made) (left file at used (width - to) .made) out₀ out to
+  pub reading : Reading file at width from (width - to) records
+  pub writing : Writing (left file at width .made) (left file from (width - to) .made) out₀ out to
 
 module _ (file : List ℕ) (at width : ℕ) (out₀ : List ℕ) (room : width ≤ length out₀) where
-  pub putting-start : Putting file at width out₀ out₀ 0 0
+  pub putting-start : Putting file at width out₀ out₀ at 0 0
   putting-start = record {
     inside = omega arith;
     reading = rw sub-zero (reading-start file at width);
-    writing = rw (sub-zero, left-all file at width) (writing-start (progress (drop at file) width .made) out₀);
+    writing = rw sub-zero (writing-start (left file at width .made) out₀);
   }
 
-  row-fits : length (progress (drop at file) width .made) ≤ length out₀
+  row-fits : length (left file at width .made) ≤ length out₀
   row-fits = omega (arith, bounded (drop at file) width .fits)
 
-  module _ (out : List ℕ) (used to : ℕ) (p : Putting file at width out₀ out used to) where
-    module _ (r : Record) (is : r ≡ recordAt (drop (at + used) file) (width - to)) (h : to < width) (ok : fault r ≡ 0) where
+  module _ (out : List ℕ) (from to records : ℕ) (p : Putting file at width out₀ out from to records) where
+    module _ (r : Record) (is : r ≡ recordAt (drop from file) (width - to)) (h : to < width) (ok : fault r ≡ 0) where
       abbrev piece : List ℕ
-      piece = rowBytes r (drop (at + used) file)
+      piece = rowBytes r (drop from file)
 
       abbrev rest : List ℕ
-      rest = left file at (used + packedLen r) (width - (to + rowLen r)) .made
+      rest = left file (from + packedLen r) (width - (to + rowLen r)) .made
 
       room-left : width - to - rowLen r ≡ width - (to + rowLen r)
       room-left = omega arith
 
-      next : Writing (progress (drop at file) width .made) (piece ++ rest) out₀ out to
+      next : Writing (left file at width .made) (piece ++ rest) out₀ out to
       next =
-          let e = left-whole file at used (width - to) r is (omega arith) ok in
-          subst (λ (l : List ℕ). Writing (progress (drop at file) width .made) l out₀ out to)
-          (ap (λ (q : Progress). q .made) e ∙ ap (λ (k : ℕ). piece ++ left file at (used + packedLen r) k .made) room-left) (p .writing)
+          let e = left-whole file from (width - to) r is (omega arith) ok in
+          subst (λ (l : List ℕ). Writing (left file at width .made) l out₀ out to)
+          (ap (λ (q : Progress). q .made) e ∙ ap (λ (k : ℕ). piece ++ left file (from + packedLen r) k .made) room-left) (p .writing)
 
-      whole-next : WholeAt r file (at + used) (width - to)
-      whole-next = whole-at file (at + used) (width - to) r is ok
+      whole-next : WholeAt r file from (width - to)
+      whole-next = whole-at file from (width - to) r is ok
 
       pub record-fits : rowLen r ≤ length (take (length out - to) (drop to out))
       record-fits = omega (arith, piece-fits piece rest row-fits next, whole-next .makes)
 
       pub putting-turn : (last : List ℕ) → last ≡ over piece (take (length out - to) (drop to out))
-          → Putting file at width out₀ (putMid to (length out - to) out last) (used + packedLen r) (to + rowLen r)
+          → Putting file at width out₀ (putMid to (length out - to) out last) (from + packedLen r) (to + rowLen r) (records + 1)
       putting-turn last e =
           let w = whole-next in
           record {
             inside = omega (arith, w .fits);
-            reading = rw room-left at (reading-turn file at used (width - to) r is (omega arith) ok width (p .reading));
+            reading = rw room-left at (reading-turn file from (width - to) r is (omega arith) ok at width records (p .reading));
             writing = rw (w .makes) at (writing-more piece rest row-fits next last e);
           }
 
     -- no record is left, or the next is at fault
-    pub putting-done : (number : ℕ) → left file at used (width - to) ≡ stopped number
-        → (used ≡ putting file at width (length out₀) .bytes) × (out ≡ over (putting file at width (length out₀) .made) out₀)
-    putting-done number stop =
-        rw (putting-room file at width (length out₀) room) (
-          omega (arith, ap (λ (q : Progress). q .bytes) stop, p .reading .bytes),
-          writing-end (subst (λ (q : Progress). Writing (progress (drop at file) width .made) (q .made) out₀ out to) stop (p .writing)) .all,
-        )
+    pub putting-done : (number : ℕ) → left file from (width - to) ≡ stopped number → out ≡ over (left file at width .made) out₀
+    putting-done number stop = writing-end (subst (λ (q : Progress). Writing (left file at width .made) (q .made) out₀ out to) stop (p .writing)) .all

@@ -4,39 +4,61 @@ use mathlib.Core.Logic.{_↔_}
 use Prim.Native.Nat.{ℕ, _≤_, _<_}
 use native.Mathlib.Decide.{decLt}
 use native.Mathlib.Omega.{arith}
-use mathlib.Core.Bool.{Bool, true, false, cond}
+use mathlib.Core.Bool.{Bool, true, false, cond, _||_}
 use mathlib.Core.List.{List}
-use lib.ListN.{length, take}
-use lib.Dec.{eqb}
-use borrow.Author.Tests.{lt-ltb, le-ltb, eq-eqb, ne-eqb, eqb-false}
+use lib.ListN.{length, take, drop, length-append}
+use lib.Seq.{take-at}
+use lib.Dec.{ltb, eqb}
+use borrow.Author.Tests.{lt-ltb, le-ltb, eq-eqb, ne-eqb, eqb-false, ltb-false}
 use Rattle.lists.specs.Bytes.{Bytes}
 use Rattle.lists.specs.Over.{over}
 use Rattle.outcome.specs.Outcome.{Outcome, accepted, refused}
 use Rattle.outcome.specs.Refusal.{areaTooShort, outOfRange}
-use Rattle.packbits.specs.Row.{Row, done, rowAnswer, rowOutput}
-use Rattle.packbits.specs.Unpack.{Progress, outcomeOf, unpack, placed, unpackRow}
+use Rattle.packbits.specs.Row.{Row, done, rowAnswer, rowOutput, widthOutOfRange}
+use Rattle.packbits.specs.Unpack.{Progress, outcomeOf, unpack, placed, unpackAt, unpackRow}
 use Rattle.packbits.specs.Unpacks.{Unpacks}
 use Rattle.packbits.proofs.Exact.{exact}
+use Rattle.packbits.proofs.Unpack.{RowBounded}
+use Rattle.unpack.specs.RowAt.{unpackRowAt}
+
+-- ---- widths
+
+pub in-range : (width : ℕ) → widthOutOfRange width ≡ false → (0 < width) × (width ≤ 128)
+in-range width = go (eqb width 0) (ltb 128 width) refl refl
+  where
+    go : (a b : Bool) → eqb width 0 ≡ a → ltb 128 width ≡ b → (a || b) ≡ false → (0 < width) × (width ≤ 128)
+    go true b p q e = let z : _≡_ {A = ℕ} 0 1 = cc in absurd (omega arith)
+    go false b p q e = let ne : width ≡ 0 → ⊥ = eqb-false width 0 p in (omega arith, ltb-false 128 width (q ∙ e))
+
+pub of-range : (width : ℕ) → 0 < width → width ≤ 128 → widthOutOfRange width ≡ false
+of-range width some narrow = simp (ne-eqb width 0 (omega arith), le-ltb 128 width narrow)
 
 -- ---- the cases, in the order of judging
 
 module _ (packed : List ℕ) (width room : ℕ) where
-  pub row-empty : width ≡ 0 → unpackRow packed width room ≡ refused outOfRange 0
+  pub row-out : widthOutOfRange width ≡ true → unpackRow packed width room ≡ refused outOfRange 0
   unfolding unpackRow
-  row-empty h = simp (eq-eqb width 0 h)
+  row-out w = rw w
 
-  pub row-wide : 128 < width → unpackRow packed width room ≡ refused outOfRange 0
-  unfolding unpackRow
-  row-wide h = simp (ne-eqb width 0 (omega arith), lt-ltb 128 width h)
-
-  module _ (some : width ≡ 0 → ⊥) (narrow : width ≤ 128) where
+  module _ (w : widthOutOfRange width ≡ false) where
     pub row-short : room < width → unpackRow packed width room ≡ refused areaTooShort 0
     unfolding unpackRow
-    row-short h = simp (ne-eqb width 0 some, le-ltb 128 width narrow, lt-ltb room width h)
+    row-short h = rw (w, lt-ltb room width h)
 
     pub row-room : width ≤ room → unpackRow packed width room ≡ unpack packed width
     unfolding unpackRow
-    row-room h = simp (ne-eqb width 0 some, le-ltb 128 width narrow, le-ltb room width h)
+    row-room h = rw (w, le-ltb room width h)
+
+-- ---- the same from an offset of a file
+
+module _ (file : List ℕ) (at width : ℕ) where
+  pub at-out : widthOutOfRange width ≡ true → unpackRowAt file at width ≡ refused outOfRange 0
+  unfolding unpackRowAt
+  at-out w = rw w
+
+  pub at-range : widthOutOfRange width ≡ false → unpackRowAt file at width ≡ unpackAt file at width
+  unfolding unpackRowAt
+  at-range w = rw w
 
 -- ---- the answer and the output
 
@@ -49,15 +71,32 @@ pub refused-keeps : (o : Outcome Row) (out : List ℕ) → (rowAnswer o .number 
 refused-keeps (accepted r) out h = absurd (h refl)
 refused-keeps (refused number place) out h = refl
 
--- an accepted row stands at the front of the output
-pub accepted-output : (p : Progress) (out : List ℕ) → rowAnswer (outcomeOf p) .number ≡ 0 → rowOutput (outcomeOf p) out ≡ over (p .made) out
+-- a full row is accepted
+pub full-outcome : (at : ℕ) (p : Progress) → p .fault ≡ 0 → placed at (outcomeOf p) ≡ done (p .bytes) (p .records) (p .made)
 unfolding outcomeOf
-accepted-output p out = go (eqb (p .fault) 0) refl
+full-outcome at p e = simp (eq-eqb (p .fault) 0 e)
+
+-- an accepted row stands at the front of the output
+pub accepted-output : (at : ℕ) (p : Progress) (out : List ℕ) → rowAnswer (placed at (outcomeOf p)) .number ≡ 0
+    → rowOutput (placed at (outcomeOf p)) out ≡ over (p .made) out
+unfolding outcomeOf
+accepted-output at p out = go (eqb (p .fault) 0) refl
   where
-    go : (b : Bool) → eqb (p .fault) 0 ≡ b → rowAnswer (cond b (done (p .bytes) (p .records) (p .made)) (refused (p .fault) (p .bytes))) .number ≡ 0
-        → rowOutput (cond b (done (p .bytes) (p .records) (p .made)) (refused (p .fault) (p .bytes))) out ≡ over (p .made) out
+    go : (b : Bool) → eqb (p .fault) 0 ≡ b → rowAnswer (placed at (cond b (done (p .bytes) (p .records) (p .made)) (refused (p .fault) (p .bytes)))) .number ≡ 0
+        → rowOutput (placed at (cond b (done (p .bytes) (p .records) (p .made)) (refused (p .fault) (p .bytes)))) out ≡ over (p .made) out
     go true q e = refl
     go false q e = absurd (eqb-false _ _ q e)
+
+-- the buffer in which a row was made holds it, and copied from there it stands at the front of the output
+module _ (at : ℕ) (input : List ℕ) (width : ℕ) (buffer : List ℕ) where
+  pub made-inside : (o : Outcome Row) → RowBounded input width o → rowAnswer o .number ≡ 0 → width ≤ length (rowOutput (placed at o) buffer)
+  made-inside (accepted r) b e = omega (arith, b .0, length-append (r .made) (drop (length (r .made)) buffer))
+  made-inside (refused number place) b e = absurd (b .0 e)
+
+  pub made-copied : (o : Outcome Row) (out : List ℕ) → RowBounded input width o → rowAnswer o .number ≡ 0
+      → over (take width (rowOutput (placed at o) buffer)) out ≡ rowOutput o out
+  made-copied (accepted r) out b e = ap (λ (l : List ℕ). over l out) (take-at (r .made) (drop (length (r .made)) buffer) width (b .0))
+  made-copied (refused number place) out b e = absurd (b .0 e)
 
 -- ---- what is accepted
 
@@ -72,16 +111,16 @@ not-both p q = let z : _≡_ {A = ℕ} 0 1 = cc in omega arith
 -- row unpack accepts just that
 pub row-exact : (packed : List ℕ) (width room used records : ℕ) (row : List ℕ) → Bytes packed
     → (unpackRow packed width room ≡ done used records row) ↔ Accepts packed width room used records row
-row-exact packed width room used records row bytes = (there (decLt 0 width) (decLt 128 width) (decLt room width), back)
+row-exact packed width room used records row bytes = (there (widthOutOfRange width) refl (decLt room width), back)
   where
-    there : Dec (0 < width) → Dec (128 < width) → Dec (room < width) → unpackRow packed width room ≡ done used records row
+    there : (w : Bool) → widthOutOfRange width ≡ w → Dec (room < width) → unpackRow packed width room ≡ done used records row
         → Accepts packed width room used records row
-    there (no h) q t e = absurd (not-both (row-empty packed width room (omega arith)) e)
-    there (yes h) (yes k) t e = absurd (not-both (row-wide packed width room k) e)
-    there (yes h) (no k) (yes l) e = absurd (not-both (row-short packed width room (omega arith) (omega arith) l) e)
-    there (yes h) (no k) (no l) e =
-        let s = exact packed width used records row bytes .0 (sym (row-room packed width room (omega arith) (omega arith) (omega arith)) ∙ e) in
-        (h, omega arith, omega arith, s .0, s .1, s .2)
+    there true w t e = absurd (not-both (row-out packed width room w) e)
+    there false w (yes l) e = absurd (not-both (row-short packed width room w l) e)
+    there false w (no l) e =
+        let s = exact packed width used records row bytes .0 (sym (row-room packed width room w (omega arith)) ∙ e) in
+        let r = in-range width w in
+        (r .0, r .1, omega arith, s .0, s .1, s .2)
 
     back : Accepts packed width room used records row → unpackRow packed width room ≡ done used records row
-    back s = row-room packed width room (omega arith) (s .1) (s .2) ∙ exact packed width used records row bytes .1 (s .3, s .4, s .5)
+    back s = row-room packed width room (of-range width (s .0) (s .1)) (s .2) ∙ exact packed width used records row bytes .1 (s .3, s .4, s .5)

@@ -1,4 +1,4 @@
--- Where rows are to come, the next one is whole, and the others follow it. Assumes nothing.
+-- Where rows are to come and all are accepted, the next one is whole, and the others follow it. Assumes nothing.
 use mathlib.Core.Path.{_≡_, refl, sym, ap, _∙_, subst}
 use Prim.Native.Nat.{ℕ, _-_, _<_}
 use mathlib.Core.Bool.{Bool, true, false, cond}
@@ -17,15 +17,10 @@ use Rattle.unpack_rows.proofs.UnpackRows.{RowsBounded, rows-bounded}
 abbrev pub rowsOf : Outcome Rows → List (List ℕ)
 rowsOf o = later o (λ q. q .rows) []
 
--- of m rows to come, the first is full, and the others are accepted after it
+-- of m rows to come, the first is full, and the others follow it
 pub record Next (m width : ℕ) (input : List ℕ) : Type 0 where
   pub full : progress input width .fault ≡ 0
-  pub rest : rowsAnswer (unpackRows (m - 1) width (drop (progress input width .bytes) input)) .number ≡ 0
   pub rows : rowsOf (unpackRows m width input) ≡ progress input width .made ∷ rowsOf (unpackRows (m - 1) width (drop (progress input width .bytes) input))
-
-rest-number : (r : Row) (o : Outcome Rows) → rowsAnswer (rowThen r o) .number ≡ rowsAnswer o .number
-rest-number r (accepted q) = refl
-rest-number r (refused number place) = refl
 
 -- a refusal among the rows has a number
 rest-rows : (r : Row) (o : Outcome Rows) → ((number place : ℕ) → o ≡ refused number place → number ≡ 0 → ⊥) → rowsAnswer (rowThen r o) .number ≡ 0
@@ -55,7 +50,6 @@ next m width input h e =
         let r : Row = record { bytes = p .bytes; records = p .records; made = p .made } in
         record {
           full = eqb-true (p .fault) 0 q;
-          rest = sym (rest-number r (left (p .bytes))) ∙ n;
           rows = ap rowsOf is ∙ rest-rows r (left (p .bytes)) (refused-some (m - 1) width (drop (p .bytes) input)) n;
         }
     go false q is n = absurd (eqb-false (p .fault) 0 q n)

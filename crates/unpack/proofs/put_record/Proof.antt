@@ -10,14 +10,14 @@ use Rattle.unpack.proofs.put_record.Tie as tie
 enum-known-r : tie.Need-enum-known-r
 enum-known-r c = search needs
 
-add-put-literal : tie.Need-add-put-literal
-add-put-literal c = search needs
+add-put-part : tie.Need-add-put-part
+add-put-part c = search needs
 
-cast-put-literal : tie.Need-cast-put-literal
-cast-put-literal c = search needs
+cast-put-part : tie.Need-cast-put-part
+cast-put-part c = search needs
 
-put-literal-requires : tie.Need-put-literal-requires
-put-literal-requires c κs = let e = c .before .before .r .given .1 in omega (arith, ap packedLen e, ap rowLen e)
+put-part-requires : tie.Need-put-part-requires
+put-part-requires c κs = let e = c .before .before .r .given .1 in omega (arith, ap packedLen e, ap rowLen e)
 
 enum-known-r-2 : tie.Need-enum-known-r-2
 enum-known-r-2 c = search needs
@@ -50,7 +50,7 @@ returns : tie.Need-returns
 returns c =
     let a = c .before .before .before .before .before .before .before .before .before .args in
     let r = c .before .before .before .before .before .r .given in
-    c .before .before .put-literal .ensures ∙ put-literal (a .file .now) (a .out .now) (a .at) (a .r) (r .0 .0) (r .1)
+    c .before .before .put-part .ensures ∙ put-literal (a .file .now) (a .out .now) (a .at) (a .r) (r .0 .0) (r .1)
 
 same-length-2 : tie.Need-same-length-2
 same-length-2 c = search needs
@@ -75,9 +75,9 @@ put-record-spec =
     tie.close
     (tie.spec
     enum-known-r
-    add-put-literal
-    cast-put-literal
-    put-literal-requires
+    add-put-part
+    cast-put-part
+    put-part-requires
     enum-known-r-2
     add-put-repeat
     shared-slice-read-put-repeat

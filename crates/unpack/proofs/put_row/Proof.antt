@@ -1,43 +1,35 @@
 -- `unpack::put_row` meets its contract. The invariant is `Putting`, and the measure what is left of the file. Assumes nothing.
-use mathlib.Core.Path.{refl, sym, _∙_}
-use Prim.Native.Nat.{_+_, _-_}
+use mathlib.Core.Path.{_≡_, refl, sym, _∙_}
+use Prim.Native.Nat.{_-_}
 use native.Mathlib.Omega.{arith}
 use lib.ListN.{length}
 use borrow.Author.Needs.{needs}
 use Rattle.packbits.specs.Records.{fault}
 use Rattle.packbits.proofs.Records.{WholeAt, whole-at}
-use Rattle.unpack.proofs.Reading.{left-full, left-fault}
-use Rattle.unpack.proofs.Put.{putting-short, Putting, putting-start, record-fits, putting-turn, putting-done}
+use Rattle.unpack.proofs.Reading.{left-full, left-fault, answer-refused, answer-accepted}
+use Rattle.unpack.proofs.Put.{Putting, putting-start, record-fits, putting-turn, putting-done}
 use Rattle.unpack.proofs.put_row.Statement.{statement}
 use Rattle.unpack.proofs.put_row.Tie as tie
 
 abbrev Inv-loop : tie.InvT-loop
-Inv-loop file at width out₀ used₀ to₀ out used to = Putting file at width out₀ out used to
+Inv-loop file at width out₀ from₀ to₀ records₀ out from to records = Putting file at width out₀ out from to records
 
 abbrev μ-loop : tie.MeasureT-loop
-μ-loop file at width out₀ used₀ to₀ out used to = length file - at - used
+μ-loop file at width out₀ from₀ to₀ records₀ out from to records = length file - from
 
 -- in a turn that goes on the record is whole
-whole-here : (c : tie.Else2 Inv-loop μ-loop)
+whole-here : (c : tie.Else1 Inv-loop μ-loop)
     → let l = c .before .before .before .before .loop in
-    let a = c .before .before .before .before .before .before .before .before .args in
-    WholeAt (c .before .before .record-at .result) (a .file .now) (a .at + l .used) (a .width - l .to)
+    let a = c .before .before .before .before .before .before .before .args in
+    WholeAt (c .before .before .record-at .result) (a .file .now) (l .from) (a .width - l .to)
 whole-here c =
     let rec = c .before .before .record-at in
-    whole-at _ _ _ (rec .result) (rec .ensures) (sym (c .before .fault-of .ensures) ∙ c .if2 .left)
-
-returns : tie.Need-returns Inv-loop μ-loop
-returns c =
-    let a = c .before .before .before .args in
-    rw (putting-short (a .file .now) (a .at) (a .width) (length (a .out .now)) (c .if1 .taken)) (refl, refl)
+    whole-at _ _ _ (rec .result) (rec .ensures) (sym (c .before .fault-of .ensures) ∙ c .if1 .left)
 
 loop-holds : tie.Need-loop-holds Inv-loop μ-loop
 loop-holds c =
-    let a = c .before .before .before .args in
-    putting-start (a .file .now) (a .at) (a .width) (a .out .now) (c .if1 .left)
-
-add-record-at : tie.Need-add-record-at Inv-loop μ-loop
-add-record-at c = omega (arith, c .before .loop .inv .reading .within)
+    let a = c .before .before .args in
+    putting-start (a .file .now) (a .at) (a .width) (a .out .now) (omega arith)
 
 sub-record-at : tie.Need-sub-record-at Inv-loop μ-loop
 sub-record-at c = omega arith
@@ -51,16 +43,17 @@ fault-of-requires c κs = search needs
 same-length : tie.Need-same-length Inv-loop μ-loop
 same-length c = c .before .before .before .before .loop .inv .writing .kept
 
-returns-2 : tie.Need-returns-2 Inv-loop μ-loop
-returns-2 c =
+returns : tie.Need-returns Inv-loop μ-loop
+returns c =
     let rec = c .before .before .record-at in
     let l = c .before .before .before .before .loop in
-    let a = c .before .before .before .before .before .before .before .before .args in
-    putting-done (a .file .now) (a .at) (a .width) (a .out .now) (c .before .before .before .before .before .if1 .left) (l .out) (l .used) (l .to) (l .inv) (fault (rec .result))
-    (left-fault (a .file .now) (a .at) (l .used) (a .width - l .to) (rec .result) (rec .ensures) (omega arith) (λ e. c .if2 .taken (c .before .fault-of .ensures ∙ e)))
-
-add-put-record : tie.Need-add-put-record Inv-loop μ-loop
-add-put-record c = omega (arith, c .before .before .before .before .loop .inv .reading .within)
+    let a = c .before .before .before .before .before .before .before .args in
+    let bad : fault (rec .result) ≡ 0 → ⊥ = λ e. c .if1 .taken (c .before .fault-of .ensures ∙ e) in
+    let stop = left-fault (a .file .now) (l .from) (a .width - l .to) (rec .result) (rec .ensures) (omega arith) bad in
+    rw (c .before .fault-of .ensures) (
+      sym (answer-refused (a .file .now) (a .at) (a .width) (l .from) (a .width - l .to) (l .records) (l .inv .reading) (fault (rec .result)) stop bad),
+      putting-done (a .file .now) (a .at) (a .width) (a .out .now) (omega arith) (l .out) (l .from) (l .to) (l .records) (l .inv) (fault (rec .result)) stop,
+    )
 
 sub-put-record : tie.Need-sub-put-record Inv-loop μ-loop
 sub-put-record c = c .before .before .before .before .loop .inv .writing .room
@@ -75,23 +68,29 @@ put-record-requires : tie.Need-put-record-requires Inv-loop μ-loop
 put-record-requires c κs =
     let rec = c .before .before .before .record-at in
     let l = c .before .before .before .before .before .loop in
-    let a = c .before .before .before .before .before .before .before .before .before .args in (
+    let a = c .before .before .before .before .before .before .before .before .args in (
       whole-here (c .before) .has,
-      record-fits (a .file .now) (a .at) (a .width) (a .out .now) (c .before .before .before .before .before .before .if1 .left) (l .out) (l .used) (l .to) (l .inv) (rec .result) (rec .ensures)
-          (c .before .before .before .before .loop-test .taken) (sym (c .before .before .fault-of .ensures) ∙ c .before .if2 .left),
+      record-fits (a .file .now) (a .at) (a .width) (a .out .now) (omega arith) (l .out) (l .from) (l .to) (l .records) (l .inv) (rec .result) (rec .ensures)
+          (c .before .before .before .before .loop-test .taken) (sym (c .before .before .fault-of .ensures) ∙ c .before .if1 .left),
     )
 
 packed-len-requires : tie.Need-packed-len-requires Inv-loop μ-loop
 packed-len-requires c κs = search needs
 
-add-used : tie.Need-add-used Inv-loop μ-loop
-add-used c = let w = whole-here (c .before .before .before .before .before) in omega (arith, w .has, c .packed-len .ensures)
+add-from : tie.Need-add-from Inv-loop μ-loop
+add-from c = let w = whole-here (c .before .before .before .before .before) in omega (arith, w .has, c .packed-len .ensures)
 
 row-len-requires : tie.Need-row-len-requires Inv-loop μ-loop
 row-len-requires c κs = search needs
 
 add-to : tie.Need-add-to Inv-loop μ-loop
 add-to c = let w = whole-here (c .before .before .before .before .before .before) in omega (arith, w .fits, c .row-len .ensures)
+
+add-records : tie.Need-add-records Inv-loop μ-loop
+add-records c =
+    let turn = c .before .before .before .before .before .before in
+    let w = whole-here turn in
+    omega (arith, w .has, turn .before .before .before .before .loop .inv .reading .counted)
 
 loop-less : tie.Need-loop-less Inv-loop μ-loop
 loop-less c =
@@ -103,20 +102,25 @@ loop-again c =
     let turn = c .before .before .before .before .before .before in
     let rec = turn .before .before .record-at in
     let l = turn .before .before .before .before .loop in
-    let a = turn .before .before .before .before .before .before .before .before .args in
+    let a = turn .before .before .before .before .before .before .before .args in
     rw (c .before .packed-len .ensures, c .row-len .ensures)
-    (putting-turn (a .file .now) (a .at) (a .width) (a .out .now) (turn .before .before .before .before .before .if1 .left) (l .out) (l .used) (l .to) (l .inv) (rec .result) (rec .ensures)
-    (turn .before .before .before .loop-test .taken) (sym (turn .before .fault-of .ensures) ∙ turn .if2 .left) _ (c .before .before .before .before .put-record .ensures))
+    (putting-turn (a .file .now) (a .at) (a .width) (a .out .now) (omega arith) (l .out) (l .from) (l .to) (l .records) (l .inv) (rec .result) (rec .ensures)
+    (turn .before .before .before .loop-test .taken) (sym (turn .before .fault-of .ensures) ∙ turn .if1 .left) _ (c .before .before .before .before .put-record .ensures))
+
+sub-t16 : tie.Need-sub-t16 Inv-loop μ-loop
+sub-t16 c = omega (arith, c .before .loop .inv .reading .counted)
 
 same-length-2 : tie.Need-same-length-2 Inv-loop μ-loop
 same-length-2 c = c .before .loop .inv .writing .kept
 
-returns-3 : tie.Need-returns-3 Inv-loop μ-loop
-returns-3 c =
+returns-2 : tie.Need-returns-2 Inv-loop μ-loop
+returns-2 c =
     let l = c .before .loop in
-    let a = c .before .before .before .before .before .args in
-    putting-done (a .file .now) (a .at) (a .width) (a .out .now) (c .before .before .if1 .left) (l .out) (l .used) (l .to) (l .inv) 0
-    (left-full (a .file .now) (a .at) (l .used) (a .width - l .to) (omega (arith, c .loop-test .left)))
+    let a = c .before .before .before .before .args in
+    let stop = left-full (a .file .now) (l .from) (a .width - l .to) (omega (arith, c .loop-test .left)) in (
+      sym (answer-accepted (a .file .now) (a .at) (a .width) (l .from) (a .width - l .to) (l .records) (l .inv .reading) 0 stop refl),
+      putting-done (a .file .now) (a .at) (a .width) (a .out .now) (omega arith) (l .out) (l .from) (l .to) (l .records) (l .inv) 0 stop,
+    )
 
 pub put-row-spec : {M : Type 1} → statement M
 put-row-spec =
@@ -124,24 +128,23 @@ put-row-spec =
     (tie.spec
     Inv-loop
     μ-loop
-    returns
     loop-holds
-    add-record-at
     sub-record-at
     record-at-requires
     fault-of-requires
     same-length
-    returns-2
-    add-put-record
+    returns
     sub-put-record
     part-put-record-start
     part-put-record-end
     put-record-requires
     packed-len-requires
-    add-used
+    add-from
     row-len-requires
     add-to
+    add-records
     loop-less
     loop-again
+    sub-t16
     same-length-2
-    returns-3)
+    returns-2)

@@ -1,12 +1,12 @@
--- `unpack::put_repeat` meets its contract. The invariant: k bytes are written over the front. Assumes nothing.
+-- `unpack::put_run` meets its contract. The invariant: k bytes are written over the front. Assumes nothing.
 use mathlib.Core.Path.{_≡_, refl, sym, _∙_}
 use Prim.Native.Nat.{_-_, _≤_}
 use native.Mathlib.Omega.{arith}
 use lib.ListN.{length, take, replicate, length-set, length-replicate, getD-replicate}
 use Rattle.lists.specs.Over.{over}
 use Rattle.lists.proofs.Over.{over-turn, over-done}
-use Rattle.unpack.proofs.put_repeat.Statement.{statement}
-use Rattle.unpack.proofs.put_repeat.Tie as tie
+use Rattle.unpack.proofs.put_run.Statement.{statement}
+use Rattle.unpack.proofs.put_run.Tie as tie
 
 abbrev Inv-loop : tie.InvT-loop
 Inv-loop byte n out₀ k₀ out k = (k ≤ n) × (length out ≡ length out₀) × (out ≡ over (take k (replicate n byte)) out₀)
@@ -45,8 +45,8 @@ returns c =
     let a = c .before .before .args in
     over-done (replicate (a .n) (a .byte)) (a .out .now) (l .out) (l .k) (omega (arith, length-replicate (a .n) (a .byte))) (l .inv .2)
 
-pub put-repeat-spec : {M : Type 1} → statement M
-put-repeat-spec =
+pub put-run-spec : {M : Type 1} → statement M
+put-run-spec =
     tie.close
     (tie.spec
     Inv-loop

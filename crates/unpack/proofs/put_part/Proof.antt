@@ -1,11 +1,11 @@
--- `unpack::put_literal` meets its contract: one byte is put by a store, and else what `copy` wrote is the part that was lent. Assumes nothing.
+-- `unpack::put_part` meets its contract: one byte is put by a store, and else what `copy` wrote is the part that was lent. Assumes nothing.
 use mathlib.Core.Path.{refl}
 use native.Mathlib.Omega.{arith}
 use Rattle.lists.proofs.Parts.{copied-part}
 use borrow.Author.Needs.{needs}
 use Rattle.unpack.proofs.Records.{put-one}
-use Rattle.unpack.proofs.put_literal.Statement.{statement}
-use Rattle.unpack.proofs.put_literal.Tie as tie
+use Rattle.unpack.proofs.put_part.Statement.{statement}
+use Rattle.unpack.proofs.put_part.Tie as tie
 
 shared-slice-read-out : tie.Need-shared-slice-read-out
 shared-slice-read-out c = search needs
@@ -19,7 +19,7 @@ same-length c = search needs
 returns : tie.Need-returns
 returns c =
     let a = c .before .before .before .before .args in
-    put-one (a .file .now) (a .out .now) (a .from) (a .n) (omega arith) (omega arith) (omega arith)
+    put-one (a .source .now) (a .out .now) (a .from) (a .n) (omega arith) (omega arith) (omega arith)
 
 add-end : tie.Need-add-end
 add-end c = search needs
@@ -42,10 +42,10 @@ same-length-2 c = search needs
 returns-2 : tie.Need-returns-2
 returns-2 c =
     let a = c .before .before .before .before .before .before .before .before .args in
-    copied-part (a .file .now) (a .out .now) _ (a .from) (a .n) _ refl (c .before .before .copy .ensures .1)
+    copied-part (a .source .now) (a .out .now) _ (a .from) (a .n) _ refl (c .before .before .copy .ensures .1)
 
-pub put-literal-spec : {M : Type 1} → statement M
-put-literal-spec =
+pub put-part-spec : {M : Type 1} → statement M
+put-part-spec =
     tie.close
     (tie.spec
     shared-slice-read-out
