@@ -1,13 +1,13 @@
 // PackBits: one row of 1 to 128 bytes packed to its least body. Definitions: specs/.
 ghost use mathlib.Core.Path.{_≡_};
-ghost use Prim.Native.Nat.{_-_, _≤_, _<_};
+ghost use Prim.Native.Nat.{_+_, _-_, _≤_, _<_};
 ghost use mathlib.Core.List.{[]};
 ghost use lib.ListN.{length, drop};
 ghost use Rattle.lists.specs.Over.{over};
 ghost use Rattle.packbits.specs.Row.{rowAnswer, rowOutput, widthOutOfRange};
 ghost use Rattle.pack.specs.Least.{least, leastRecords};
 ghost use Rattle.pack.specs.Controls.{recordOf, takenBy, shownBy, ControlsFrom};
-ghost use Rattle.pack.specs.Costs.{costsOf, Small, literalOf, repeatOf, costsWith, stepCosts};
+ghost use Rattle.pack.specs.Costs.{costsOf, Small, Chosen, literalOf, repeatOf, costsWith, stepCosts};
 ghost use Rattle.pack.specs.Pack.{packRow, packInto, packedLen};
 use outcome::AREA_TOO_SHORT;
 use outcome::OUT_OF_RANGE;
@@ -104,11 +104,30 @@ fn costs_with(x: u8, l: Literal, r: Repeat) -> Costs
     }
 }
 
-// The suffix that begins one byte further left, with the byte x.
+// The suffix that begins one equal byte further left, where the repeat is chosen: it goes on.
+fn lengthened(t: Costs) -> Costs
+    requires { ⌜ Small t × Chosen t × (t .after + 1 < t .rest) ⌝ }
+    ensures { λ r. ⌜ r ≡ stepCosts (t .byte) t ⌝ }
+{
+    Costs {
+        best: t.best,
+        control: t.control - 1,
+        more: 0,
+        rest: t.best + 1,
+        byte: t.byte,
+        count: t.count + 1,
+        after: t.after,
+    }
+}
+
+// The suffix that begins one byte further left, with the byte x. In a run, where nothing is to be compared, it costs less.
 fn step(x: u8, t: Costs) -> Costs
-    requires { ⌜ Small t ⌝ }
+    requires { ⌜ Small t × Chosen t ⌝ }
     ensures { λ r. ⌜ r ≡ stepCosts x t ⌝ }
 {
+    if x == t.byte && t.after + 1 < t.rest {
+        return lengthened(t);
+    }
     let l = literal_of(t);
     let r = repeat_of(x, t);
     costs_with(x, l, r)

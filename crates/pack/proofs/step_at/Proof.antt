@@ -3,8 +3,8 @@ use Prim.Native.Nat.{_-_}
 use native.Mathlib.Omega.{arith}
 use mathlib.Core.Path.{sym, ap, _∙_, subst}
 use lib.ListN.{getD, drop, length-drop}
-use Rattle.pack.specs.Costs.{Small, stepCosts}
-use Rattle.pack.proofs.Lengths.{costs-before, costs-small}
+use Rattle.pack.specs.Costs.{Small, Chosen, stepCosts}
+use Rattle.pack.proofs.Lengths.{costs-before, chosen, costs-small}
 use borrow.Author.Needs.{needs}
 use Rattle.pack.proofs.step_at.Statement.{statement}
 use Rattle.pack.proofs.step_at.Tie as tie
@@ -19,7 +19,8 @@ step-requires : tie.Need-step-requires
 step-requires c κs =
     let a = c .before .before .args in
     let row = a .row .now in
-    subst Small (sym (c .before .before .pre .3)) (costs-small (drop (a .i) row) (omega (arith, length-drop (a .i) row)))
+    let e = sym (c .before .before .pre .3) in
+    (subst Small e (costs-small (drop (a .i) row) (omega (arith, length-drop (a .i) row))), subst Chosen e (chosen (drop (a .i) row)))
 
 returns : tie.Need-returns
 returns c =
