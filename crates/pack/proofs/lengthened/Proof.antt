@@ -15,7 +15,9 @@ add-t4 : tie.Need-add-t4
 add-t4 c = search needs
 
 returns : tie.Need-returns
-returns c = let s = c .before .before .before in step-lengthened (s .args .t) (s .pre .1) (s .pre .2)
+returns c =
+    let s = c .before .before .before in
+    (step-lengthened (s .args .t) (s .pre .1) (s .pre .2), omega (arith, s .pre .1 (s .pre .2)))
 
 pub lengthened-spec : {M : Type 1} → statement M
 lengthened-spec = tie.close (tie.spec sub-t2 add-t3 add-t4 returns)
