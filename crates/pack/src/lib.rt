@@ -1,8 +1,8 @@
 // PackBits: one row of 1 to 128 bytes packed to its least body. Definitions: specs/.
 ghost use mathlib.Core.Path.{_≡_};
-ghost use Prim.Native.Nat.{_+_, _-_, _≤_, _<_};
+ghost use Prim.Native.Nat.{_+_, _≤_, _<_};
 ghost use mathlib.Core.List.{[]};
-ghost use lib.ListN.{length, drop};
+ghost use lib.ListN.{length};
 ghost use Rattle.lists.specs.Over.{over};
 ghost use Rattle.packbits.specs.Row.{rowAnswer, rowOutput, widthOutOfRange};
 ghost use Rattle.pack.specs.Least.{least, leastRecords};

@@ -1,11 +1,11 @@
 -- `writer::body::body_too_long` meets its contract. The loop keeps `Most`: a turn is `most-turn`. Assumes nothing.
-use mathlib.Core.Path.{_≡_, sym}
+use mathlib.Core.Path.{sym}
 use Prim.Native.Nat.{_+_, _-_, _≤_, _<_}
 use native.Mathlib.Omega.{arith}
 use borrow.Author.Tests.{le-leb, lt-leb}
 use denote.Ref.{now}
 use lib.ListN.{length}
-use Rattle.resolution.specs.Shapes.{planeRowsOf, rowBytesOf}
+use Rattle.resolution.specs.Shapes.{planeRowsOf}
 use Rattle.resolution.proofs.Shapes.{rowBytes-le, planeRows-le}
 use Rattle.writer.specs.Write.{leastBody}
 use Rattle.writer.proofs.LeastBody.{row-longest, Most, most-start, most-bound, most-turn, most-end}
