@@ -1,9 +1,10 @@
 -- The scan in lengths follows the scan of bodies, and its numbers are small. Assumes nothing.
-use Prim.Native.Nat.{ℕ, suc, _-_, _≤_}
+use Prim.Native.Nat.{ℕ, suc, _+_, _-_, _≤_, _<_}
 use native.Mathlib.Omega.{arith}
 use native.Mathlib.Numerals.{add-one, add-two}
-use mathlib.Core.Path.{_≡_, sym, ap, ap₂, _∙_}
+use mathlib.Core.Path.{_≡_, refl, sym, ap, ap₂, _∙_}
 use mathlib.Core.List.{List, [], _∷_}
+use borrow.Author.Tests.{le-leb, lt-leb, eq-eqb}
 use lib.ListN.{length, getD, drop}
 use lib.Seq.{drop-cons}
 use lib.Dec.{leb, eqb}
@@ -12,8 +13,8 @@ use Rattle.pack.specs.declared.Costs.{Costs}
 use Rattle.pack.specs.declared.Literal.{Literal}
 use Rattle.pack.specs.declared.Repeat.{Repeat}
 use Rattle.pack.specs.Least.{Body, size, Opening, Run, openingOf, runOf, bestOf, with-byte, literalBody, repeatBody, step, scan}
-use Rattle.pack.specs.Costs.{costsOf, Small, literalOf, repeatOf, costsWith, stepCosts}
-use Rattle.pack.proofs.Least.{run-byte, more-bound, count-bound, after≤best}
+use Rattle.pack.specs.Costs.{costsOf, Small, Chosen, literalOf, repeatOf, costsWith, stepCosts}
+use Rattle.pack.proofs.Least.{best-cases, run-byte, more-bound, count-bound, after≤best}
 use Rattle.pack.proofs.Bounds.{opening-bound, least-bound}
 
 -- ---- the lengths of what a step makes are made from the lengths of what it has
@@ -77,6 +78,24 @@ drop-before row i h l =
 pub costs-before : (row : List ℕ) (i : ℕ) → 1 ≤ i → i ≤ length row
     → costsOf (drop (i - 1) row) ≡ stepCosts (getD row (i - 1) 0) (costsOf (drop i row))
 costs-before row i h l = ap costsOf (drop-before row i h l) ∙ costs-step (getD row (i - 1) 0) (drop i row)
+
+-- ---- a run that goes on
+
+pub chosen : (s : List ℕ) → Chosen (costsOf s)
+unfolding scan
+chosen [] h = absurd (omega arith)
+chosen (x ∷ s) h =
+    best-cases x (scan s) (λ b. (size b ≡ size (scan (x ∷ s) .run .after) + 2) × (getD (b .bytes) 0 0 ≡ 257 - scan (x ∷ s) .run .count))
+    (λ l. absurd (omega arith))
+    (λ l. (omega arith, refl))
+
+-- the repeat stays chosen, one byte longer
+pub step-lengthened : (t : Costs) → Chosen t → t .after + 1 < t .rest
+    → _≡_ {A = Costs} (record { best = t .best; control = t .control - 1; more = 0; rest = t .best + 1; byte = t .byte; count = t .count + 1; after = t .after }) (stepCosts (t .byte) t)
+step-lengthened t k h =
+    let b : t .best ≡ t .after + 2 = k h .0 in
+    let c : t .control - 1 ≡ 257 - (t .count + 1) = omega (arith, k h .1) in
+    rw (le-leb (t .best) (t .rest) (omega arith), eq-eqb (t .byte) (t .byte) refl, lt-leb (t .best + 1) (t .after + 1) (omega arith), c, b) refl
 
 -- ---- no sum overflows
 

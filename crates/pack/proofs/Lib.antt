@@ -7,5 +7,6 @@ pub mod Optimal
 pub mod Order
 pub mod Pack
 pub mod RoundTrip
+pub mod Scanned
 pub mod Unique
 pub mod Valid

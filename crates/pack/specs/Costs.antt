@@ -1,5 +1,6 @@
 -- The scan of Least.antt in lengths alone, as the code keeps it. No public contract cites it. Assumes nothing: these are definitions.
-use Prim.Native.Nat.{ℕ, _+_, _-_, _≤_}
+use Prim.Native.Nat.{ℕ, _+_, _-_, _≤_, _<_}
+use mathlib.Core.Path.{_≡_}
 use mathlib.Core.Bool.{cond}
 use mathlib.Core.List.{List}
 use lib.ListN.{getD}
@@ -29,6 +30,10 @@ pub record Small (t : Costs) : Type 0 where
   pub rest : t .rest ≤ 1000
   pub count : t .count ≤ 255
   pub after : t .after ≤ 1000
+
+-- where the repeat is shorter than the literal, the least body begins with it
+abbrev pub Chosen : Costs → Type 0
+Chosen t = t .after + 1 < t .rest → (t .best ≡ t .after + 2) × (t .control ≡ 257 - t .count)
 
 -- the literal from one byte further left
 abbrev pub literalOf : Costs → Literal

@@ -3,3 +3,4 @@ pub mod Costs
 pub mod IsLeast
 pub mod Least
 pub mod Pack
+pub mod Scanned

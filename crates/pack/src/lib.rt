@@ -1,13 +1,14 @@
 // PackBits: one row of 1 to 128 bytes packed to its least body. Definitions: specs/.
 ghost use mathlib.Core.Path.{_≡_};
-ghost use Prim.Native.Nat.{_-_, _≤_, _<_};
+ghost use Prim.Native.Nat.{_+_, _≤_, _<_};
 ghost use mathlib.Core.List.{[]};
-ghost use lib.ListN.{length, drop};
+ghost use lib.ListN.{length};
 ghost use Rattle.lists.specs.Over.{over};
 ghost use Rattle.packbits.specs.Row.{rowAnswer, rowOutput, widthOutOfRange};
 ghost use Rattle.pack.specs.Least.{least, leastRecords};
 ghost use Rattle.pack.specs.Controls.{recordOf, takenBy, shownBy, ControlsFrom};
-ghost use Rattle.pack.specs.Costs.{costsOf, Small, literalOf, repeatOf, costsWith, stepCosts};
+ghost use Rattle.pack.specs.Costs.{costsOf, Small, Chosen, literalOf, repeatOf, costsWith, stepCosts};
+ghost use Rattle.pack.specs.Scanned.{Scanned};
 ghost use Rattle.pack.specs.Pack.{packRow, packInto, leastLen};
 use outcome::AREA_TOO_SHORT;
 use outcome::OUT_OF_RANGE;
@@ -114,6 +115,23 @@ fn step(x: u8, t: Costs) -> Costs
     costs_with(x, l, r)
 }
 
+// The same with the byte of the run, where the repeat is chosen: it stays so.
+fn lengthened(t: Costs) -> Costs
+    requires { ⌜ Small t × Chosen t × (t .after + 1 < t .rest) ⌝ }
+    ensures { λ r. ⌜ r ≡ stepCosts (t .byte) t ⌝ }
+    ensures { λ r. ⌜ r .after + 1 < r .rest ⌝ }
+{
+    Costs {
+        best: t.best,
+        control: t.control - 1,
+        more: 0,
+        rest: t.best + 1,
+        byte: t.byte,
+        count: t.count + 1,
+        after: t.after,
+    }
+}
+
 // The empty suffix.
 fn costs_at_end() -> Costs
     ensures { λ r. ⌜ r ≡ costsOf [] ⌝ }
@@ -129,40 +147,57 @@ fn costs_at_end() -> Costs
     }
 }
 
-// From the suffix at the place i to the one at the place before it.
-fn step_at(row: &[u8], i: usize, t: Costs) -> Costs
-    requires { ⌜ (1 ≤ i) × (i ≤ length (now row)) × (length (now row) ≤ 128) × (t ≡ costsOf (drop i (now row))) ⌝ }
-    ensures { λ r. ⌜ r ≡ costsOf (drop (i - 1) (now (row .entry))) ⌝ }
-{
-    step(row[i - 1], t)
+// How far a scan of a row from its right end has come: to the suffix at this place.
+struct Scan {
+    at: usize,
+    costs: Costs,
 }
 
-// For each place of a row the control byte that the least body of the rest of the row begins with, and the length of the whole row's
-// least body.
-struct Plan {
-    controls: [u8; MAX_WIDTH],
-    bytes: usize,
+// One byte further left, with its control byte.
+fn scan_byte(row: &[u8], s: Scan, controls: &mut [u8; MAX_WIDTH]) -> Scan
+    requires { ⌜ (1 ≤ s .at) × (length (now row) ≤ 128) × Scanned (now row) (now controls) (s .at) (s .costs) ⌝ }
+    ensures { λ r. ⌜ (r .at < s .at) × Scanned (now (row .entry)) (now (controls .exit)) (r .at) (r .costs) ⌝ }
+{
+    let at = s.at - 1;
+    let t = step(row[at], s.costs);
+    controls[at] = t.control as u8;
+    Scan { at, costs: t }
 }
 
-// One scan of the row, from its right end.
-fn plan_of(row: &[u8]) -> Plan
-    requires { ⌜ length (now row) ≤ 128 ⌝ }
-    ensures { λ r. ⌜ ControlsFrom (now (row .entry)) (r .controls) 0 ⌝ }
-    ensures { λ r. ⌜ r .bytes ≡ length (least (now (row .entry))) ⌝ }
+// As far to the left as a run goes on for which the repeat is chosen. Nothing is to be compared there.
+fn scan_run(row: &[u8], s: Scan, controls: &mut [u8; MAX_WIDTH]) -> Scan
+    requires { ⌜ (length (now row) ≤ 128) × Scanned (now row) (now controls) (s .at) (s .costs) ⌝ }
+    ensures { λ r. ⌜ (r .at ≤ s .at) × Scanned (now (row .entry)) (now (controls .exit)) (r .at) (r .costs) ⌝ }
 {
-    let mut controls = [0u8; MAX_WIDTH];
-    let mut t = costs_at_end();
-    let mut i = row.len();
-    while 0 < i {
-        t = step_at(row, i, t);
-        i -= 1;
-        let c = t.control;
-        controls[i] = c as u8;
+    let mut t = s.costs;
+    if t.rest <= t.after + 1 {
+        return s;
     }
-    Plan {
-        controls,
-        bytes: t.best,
+    let mut at = s.at;
+    while 0 < at && row[at - 1] == t.byte {
+        t = lengthened(t);
+        at -= 1;
+        controls[at] = t.control as u8;
     }
+    Scan { at, costs: t }
+}
+
+// For each place of the row the control byte that the least body of the rest of the row begins with. Gives the length of the whole
+// row's least body.
+fn plan_of(row: &[u8], controls: &mut [u8; MAX_WIDTH]) -> usize
+    requires { ⌜ (length (now row) ≤ 128) × (length (now controls) ≡ 128) ⌝ }
+    ensures { λ r. ⌜ r ≡ length (least (now (row .entry))) ⌝ }
+    ensures { λ _. ⌜ ControlsFrom (now (row .entry)) (now (controls .exit)) 0 ⌝ }
+{
+    let mut s = Scan {
+        at: row.len(),
+        costs: costs_at_end(),
+    };
+    while 0 < s.at {
+        let byte = scan_byte(row, s, controls);
+        s = scan_run(row, byte, controls);
+    }
+    s.costs.best
 }
 
 // One record: the bytes of the row that it stands for, and the bytes that it is.
@@ -234,8 +269,8 @@ pub fn packed_len(row: &[u8]) -> usize
     if MAX_WIDTH < row.len() {
         return 0;
     }
-    let p = plan_of(row);
-    p.bytes
+    let mut controls = [0u8; MAX_WIDTH];
+    plan_of(row, &mut controls)
 }
 
 // Whether a row of this width is refused.
@@ -253,15 +288,16 @@ pub fn pack_into(row: &[u8], out: &mut [u8]) -> RowAnswer
     if width_out_of_range(row.len()) {
         return packbits::row_refused(OUT_OF_RANGE);
     }
-    let p = plan_of(row);
-    if out.len() < p.bytes {
+    let mut controls = [0u8; MAX_WIDTH];
+    let bytes = plan_of(row, &mut controls);
+    if out.len() < bytes {
         return packbits::row_refused(AREA_TOO_SHORT);
     }
-    let records = emit(row, &p.controls, out);
+    let records = emit(row, &controls, out);
     RowAnswer {
         number: 0,
         place: 0,
-        bytes: p.bytes,
+        bytes,
         records,
     }
 }

@@ -2,7 +2,8 @@
 use mathlib.Core.Path.{_≡_, refl, sym, ap, _∙_, subst}
 use mathlib.Core.Bool.{false}
 use mathlib.Core.List.{List, _++_}
-use Prim.Native.Nat.{ℕ, _+_, _-_, _*_, _≤_, _<_}
+use Prim.Native.Nat.{ℕ, zero, suc, _+_, _-_, _*_, _≤_, _<_}
+use native.Mathlib.Nat.{suc-mul, mul-add}
 use native.Mathlib.Omega.{arith}
 use borrow.Author.Tests.{le-leb}
 use borrow.Rule.Slice.PartMut.{putMid}
@@ -22,7 +23,7 @@ use Rattle.pack.proofs.Bounds.{least-bound}
 use Rattle.pack.proofs.Pack.{pack-done}
 use Rattle.pack_rows.specs.LeastRows.{leastRows, leastRowsRecords}
 use Rattle.pack_rows.proofs.LeastRows.{leastRecords-bound, leastRows-next, leastRowsRecords-next, leastRows-past, leastRowsRecords-past}
-use Rattle.resolution.proofs.Shapes.{rowBytes-le}
+use Rattle.resolution.proofs.Shapes.{planeRows-rowBytes, rowBytes-le}
 use Rattle.screen.specs.PlaneRows.{planeRow, planeRows, takeRow}
 use Rattle.screen.proofs.Judged.{judgeRow-accepted}
 use Rattle.screen.proofs.PlaneRows.{length-planeRow, length-planeRows, getD-planeRows}
@@ -40,9 +41,12 @@ module _ (s : List ℕ) (r : Resolution) (n : ℕ) where
   row-narrow : length (planeRow s r n) ≤ 128
   row-narrow = omega (arith, length-planeRow s r n, rowBytes-le r)
 
-  -- its least body is at most 81 bytes long
+  -- its least body has at most one byte more than the row, 81 at most
+  pub row-longest : length (least (planeRow s r n)) ≤ rowBytesOf r + 1
+  row-longest = omega (arith, least-bound (planeRow s r n), length-planeRow s r n)
+
   pub row-bound : length (least (planeRow s r n)) ≤ 81
-  row-bound = omega (arith, least-bound (planeRow s r n), length-planeRow s r n, rowBytes-le r)
+  row-bound = omega (arith, row-longest, rowBytes-le r)
 
   pub row-records : leastRecords (planeRow s r n) ≤ length (least (planeRow s r n))
   row-records = leastRecords-bound (planeRow s r n) row-narrow
@@ -95,15 +99,67 @@ module _ (s : List ℕ) (r : Resolution) (n : ℕ) (h : n < planeRowsOf r) where
       leastRowsRecords-next (planeRows s r) n within
       ∙ ap (λ (row : List ℕ). leastRecords row + leastRowsRecords (drop (n + 1) (planeRows s r))) (getD-planeRows s r n h)
 
-  pub length-next : length (leastRows (drop n (planeRows s r))) ≡ length (least (planeRow s r n)) + length (leastRows (drop (n + 1) (planeRows s r)))
+  length-next : length (leastRows (drop n (planeRows s r))) ≡ length (least (planeRow s r n)) + length (leastRows (drop (n + 1) (planeRows s r)))
   length-next = ap length body-next ∙ length-append (least (planeRow s r n)) (leastRows (drop (n + 1) (planeRows s r)))
 
 module _ (s : List ℕ) (r : Resolution) (n : ℕ) (h : planeRowsOf r ≤ n) where
   none-left : length (planeRows s r) ≤ n
   none-left = omega (arith, length-planeRows s r)
 
-  pub length-past : length (leastRows (drop n (planeRows s r))) ≡ 0
+  length-past : length (leastRows (drop n (planeRows s r))) ≡ 0
   length-past = ap length (leastRows-past (planeRows s r) n none-left)
+
+-- ---- the most that the body can have, where the rows before row n are measured
+
+-- each row from n on counts as long as a row's least body can be
+pub record Most (s : List ℕ) (r : Resolution) (n most : ℕ) : Type 0 where
+  pub sum : most + length (leastRows (drop n (planeRows s r))) ≡ length (leastRows (planeRows s r)) + (planeRowsOf r - n) * (rowBytesOf r + 1)
+
+pub most-start : (s : List ℕ) (r : Resolution) → Most s r 0 (screenBytes + planeRowsOf r)
+most-start s r =
+    let e : planeRowsOf r - 0 ≡ planeRowsOf r = omega arith in
+    record { sum = rw e (omega (arith, planeRows-rowBytes r, mul-add (planeRowsOf r) (rowBytesOf r) 1)) }
+
+-- the last k rows
+last-rows : (s : List ℕ) (r : Resolution) (k n : ℕ) → n + k ≡ planeRowsOf r → length (leastRows (drop n (planeRows s r))) ≤ k * (rowBytesOf r + 1)
+last-rows s r zero n e = omega (arith, length-past s r n (omega arith))
+last-rows s r (suc k) n e =
+    omega (
+      arith,
+      length-next s r n (omega arith),
+      row-longest s r n,
+      last-rows s r k (n + 1) (omega arith),
+      suc-mul k (rowBytesOf r + 1),
+    )
+
+module _ (s : List ℕ) (r : Resolution) (n most : ℕ) (m : Most s r n most) where
+  -- the body has no more
+  pub most-bound : n ≤ planeRowsOf r → length (leastRows (planeRows s r)) ≤ most
+  most-bound h = omega (arith, m .sum, last-rows s r (planeRowsOf r - n) n (omega arith))
+
+  -- row n measured
+  pub most-turn : n < planeRowsOf r → Most s r (n + 1) (most - (rowBytesOf r + 1 - length (least (planeRow s r n))))
+  most-turn h =
+      let k : ℕ = planeRowsOf r - (n + 1) in
+      let e : planeRowsOf r - n ≡ suc k = omega arith in
+      record {
+        sum =
+            omega (
+              arith,
+              m .sum,
+              ap (λ (j : ℕ). j * (rowBytesOf r + 1)) e,
+              suc-mul k (rowBytesOf r + 1),
+              length-next s r n h,
+              row-longest s r n,
+              last-rows s r k (n + 1) (omega arith),
+            );
+      }
+
+  -- all rows measured
+  pub most-end : planeRowsOf r ≤ n → most ≡ length (leastRows (planeRows s r))
+  most-end h =
+      let e : planeRowsOf r - n ≡ 0 = omega arith in
+      omega (arith, m .sum, length-past s r n h, ap (λ (j : ℕ). j * (rowBytesOf r + 1)) e)
 
 -- ---- the body written, each row's to the part of the output from its present end on
 
@@ -139,9 +195,8 @@ module _ (s : List ℕ) (r : Resolution) (out₀ out : List ℕ) (n end records 
       }
 
 pub rows-end : (s : List ℕ) (r : Resolution) (out₀ out : List ℕ) (n end records : ℕ) → planeRowsOf r ≤ n → RowsWritten s r out₀ out n end records
-    → (records ≡ leastRowsRecords (planeRows s r)) × (out ≡ over (leastRows (planeRows s r)) out₀)
+    → ((end ≡ length (leastRows (planeRows s r))) × (records ≡ leastRowsRecords (planeRows s r))) × (out ≡ over (leastRows (planeRows s r)) out₀)
 rows-end s r out₀ out n end records h w =
-    let past = none-left s r n h in (
-      omega (arith, w .counted, leastRowsRecords-past (planeRows s r) n past),
-      writing-end (subst (λ (rest : List ℕ). Writing (leastRows (planeRows s r)) rest out₀ out end) (leastRows-past (planeRows s r) n past) (w .writing)) .all,
-    )
+    let past = none-left s r n h in
+    let written = writing-end (subst (λ (rest : List ℕ). Writing (leastRows (planeRows s r)) rest out₀ out end) (leastRows-past (planeRows s r) n past) (w .writing)) in
+    ((written .bytes, omega (arith, w .counted, leastRowsRecords-past (planeRows s r) n past)), written .all)

@@ -31,9 +31,6 @@ pub const NEOCHROME: u8 = 4;
 // The least output: the longest file of any form.
 pub const FILE_BYTES: usize = 32128;
 
-// A packed body is shorter than this.
-const BODY_LIMIT: usize = 32000;
-
 // The answer of a writing: the file's length, the packed body's length and its records. A refusal has its number, place 0, and 0 in
 // all else.
 #[repr(C)]
@@ -104,20 +101,19 @@ fn write_packed(r: Resolution, picture: Picture, screen: &[u8], out: &mut [u8]) 
     ensures { λ a. ⌜ a ≡ writeAnswer (writePacked r picture (now (screen .entry))) ⌝ }
     ensures { λ _. ⌜ now (out .exit) ≡ writeOutput (writePacked r picture (now (screen .entry))) (now (out .entry)) ⌝ }
 {
-    let body = body::body_len(screen, r);
-    if BODY_LIMIT <= body {
+    if body::body_too_long(screen, r) {
         return refused(NO_PACKED_BODY);
     }
-    let end = 34 + body;
     parts::put_degas_header(0x8000 + picture.resolution, picture, out);
-    let records = body::put_body(screen, r, &mut out[34..]);
+    let packed = body::put_body(screen, r, &mut out[34..]);
+    let end = 34 + packed.bytes;
     parts::put_tail(picture, &mut out[end..]);
     WriteAnswer {
         number: 0,
         place: 0,
         length: end + 32,
-        body,
-        records,
+        body: packed.bytes,
+        records: packed.records,
     }
 }
 

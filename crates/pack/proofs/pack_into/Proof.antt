@@ -25,25 +25,23 @@ returns c =
 
 plan-of-requires : tie.Need-plan-of-requires
 plan-of-requires c κs =
-    let a = c .before .before .before .before .args in
-    narrow (length (a .row .now)) (sym (c .before .width-out-of-range .ensures) ∙ c .if1 .left)
+    let a = c .before .before .before .before .before .args in
+    (narrow (length (a .row .now)) (sym (c .before .before .width-out-of-range .ensures) ∙ c .before .if1 .left), refl)
 
 row-refused-requires-2 : tie.Need-row-refused-requires-2
 row-refused-requires-2 c κs = search needs
 
 returns-2 : tie.Need-returns-2
 returns-2 c =
-    let a = c .before .before .before .before .before .before .before .args in
-    let w : widthOutOfRange (length (a .row .now)) ≡ false =
-    sym (c .before .before .before .before .width-out-of-range .ensures) ∙ c .before .before .before .if1 .left in
+    let a = c .before .before .before .before .before .before .before .before .args in
+    let w : widthOutOfRange (length (a .row .now)) ≡ false = sym (c .before .before .before .before .before .width-out-of-range .ensures) ∙ c .before .before .before .before .if1 .left in
     rw (pack-short (length (least (a .row .now))) (a .row .now) (length (a .out .now)) w (omega arith)) (c .row-refused2 .ensures, refl)
 
 emit-requires : tie.Need-emit-requires
 emit-requires c κs =
     let a = c .before .before .before .before .before .before .before .before .before .args in
-    let w : widthOutOfRange (length (a .row .now)) ≡ false =
-    sym (c .before .before .before .before .before .before .width-out-of-range .ensures) ∙ c .before .before .before .before .before .if1 .left in
-    (narrow (length (a .row .now)) w, (c .before .before .before .before .plan-of .ensures .0, omega (arith, c .before .before .before .before .plan-of .ensures .1)))
+    let w : widthOutOfRange (length (a .row .now)) ≡ false = sym (c .before .before .before .before .before .before .width-out-of-range .ensures) ∙ c .before .before .before .before .before .if1 .left in
+    (narrow (length (a .row .now)) w, (c .before .before .before .plan-of .ensures .1, omega (arith, c .before .before .before .plan-of .ensures .0)))
 
 same-length : tie.Need-same-length
 same-length c = search needs
@@ -51,11 +49,9 @@ same-length c = search needs
 returns-3 : tie.Need-returns-3
 returns-3 c =
     let a = c .before .before .before .before .before .before .before .before .before .before .before .before .args in
-    let w : widthOutOfRange (length (a .row .now)) ≡ false =
-    sym (c .before .before .before .before .before .before .before .before .before .width-out-of-range .ensures) ∙ c .before .before .before .before .before .before .before .before .if1 .left in
-    let p = c .before .before .before .before .before .before .before .plan-of .ensures .1 in
-    rw (pack-done (length (least (a .row .now))) (a .row .now) (length (a .out .now)) w (omega arith))
-    (ap₂ (λ (b n : ℕ). rowAnswer (done b n (least (a .row .now)))) p (c .before .before .emit .ensures .0), c .before .before .emit .ensures .1)
+    let w : widthOutOfRange (length (a .row .now)) ≡ false = sym (c .before .before .before .before .before .before .before .before .before .width-out-of-range .ensures) ∙ c .before .before .before .before .before .before .before .before .if1 .left in
+    rw (pack-done (length (least (a .row .now))) (a .row .now) (length (a .out .now)) w (omega (arith, c .before .before .before .before .before .before .plan-of .ensures .0)))
+    (ap₂ (λ (b n : ℕ). rowAnswer (done b n (least (a .row .now)))) (c .before .before .before .before .before .before .plan-of .ensures .0) (c .before .before .emit .ensures .0), c .before .before .emit .ensures .1)
 
 pub pack-into-spec : {M : Type 1} → statement M
 pack-into-spec =

@@ -13,7 +13,7 @@ plan-of-requires : tie.Need-plan-of-requires
 plan-of-requires c κs = search needs
 
 returns-2 : tie.Need-returns-2
-returns-2 c = simp (le-leb (length (c .before .before .before .args .row .now)) 128 (omega arith)) (c .plan-of .ensures .1)
+returns-2 c = simp (le-leb (length (c .before .before .before .before .args .row .now)) 128 (omega arith)) (c .plan-of .ensures .0)
 
 pub packed-len-spec : {M : Type 1} → statement M
 packed-len-spec = tie.close (tie.spec returns plan-of-requires returns-2)

@@ -1,8 +1,9 @@
 -- `writer::write_packed` meets its contract: the body's length picks the case, and each part follows the one before it. Assumes nothing.
-use mathlib.Core.Path.{_≡_, refl, ap, _∙_}
+use mathlib.Core.Path.{_≡_, refl, sym, ap, _∙_}
 use mathlib.Core.List.{List, _++_, append-assoc}
 use Prim.Native.Nat.{ℕ, _+_, _<_}
 use native.Mathlib.Omega.{arith}
+use borrow.Author.Tests.{leb-true, leb-false}
 use denote.Ref.{now}
 use lib.ListN.{length, length-append}
 use Rattle.lists.specs.Over.{over}
@@ -14,8 +15,8 @@ use borrow.Author.Needs.{needs}
 use Rattle.writer.proofs.write_packed.Statement.{statement}
 use Rattle.writer.proofs.write_packed.Tie as tie
 
-body-len-requires : tie.Need-body-len-requires
-body-len-requires c κs = search needs
+body-too-long-requires : tie.Need-body-too-long-requires
+body-too-long-requires c κs = search needs
 
 refused-requires : tie.Need-refused-requires
 refused-requires c κs = search needs
@@ -23,10 +24,14 @@ refused-requires c κs = search needs
 returns : tie.Need-returns
 returns c =
     let a = c .before .before .before .before .before .args in
-    rw (packed-refused (a .picture) (now (a .screen)) (a .r) (omega (arith, c .before .before .body-len .ensures, c .before .if1 .taken))) (c .refused .ensures, refl)
+    let long = leb-true 32000 (length (leastBody (a .r) (now (a .screen)))) (sym (c .before .before .body-too-long .ensures) ∙ c .before .if1 .taken) in
+    rw (packed-refused (a .picture) (now (a .screen)) (a .r) long) (c .refused .ensures, refl)
 
-add-end : tie.Need-add-end
-add-end c = search needs
+-- the body is short where none of that size is refused
+short : (c : tie.Else1) → length (leastBody (c .before .before .before .before .args .r) (now (c .before .before .before .before .args .screen))) < 32000
+short c =
+    let a = c .before .before .before .before .args in
+    leb-false 32000 (length (leastBody (a .r) (now (a .screen)))) (sym (c .before .body-too-long .ensures) ∙ c .if1 .left)
 
 add-put-degas-header : tie.Need-add-put-degas-header
 add-put-degas-header c = search needs
@@ -44,7 +49,10 @@ part-put-body-end : tie.Need-part-put-body-end
 part-put-body-end c = search needs
 
 put-body-requires : tie.Need-put-body-requires
-put-body-requires c κs = search needs
+put-body-requires c κs = (c .before .before .before .before .before .before .before .before .before .before .pre .1 .0, (short (c .before .before .before .before .before .before), search needs))
+
+add-end : tie.Need-add-end
+add-end c = search needs
 
 sub-put-tail : tie.Need-sub-put-tail
 sub-put-tail c = search needs
@@ -58,8 +66,8 @@ part-put-tail-end c = search needs
 put-tail-requires : tie.Need-put-tail-requires
 put-tail-requires c κs = search needs
 
-add-t14 : tie.Need-add-t14
-add-t14 c = search needs
+add-t13 : tie.Need-add-t13
+add-t13 c = search needs
 
 same-length : tie.Need-same-length
 same-length c = search needs
@@ -67,40 +75,38 @@ same-length c = search needs
 returns-2 : tie.Need-returns-2
 unfolding packedFile
 returns-2 c =
-    let a = c .before .before .before .before .before .before .before .before .before .before .before .before .before .before .before .before .before .args in
-    let l = c .before .before .before .before .before .before .before .before .before .before .before .before .before .before in
-    let p = c .before .before .before .before .before .before .put-body .ensures in
-    let e = c .before .before .before .before .before .before .before .before .before .before .put-degas-header .ensures in
+    let a = c .before .before .before .before .before .before .before .before .before .before .before .before .before .before .before .before .before .before .args in
+    let p = c .before .before .before .before .before .before .before .put-body .ensures .1 in
+    let e = c .before .before .before .before .before .before .before .before .before .before .before .put-degas-header .ensures in
     let f = c .before .before .put-tail .ensures in
     let d = now (a .out) in
     let h = degasHeader (32768 + a .picture .resolution) (a .picture) in
     let b = leastBody (a .r) (now (a .screen)) in
     let t = tailBytes (a .picture) in
-    let short : length b < 32000 = omega (arith, l .body-len .ensures) in
     let two = over-append d h b _ _ 34 (e .0) (e .1) (p .1) in
-    let m : length (h ++ b) ≡ 34 + l .body-len .result = omega (arith, e .1, l .body-len .ensures, length-append h b) in
-    let n : length (packedFile (a .picture) b) ≡ 34 + l .body-len .result + 32 = omega (arith, e .1, f .1, l .body-len .ensures, length-append h (b ++ t), length-append b t) in
-    rw (packed-accepted (a .picture) (now (a .screen)) (a .r) short)
-    (rw (n, l .body-len .ensures, p .0) refl, over-append d (h ++ b) t _ _ _ two m (f .0) ∙ ap (λ (x : List ℕ). over x d) (append-assoc h b t))
+    let m : length (h ++ b) ≡ 34 + c .before .before .before .before .before .before .before .put-body .result .bytes = omega (arith, e .1, p .0 .0, length-append h b) in
+    let n : length (packedFile (a .picture) b) ≡ 34 + c .before .before .before .before .before .before .before .put-body .result .bytes + 32 = omega (arith, e .1, f .1, p .0 .0, length-append h (b ++ t), length-append b t) in
+    rw (packed-accepted (a .picture) (now (a .screen)) (a .r) (short (c .before .before .before .before .before .before .before .before .before .before .before .before .before .before)))
+    (simp (n, p .0 .0, p .0 .1), over-append d (h ++ b) t _ _ _ two m (f .0) ∙ ap (λ (x : List ℕ). over x d) (append-assoc h b t))
 
 pub write-packed-spec : {M : Type 1} → statement M
 write-packed-spec =
     tie.close
     (tie.spec
-    body-len-requires
+    body-too-long-requires
     refused-requires
     returns
-    add-end
     add-put-degas-header
     put-degas-header-requires
     sub-put-body
     part-put-body-start
     part-put-body-end
     put-body-requires
+    add-end
     sub-put-tail
     part-put-tail-start
     part-put-tail-end
     put-tail-requires
-    add-t14
+    add-t13
     same-length
     returns-2)

@@ -36,7 +36,7 @@ put-row-requires c κs =
     let l = c .before .before .loop in
     let s = c .before .before .before .before .before .before in
     let more : l .n < planeRowsOf (s .args .r) = omega (arith, l .inv .0, c .before .loop-test .taken) in
-    (s .pre .0, (more, row-fits (now (s .args .screen)) (s .args .r) (now (s .args .out)) (l .out) (l .n) (l .end) (l .records) (s .pre .1) (l .inv .2) more))
+    (s .pre .0, (more, row-fits (now (s .args .screen)) (s .args .r) (now (s .args .out)) (l .out) (l .n) (l .end) (l .records) (omega (arith, s .pre)) (l .inv .2) more))
 
 -- no row has more than 81 bytes or records
 turn-bounds : (d : tie.After-put-row Inv-loop μ-loop) → (d .put-row .result .bytes ≤ 81) × (d .put-row .result .records ≤ 81)
@@ -70,7 +70,7 @@ loop-again c =
     let more : l .n < planeRowsOf (s .args .r) = omega (arith, l .inv .0, p .before .before .loop-test .taken) in (
       l .inv .0,
       omega (arith, more, planeRows-le (s .args .r)),
-      row-written (now (s .args .screen)) (s .args .r) (now (s .args .out)) (l .out) (l .n) (l .end) (l .records) (s .pre .1) (l .inv .2) more
+      row-written (now (s .args .screen)) (s .args .r) (now (s .args .out)) (l .out) (l .n) (l .end) (l .records) (omega (arith, s .pre)) (l .inv .2) more
           _ _ _ (p .put-row .ensures .0 .0) (p .put-row .ensures .0 .1) (p .put-row .ensures .1),
     )
 
@@ -81,7 +81,8 @@ returns : tie.Need-returns Inv-loop μ-loop
 returns c =
     let l = c .before .loop in
     let a = c .before .before .before .before .before .args in
-    rows-end (now (a .screen)) (a .r) (now (a .out)) (l .out) (l .n) (l .end) (l .records) (omega (arith, l .inv .0, c .loop-test .left)) (l .inv .2)
+    let e = rows-end (now (a .screen)) (a .r) (now (a .out)) (l .out) (l .n) (l .end) (l .records) (omega (arith, l .inv .0, c .loop-test .left)) (l .inv .2) in
+    (omega (arith, e .0 .0, c .before .before .before .before .before .pre), e)
 
 pub put-body-spec : {M : Type 1} → statement M
 put-body-spec =
