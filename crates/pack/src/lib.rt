@@ -164,7 +164,7 @@ fn scan_byte(row: &[u8], s: Scan, controls: &mut [u8; MAX_WIDTH]) -> Scan
     Scan { at, costs: t }
 }
 
-// As far to the left as a run goes on for which the repeat is chosen. Nothing is to be compared there.
+// As far to the left as a run goes on for which the repeat is chosen. No costs are compared there.
 fn scan_run(row: &[u8], s: Scan, controls: &mut [u8; MAX_WIDTH]) -> Scan
     requires { ⌜ (length (now row) ≤ 128) × Scanned (now row) (now controls) (s .at) (s .costs) ⌝ }
     ensures { λ r. ⌜ (r .at ≤ s .at) × Scanned (now (row .entry)) (now (controls .exit)) (r .at) (r .costs) ⌝ }
