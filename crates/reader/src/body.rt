@@ -1,6 +1,5 @@
 // A packed body unpacked into a screen, row by row.
 ghost use mathlib.Core.Path.{_≡_};
-ghost use Prim.Native.Nat.{_≤_};
 ghost use lib.ListN.{length, drop};
 ghost use Rattle.outcome.specs.Outcome.{later};
 ghost use Rattle.resolution.specs.Shapes.{rowBytesOf, planeRowsOf};
@@ -12,7 +11,7 @@ use resolution::Resolution;
 // Unpacks each plane row of the body that starts at offset 34 to where it belongs in a screen. After a refusal the screen holds the rows
 // before the fault.
 pub(crate) fn unpack_body(file: &[u8], r: Resolution, screen: &mut [u8]) -> RowAnswer
-    requires { ⌜ (length (now screen) ≡ 32000) × (34 ≤ length (now file)) ⌝ }
+    requires { ⌜ length (now screen) ≡ 32000 ⌝ }
     ensures answer { λ a. ⌜ a ≡ rowsAnswer (unpackRowsAt (now (file .entry)) 34 (rowBytesOf r) (planeRowsOf r)) ⌝ }
     ensures screen { λ a. ⌜ (a .number ≡ 0 → now (screen .exit) ≡ later (unpackRows (planeRowsOf r) (rowBytesOf r) (drop 34 (now (file .entry)))) (λ q. screenOf r (q .rows)) (now (screen .entry))) ⌝ }
 {

@@ -68,7 +68,6 @@ fn read_degas(file: &[u8], area: &mut [u8]) -> ReadAnswer
 // A DEGAS file of a known resolution.
 fn read_chosen(file: &[u8], r: Resolution, area: &mut [u8]) -> ReadAnswer
     requires { ⌜ 32000 ≤ length (now area) ⌝ }
-    requires { ⌜ 34 ≤ length (now file) ⌝ }
     ensures answer { λ a. ⌜ a ≡ readAnswer (readChosen (now (file .entry)) r) ⌝ }
     ensures area { λ _. ⌜ now (area .exit) ≡ readArea (readChosen (now (file .entry)) r) (now (area .entry)) ⌝ }
 {
@@ -97,7 +96,6 @@ fn read_raw(file: &[u8], area: &mut [u8]) -> ReadAnswer
 // A packed DEGAS file: the rows of its body, unpacked into a screen of the reader's own, and then exactly 32 bytes.
 fn read_packed(file: &[u8], r: Resolution, area: &mut [u8]) -> ReadAnswer
     requires { ⌜ 32000 ≤ length (now area) ⌝ }
-    requires { ⌜ 34 ≤ length (now file) ⌝ }
     ensures answer { λ a. ⌜ a ≡ readAnswer (readPacked (now (file .entry)) r) ⌝ }
     ensures area { λ _. ⌜ now (area .exit) ≡ readArea (readPacked (now (file .entry)) r) (now (area .entry)) ⌝ }
 {

@@ -13,7 +13,7 @@ use Rattle.reader.proofs.body.unpack_body.Tie as tie
 
 abbrev Inv-loop : tie.InvT-loop
 Inv-loop file r screen₀ width rows used₀ records₀ n₀ screen used records n =
-    (length screen₀ ≡ 32000) × (34 ≤ length file) × (width ≡ rowBytesOf r) × (rows ≡ planeRowsOf r) × (length screen ≡ 32000)
+    (length screen₀ ≡ 32000) × (width ≡ rowBytesOf r) × (rows ≡ planeRowsOf r) × (length screen ≡ 32000)
     × Unpacking file r screen₀ screen used records n
 
 abbrev μ-loop : tie.MeasureT-loop
@@ -22,7 +22,7 @@ abbrev μ-loop : tie.MeasureT-loop
 -- the answer of the row that is unpacked in a turn
 answer-here : (j : tie.After-unpack-row-at Inv-loop μ-loop) → let a = j .before .before .before .before .before .before .before .args in
     j .unpack-row-at .result .answer ≡ rowAnswer (unpackRowAt (a .file .now) (34 + j .before .before .loop .used) (rowBytesOf (a .r)))
-answer-here j = rw (j .before .before .loop .inv .2) at (j .unpack-row-at .ensures .0)
+answer-here j = rw (j .before .before .loop .inv .1) at (j .unpack-row-at .ensures .0)
 
 -- in a turn that goes on: what the row used is there, and it has no more records than that
 bounds-here : (c : tie.Else1 Inv-loop μ-loop) → let r = c .before .before .before .unpack-row-at .result .answer in
@@ -31,7 +31,7 @@ bounds-here c =
     let j = c .before .before .before in
     let l = j .before .before .loop in
     let a = j .before .before .before .before .before .before .before .args in
-    turn-bounds (a .file .now) (a .r) (a .screen .now) (l .inv .0) (l .screen) (l .used) (l .records) (l .n) (l .inv .5) (omega arith) _ (answer-here j) (c .if1 .left)
+    turn-bounds (a .file .now) (a .r) (a .screen .now) (l .inv .0) (l .screen) (l .used) (l .records) (l .n) (l .inv .4) (omega arith) _ (answer-here j) (c .if1 .left)
 
 row-bytes-requires : tie.Need-row-bytes-requires Inv-loop μ-loop
 row-bytes-requires c κs = search needs
@@ -42,16 +42,15 @@ plane-rows-requires c κs = search needs
 loop-holds : tie.Need-loop-holds Inv-loop μ-loop
 loop-holds c =
     let s = c .before .before .before .before in (
-      s .pre .0,
-      s .pre .1,
+      s .pre,
       c .before .row-bytes .ensures,
       c .plane-rows .ensures,
-      s .pre .0,
-      unpacking-start (s .args .file .now) (s .args .r) (s .args .screen .now) (s .pre .0),
+      s .pre,
+      unpacking-start (s .args .file .now) (s .args .r) (s .args .screen .now) (s .pre),
     )
 
 add-unpack-row-at : tie.Need-add-unpack-row-at Inv-loop μ-loop
-add-unpack-row-at c = omega (arith, c .before .loop .inv .5 .inside)
+add-unpack-row-at c = omega (arith, c .before .loop .inv .4 .inside)
 
 unpack-row-at-requires : tie.Need-unpack-row-at-requires Inv-loop μ-loop
 unpack-row-at-requires c κs = search needs
@@ -64,7 +63,7 @@ returns c =
     let j = c .before .before .before in
     let l = j .before .before .loop in
     let a = j .before .before .before .before .before .before .before .args in (
-      unpacking-fault (a .file .now) (a .r) (a .screen .now) (l .inv .0) (l .screen) (l .used) (l .records) (l .n) (l .inv .5) (omega arith) _ (answer-here j) (c .if1 .taken),
+      unpacking-fault (a .file .now) (a .r) (a .screen .now) (l .inv .0) (l .screen) (l .used) (l .records) (l .n) (l .inv .4) (omega arith) _ (answer-here j) (c .if1 .taken),
       λ e. absurd (c .if1 .taken e),
     )
 
@@ -78,13 +77,13 @@ add-used : tie.Need-add-used Inv-loop μ-loop
 add-used c =
     let g = c .before .before .before .before .before .before .before in
     let b = bounds-here g in
-    omega (arith, b .0, g .before .before .before .before .before .loop .inv .5 .inside)
+    omega (arith, b .0, g .before .before .before .before .before .loop .inv .4 .inside)
 
 add-records : tie.Need-add-records Inv-loop μ-loop
 add-records c =
     let g = c .before .before .before .before .before .before .before .before in
     let b = bounds-here g in
-    omega (arith, add-used (c .before), b .1, g .before .before .before .before .before .loop .inv .5 .counted)
+    omega (arith, add-used (c .before), b .1, g .before .before .before .before .before .loop .inv .4 .counted)
 
 add-n : tie.Need-add-n Inv-loop μ-loop
 add-n c = search needs
@@ -101,10 +100,9 @@ loop-again c =
       l .inv .0,
       l .inv .1,
       l .inv .2,
-      l .inv .3,
       search needs,
-      unpacking-turn (a .file .now) (a .r) (a .screen .now) (l .inv .0) (l .screen) (l .used) (l .records) (l .n) (l .inv .5) (omega arith) _ (answer-here j) (g .if1 .left) _ _ (l .inv .4)
-          (rw (l .inv .2) at (j .unpack-row-at .ensures .1)) (c .before .before .before .before .put-row .ensures .1),
+      unpacking-turn (a .file .now) (a .r) (a .screen .now) (l .inv .0) (l .screen) (l .used) (l .records) (l .n) (l .inv .4) (omega arith) _ (answer-here j) (g .if1 .left) _ _ (l .inv .3)
+          (rw (l .inv .1) at (j .unpack-row-at .ensures .1)) (c .before .before .before .before .put-row .ensures .1),
     )
 
 same-length-2 : tie.Need-same-length-2 Inv-loop μ-loop
@@ -114,8 +112,8 @@ returns-2 : tie.Need-returns-2 Inv-loop μ-loop
 returns-2 c =
     let l = c .before .loop in
     let a = c .before .before .before .before .before .before .args in (
-      unpacking-done (a .file .now) (a .r) (a .screen .now) (l .inv .0) (l .screen) (l .used) (l .records) (l .n) (l .inv .5) (omega arith),
-      λ e. screen-done (a .file .now) (a .r) (a .screen .now) (l .inv .0) (l .screen) (l .used) (l .records) (l .n) (l .inv .5) (omega arith),
+      unpacking-done (a .file .now) (a .r) (a .screen .now) (l .inv .0) (l .screen) (l .used) (l .records) (l .n) (l .inv .4) (omega arith),
+      λ e. screen-done (a .file .now) (a .r) (a .screen .now) (l .inv .0) (l .screen) (l .used) (l .records) (l .n) (l .inv .4) (omega arith),
     )
 
 pub unpack-body-spec : {M : Type 1} → statement M
