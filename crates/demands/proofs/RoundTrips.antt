@@ -18,7 +18,7 @@ use Rattle.resolution.specs.declared.Chosen.the-variants.{Known}
 use Rattle.resolution.specs.declared.Resolution.{Resolution}
 use Rattle.resolution.specs.Shapes.{screenBytes, widthOf, heightOf, rowBytesOf, planeRowsOf}
 use Rattle.resolution.specs.Choice.{chosen, withResolution}
-use Rattle.resolution.proofs.Choice.{withResolution-elim}
+use Rattle.resolution.proofs.Choice.{known-le, withResolution-elim}
 use Rattle.screen.specs.Registers.{register}
 use Rattle.screen.specs.PlaneRows.{planeRows}
 use Rattle.screen.proofs.PlaneRows.{screen-of-rows, register-front}
@@ -27,7 +27,7 @@ use Rattle.reader.specs.Reading.{Reading, degasResolution, readRaw, readPacked,
 use Rattle.reader.proofs.Reading.{raw-plain, raw-tail, chosen-packed, chosen-raw, degas-known, neo-known, file-degas, file-neo}
 use Rattle.writer.specs.Layout.{degasHeader, tailBytes, plainFile, eliteFile, packedFile, neoFile}
 use Rattle.writer.specs.Write.{Writing, unpacked, leastBody, writePacked, writeForm, writeFile, writeAnswer, writeOutput}
-use Rattle.writer.proofs.WriteFile.{known-le, form-plain, form-elite, form-neo, file-form}
+use Rattle.writer.proofs.WriteFile.{form-plain, form-elite, form-neo, file-form}
 use Rattle.demands.specs.Screens.{UnpacksScreen}
 use Rattle.demands.specs.Pictures.{Whole}
 use Rattle.demands.specs.RoundTrips.{kindOf, readBack}

@@ -4,7 +4,7 @@ ghost use Prim.Native.Nat.{_+_, _≤_, _<_};
 ghost use mathlib.Core.List.{[]};
 ghost use lib.ListN.{length};
 ghost use Rattle.lists.specs.Over.{over};
-ghost use Rattle.packbits.specs.Row.{rowAnswer, rowOutput, widthOutOfRange};
+ghost use Rattle.packbits.specs.Row.{rowAnswer, rowOutput};
 ghost use Rattle.pack.specs.Least.{least, leastRecords};
 ghost use Rattle.pack.specs.Controls.{recordOf, takenBy, shownBy, ControlsFrom};
 ghost use Rattle.pack.specs.Costs.{costsOf, Small, Chosen, literalOf, repeatOf, costsWith, stepCosts};
@@ -273,19 +273,12 @@ pub fn packed_len(row: &[u8]) -> usize
     plan_of(row, &mut controls)
 }
 
-// Whether a row of this width is refused.
-fn width_out_of_range(width: usize) -> bool
-    ensures { λ r. ⌜ r ≡ widthOutOfRange width ⌝ }
-{
-    width == 0 || MAX_WIDTH < width
-}
-
 // Packs the row to the front of out, which need have no more bytes than are written.
 pub fn pack_into(row: &[u8], out: &mut [u8]) -> RowAnswer
     ensures { λ r. ⌜ r ≡ rowAnswer (packInto (now (row .entry)) (length (now (out .entry)))) ⌝ }
     ensures { λ r. ⌜ now (out .exit) ≡ rowOutput (packInto (now (row .entry)) (length (now (out .entry)))) (now (out .entry)) ⌝ }
 {
-    if width_out_of_range(row.len()) {
+    if packbits::width_out_of_range(row.len()) {
         return packbits::row_refused(OUT_OF_RANGE);
     }
     let mut controls = [0u8; MAX_WIDTH];
@@ -307,7 +300,7 @@ pub fn pack_row(row: &[u8], out: &mut [u8]) -> RowAnswer
     ensures { λ r. ⌜ r ≡ rowAnswer (packRow (now (row .entry)) (length (now (out .entry)))) ⌝ }
     ensures { λ r. ⌜ now (out .exit) ≡ rowOutput (packRow (now (row .entry)) (length (now (out .entry)))) (now (out .entry)) ⌝ }
 {
-    if width_out_of_range(row.len()) {
+    if packbits::width_out_of_range(row.len()) {
         return packbits::row_refused(OUT_OF_RANGE);
     }
     if out.len() < MAX_BODY {

@@ -5,7 +5,7 @@ ghost use Prim.Native.Nat.{_<_};
 ghost use lib.ListN.{drop};
 ghost use Rattle.outcome.specs.Outcome.{refused};
 ghost use Rattle.packbits.specs.Records.{control, packedLen, rowLen, fault, judged, recordAt};
-ghost use Rattle.packbits.specs.Row.{rowAnswer};
+ghost use Rattle.packbits.specs.Row.{rowAnswer, widthOutOfRange};
 use outcome::INPUT_ENDS;
 use outcome::RECORD_CROSSES;
 
@@ -46,6 +46,13 @@ pub fn row_refused(number: u8) -> RowAnswer
         bytes: 0,
         records: 0,
     }
+}
+
+// Whether a row of this width is refused.
+pub fn width_out_of_range(width: usize) -> bool
+    ensures { λ r. ⌜ r ≡ widthOutOfRange width ⌝ }
+{
+    width == 0 || MAX_WIDTH < width
 }
 
 // How many bytes of input a record takes up, its control byte included.

@@ -4,6 +4,7 @@ use Prim.Native.Nat.{ℕ, _≤_}
 use native.Mathlib.Omega.{arith}
 use lib.Dec.{ltb}
 use borrow.Author.Tests.{ltb-false}
+use Rattle.lists.proofs.Cond.{cond-eqb}
 use Rattle.outcome.specs.Outcome.{Outcome, accepted, refused}
 use Rattle.outcome.specs.Refusal.{areaTooShort, unknownResolution}
 use Rattle.outcome.proofs.Outcome.{passed}
@@ -12,6 +13,14 @@ use Rattle.resolution.specs.declared.Chosen.the-variants.{Known, Unknown
 use Rattle.resolution.specs.declared.Resolution.{Resolution}
 use Rattle.resolution.specs.Choice.{chosen, judgeWith, withResolution, judgeScreen}
 use Rattle.resolution.specs.Shapes.{screenBytes}
+
+-- a number that names a resolution is at most 2
+pub known-le : (number : ℕ) (r : Resolution) → chosen number ≡ Known r → number ≤ 2
+known-le number r =
+    cond-eqb (λ (c : Chosen). c ≡ Known r → number ≤ 2) number 0 (λ e q. omega arith) (λ not0.
+    cond-eqb (λ (c : Chosen). c ≡ Known r → number ≤ 2) number 1 (λ e q. omega arith) (λ not1.
+    cond-eqb (λ (c : Chosen). c ≡ Known r → number ≤ 2) number 2 (λ e q. omega arith) (λ not2 q.
+    let z : _≡_ {A = ℕ} 0 1 = cc in omega arith)))
 
 -- what holds at every resolution and of the refusal holds of what is judged with a number
 pub withResolution-elim : {A : Type 0} (P : Outcome A → Type 0) (number : ℕ) (further : Resolution → Outcome A) → P (refused unknownResolution 0)

@@ -16,6 +16,7 @@ use Rattle.resolution.specs.declared.Chosen.the-variants.{Known}
 use Rattle.resolution.specs.declared.Resolution.{Resolution}
 use Rattle.resolution.specs.Shapes.{screenBytes}
 use Rattle.resolution.specs.Choice.{chosen}
+use Rattle.resolution.proofs.Choice.{known-le}
 use Rattle.pack_rows.specs.LeastRows.{leastRowsRecords}
 use Rattle.screen.specs.PlaneRows.{planeRows}
 use Rattle.picture.specs.declared.Picture.{Picture}
@@ -24,7 +25,7 @@ use Rattle.picture.specs.Tables.{tablesAt, held}
 use Rattle.reader.specs.Reading.{Reading, withTail, degasResolution, degasPacked, readFile}
 use Rattle.writer.specs.Layout.{degasHeader, tailBytes, packedFile}
 use Rattle.writer.specs.Write.{Writing, leastBody, writeFile}
-use Rattle.writer.proofs.WriteFile.{known-le, packed-accepted, form-packed, file-form}
+use Rattle.writer.proofs.WriteFile.{packed-accepted, form-packed, file-form}
 use Rattle.demands.specs.Accepted.{PackedFits, DegasFits, Accepts, packedGiven, degasGiven, given}
 use Rattle.demands.specs.Pictures.{Whole}
 use Rattle.demands.proofs.Acceptance.{packed-length, reading}

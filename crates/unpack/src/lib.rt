@@ -4,7 +4,7 @@ ghost use Prim.Native.Nat.{_+_, _≤_};
 ghost use lib.ListN.{length, take, drop, replicate};
 ghost use Rattle.lists.specs.Over.{over};
 ghost use Rattle.packbits.specs.Records.{packedLen, rowLen, rowBytes};
-ghost use Rattle.packbits.specs.Row.{rowAnswer, rowOutput, widthOutOfRange};
+ghost use Rattle.packbits.specs.Row.{rowAnswer, rowOutput};
 ghost use Rattle.packbits.specs.Unpack.{progress, unpackAt, unpackRow};
 ghost use Rattle.unpack.specs.RowAt.{unpackRowAt};
 use outcome::AREA_TOO_SHORT;
@@ -120,13 +120,6 @@ fn put_row(file: &[u8], at: usize, width: usize, out: &mut [u8]) -> RowAnswer
     }
 }
 
-// Whether a row of this width is refused.
-fn width_out_of_range(width: usize) -> bool
-    ensures { λ r. ⌜ r ≡ widthOutOfRange width ⌝ }
-{
-    width == 0 || MAX_WIDTH < width
-}
-
 // A row that is refused with an answer: its buffer is zero.
 fn refused_row(answer: RowAnswer) -> Unpacked
     ensures { λ r. ⌜ (r .answer ≡ answer) × (r .row ≡ replicate 128 0) ⌝ }
@@ -142,7 +135,7 @@ pub fn unpack_row_at(file: &[u8], at: usize, width: usize) -> Unpacked
     ensures answer { λ r. ⌜ r .answer ≡ rowAnswer (unpackRowAt (now (file .entry)) at width) ⌝ }
     ensures row { λ r. ⌜ r .row ≡ rowOutput (unpackRowAt (now (file .entry)) at width) (replicate 128 0) ⌝ }
 {
-    if width_out_of_range(width) {
+    if packbits::width_out_of_range(width) {
         return refused_row(packbits::row_refused(OUT_OF_RANGE));
     }
     let mut row = [0u8; MAX_WIDTH];
@@ -159,7 +152,7 @@ pub fn unpack_row(packed: &[u8], width: usize, out: &mut [u8]) -> RowAnswer
     ensures { λ r. ⌜ r ≡ rowAnswer (unpackRow (now (packed .entry)) width (length (now (out .entry)))) ⌝ }
     ensures { λ _. ⌜ now (out .exit) ≡ rowOutput (unpackRow (now (packed .entry)) width (length (now (out .entry)))) (now (out .entry)) ⌝ }
 {
-    if width_out_of_range(width) {
+    if packbits::width_out_of_range(width) {
         return packbits::row_refused(OUT_OF_RANGE);
     }
     if out.len() < width {

@@ -8,7 +8,6 @@ use borrow.Author.Tests.{lt-ltb, le-ltb, lt-leb, le-leb, eq-eqb, ne-eqb}
 use Rattle.lists.proofs.Cond.{cond-eqb}
 use Rattle.outcome.specs.Outcome.{Outcome, accepted, refused}
 use Rattle.outcome.specs.Refusal.{areaTooShort, unknownKind, unknownResolution, noPackedBody}
-use Rattle.resolution.specs.declared.Chosen.{Chosen}
 use Rattle.resolution.specs.declared.Chosen.the-variants.{Known, Unknown}
 use Rattle.resolution.specs.declared.Resolution.{Resolution}
 use Rattle.resolution.specs.Choice.{chosen}
@@ -17,14 +16,6 @@ use Rattle.screen.specs.PlaneRows.{planeRows}
 use Rattle.picture.specs.declared.Picture.{Picture}
 use Rattle.writer.specs.Layout.{plainFile, eliteFile, packedFile, neoFile}
 use Rattle.writer.specs.Write.{Writing, unpacked, leastBody, writePacked, writeForm, writeFile}
-
--- a number that names a resolution is at most 2
-pub known-le : (number : ℕ) (r : Resolution) → chosen number ≡ Known r → number ≤ 2
-known-le number r =
-    cond-eqb (λ (c : Chosen). c ≡ Known r → number ≤ 2) number 0 (λ e q. omega arith) (λ not0.
-    cond-eqb (λ (c : Chosen). c ≡ Known r → number ≤ 2) number 1 (λ e q. omega arith) (λ not1.
-    cond-eqb (λ (c : Chosen). c ≡ Known r → number ≤ 2) number 2 (λ e q. omega arith) (λ not2 q.
-    let z : _≡_ {A = ℕ} 0 1 = cc in omega arith)))
 
 -- ---- form 3: the least body's length
 

@@ -1,7 +1,8 @@
 -- `writer::write_known` meets its contract: the form picks the case of `writeForm`. Assumes nothing.
 use native.Mathlib.Omega.{arith}
 use denote.Ref.{now}
-use Rattle.writer.proofs.WriteFile.{known-le, form-plain, form-elite, form-packed, form-neo}
+use Rattle.resolution.proofs.Choice.{known-le}
+use Rattle.writer.proofs.WriteFile.{form-plain, form-elite, form-packed, form-neo}
 use borrow.Author.Needs.{needs}
 use Rattle.writer.proofs.write_known.Statement.{statement}
 use Rattle.writer.proofs.write_known.Tie as tie

@@ -1,8 +1,8 @@
--- `pack::width_out_of_range` meets its contract. Each return rewrites by the test that led to it.
+-- `packbits::width_out_of_range` meets its contract. Each return rewrites by the test that led to it. Assumes nothing.
 use native.Mathlib.Omega.{arith}
 use borrow.Author.Tests.{eq-eqb, ne-eqb}
-use Rattle.pack.proofs.width_out_of_range.Statement.{statement}
-use Rattle.pack.proofs.width_out_of_range.Tie as tie
+use Rattle.packbits.proofs.width_out_of_range.Statement.{statement}
+use Rattle.packbits.proofs.width_out_of_range.Tie as tie
 
 returns : tie.Need-returns
 returns c = simp (eq-eqb (c .before .args .width) 0 (omega arith))
