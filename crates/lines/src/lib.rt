@@ -2,7 +2,7 @@
 ghost use mathlib.Core.Path.{_≡_};
 ghost use Prim.Native.Nat.{ℕ, _+_, _-_, _*_, _/_, _%_, _<_, _≤_};
 ghost use mathlib.Core.Bool.{true, cond};
-ghost use lib.ListN.{length, getD, take};
+ghost use lib.ListN.{length, getD};
 ghost use Rattle.lists.specs.Over.{over, overAt};
 ghost use Rattle.lists.specs.Tabulate.{tabulate};
 ghost use Rattle.outcome.specs.Outcome.{answer, later};
@@ -98,18 +98,6 @@ fn fill_line(screen: &[u8], r: Resolution, line: usize, out: &mut [u8])
     }
 }
 
-// The first n registers into out.
-fn put_registers(registers: &[u8], n: usize, out: &mut [u8])
-    requires { ⌜ (n ≤ length (now registers)) × (n ≤ length (now out)) ⌝ }
-    ensures { λ _. ⌜ now (out .exit) ≡ over (take n (now (registers .entry))) (now (out .entry)) ⌝ }
-{
-    let mut i: usize = 0;
-    while i < n {
-        out[i] = registers[i];
-        i += 1;
-    }
-}
-
 // The registers of a scan line, from the left, into out, by way of an array that no slice overlaps.
 fn copy_line(screen: &[u8], r: Resolution, line: usize, out: &mut [u8])
     requires { ⌜ (screenBytes ≤ length (now screen)) × (line < heightOf r) × (widthOf r ≤ length (now out)) ⌝ }
@@ -117,7 +105,8 @@ fn copy_line(screen: &[u8], r: Resolution, line: usize, out: &mut [u8])
 {
     let mut registers = [0u8; 640];
     fill_line(screen, r, line, &mut registers);
-    put_registers(&registers, r.width(), out);
+    let width = r.width();
+    bytes::copy(&registers[..width], out);
 }
 
 // Line out at a resolution.

@@ -29,10 +29,6 @@ module _ {A : Type 0} where
       ∙ getD-drop (length s) d j z
       ∙ ap (λ (n : ℕ). getD d n z) (sym e)
 
-  -- the front of a list over another
-  pub over-front : (s d out : List A) (n : ℕ) → length s ≡ n → over (take n (over s d)) out ≡ over s out
-  over-front s d out n e = ap (λ (t : List A). over t out) (take-at s (drop (length s) d) n e)
-
   -- a list that is written over whole is gone
   pub over-whole : (s d : List A) → length d ≤ length s → over s d ≡ s
   over-whole s d h = ap (λ (t : List A). s ++ t) (drop-of-length-le d h) ∙ append-nil s

@@ -11,7 +11,7 @@ use Rattle.lists.proofs.Over.{length-over, over-turn, over-done}
 use Rattle.lists.proofs.Parts.{tail-part, tail-put, over-append, copied-over}
 
 -- o bytes of out are written, the string `rest` of the string `whole` is still to come, and out₀ is what out was
-pub record Writing (whole rest out₀ out : List ℕ) (o : ℕ) : Type 0 where
+pub record PartlyWritten (whole rest out₀ out : List ℕ) (o : ℕ) : Type 0 where
   pub room : o ≤ length out
   pub kept : length out ≡ length out₀
   pub bytes : take o out ++ rest ≡ whole
@@ -22,10 +22,10 @@ pub record Written (whole out₀ out : List ℕ) (o : ℕ) : Type 0 where
   pub bytes : o ≡ length whole
   pub all : out ≡ over whole out₀
 
-pub writing-start : (whole out : List ℕ) → Writing whole whole out out 0
+pub writing-start : (whole out : List ℕ) → PartlyWritten whole whole out out 0
 writing-start whole out = record { room = omega arith; kept = refl; bytes = refl; untouched = refl }
 
-pub writing-end : {whole out₀ out : List ℕ} {o : ℕ} → Writing whole [] out₀ out o → Written whole out₀ out o
+pub writing-end : {whole out₀ out : List ℕ} {o : ℕ} → PartlyWritten whole [] out₀ out o → Written whole out₀ out o
 writing-end {whole} {out₀} {out} {o} w =
     let b : take o out ≡ whole = sym (append-nil (take o out)) ∙ w .bytes in
     let l : o ≡ length whole = sym (length-take-le o out (w .room)) ∙ ap length b in
@@ -37,7 +37,7 @@ writing-end {whole} {out₀} {out} {o} w =
 -- ---- one piece more
 
 module _ {whole out₀ out : List ℕ} {o : ℕ} (piece rest : List ℕ) (fits : length whole ≤ length out₀)
-    (w : Writing whole (piece ++ rest) out₀ out o) where
+    (w : PartlyWritten whole (piece ++ rest) out₀ out o) where
   piece-room : o + length piece ≤ length out
   piece-room =
       omega (
@@ -56,7 +56,7 @@ module _ {whole out₀ out : List ℕ} {o : ℕ} (piece rest : List ℕ) (fits :
   written-length : length (take o out ++ piece) ≡ o + length piece
   written-length = omega (arith, length-append (take o out) piece, length-take-le o out (w .room))
 
-  after-piece : Writing whole rest out₀ ((take o out ++ piece) ++ drop (length piece) (drop o out)) (o + length piece)
+  after-piece : PartlyWritten whole rest out₀ ((take o out ++ piece) ++ drop (length piece) (drop o out)) (o + length piece)
   after-piece =
       let left : List ℕ = drop (length piece) (drop o out) in
       let l : length ((take o out ++ piece) ++ left) ≡ length out =
@@ -77,13 +77,13 @@ module _ {whole out₀ out : List ℕ} {o : ℕ} (piece rest : List ℕ) (fits :
 
   -- out with the part back to whose front a callee wrote the piece
   pub writing-more : (last : List ℕ) → last ≡ over piece (take (length out - o) (drop o out))
-      → Writing whole rest out₀ (putMid o (length out - o) out last) (o + length piece)
+      → PartlyWritten whole rest out₀ (putMid o (length out - o) out last) (o + length piece)
   writing-more last e =
       let p : putMid o (length out - o) out last ≡ (take o out ++ piece) ++ drop (length piece) (drop o out) =
       tail-put out last o (w .room)
       ∙ ap (λ (l : List ℕ). take o out ++ l) (e ∙ ap (over piece) (tail-part out o))
       ∙ sym (append-assoc (take o out) piece (drop (length piece) (drop o out))) in
-      subst (λ (l : List ℕ). Writing whole rest out₀ l (o + length piece)) (sym p) after-piece
+      subst (λ (l : List ℕ). PartlyWritten whole rest out₀ l (o + length piece)) (sym p) after-piece
 
 -- ---- a string written whole, and a further one after it
 

@@ -9,7 +9,7 @@ use lib.Seq.{drop-drop, drop-length}
 use borrow.Rule.Slice.PartMut.{putMid}
 use Rattle.lists.specs.Over.{over}
 use Rattle.lists.proofs.Parts.{tail-part}
-use Rattle.lists.proofs.Pieces.{Writing, writing-start, writing-end, writing-more, piece-fits}
+use Rattle.lists.proofs.Pieces.{PartlyWritten, writing-start, writing-end, writing-more, piece-fits}
 use Rattle.pack.specs.Least.{scan, least, leastRecords}
 use Rattle.pack.specs.Controls.{takenBy, shownBy, recordOf, ControlsFrom}
 use Rattle.pack.proofs.Controls.{Leads, leads, record-length}
@@ -19,7 +19,7 @@ pub record Emitted (row out₀ out : List ℕ) (i o n : ℕ) : Type 0 where
   pub within : i ≤ length row
   pub few : n ≤ i
   pub records : n + leastRecords (drop i row) ≡ leastRecords row
-  pub writing : Writing (least row) (least (drop i row)) out₀ out o
+  pub writing : PartlyWritten (least row) (least (drop i row)) out₀ out o
 
 pub emit-start : (row out₀ : List ℕ) → Emitted row out₀ out₀ 0 0 0
 emit-start row out₀ =
@@ -30,7 +30,7 @@ unfolding scan
 emit-end row out₀ out i o n h inv =
     let e : drop i row ≡ [] = ap (λ (k : ℕ). drop k row) (le-antisymm (inv .within) h) ∙ drop-length row in (
       omega (arith, inv .records, ap leastRecords e),
-      writing-end (subst (λ (s : List ℕ). Writing (least row) (least s) out₀ out o) e (inv .writing)) .all,
+      writing-end (subst (λ (s : List ℕ). PartlyWritten (least row) (least s) out₀ out o) e (inv .writing)) .all,
     )
 
 -- ---- a turn, at the suffix from i, with the parts of row and out as the code lends them
@@ -43,8 +43,8 @@ module _ (row controls out₀ out : List ℕ) (i o n : ℕ) (narrow : length row
       (leads (drop i row) (omega (arith, length-drop i row)) (omega (arith, length-drop i row)))
 
   -- the record and the suffix that is left are still to come
-  turn-writing : Writing (least row) (recordOf (getD controls i 0) (drop i row) ++ least (drop (takenBy (getD controls i 0)) (drop i row))) out₀ out o
-  turn-writing = subst (λ (b : List ℕ). Writing (least row) b out₀ out o) (turn-leads .bytes) (inv .writing)
+  turn-writing : PartlyWritten (least row) (recordOf (getD controls i 0) (drop i row) ++ least (drop (takenBy (getD controls i 0)) (drop i row))) out₀ out o
+  turn-writing = subst (λ (b : List ℕ). PartlyWritten (least row) b out₀ out o) (turn-leads .bytes) (inv .writing)
 
   pub turn-room : (1 ≤ length (take (length row - i) (drop i row)))
       × (shownBy (getD controls i 0) ≤ length (take (length row - i) (drop i row)))
@@ -66,7 +66,7 @@ module _ (row controls out₀ out : List ℕ) (i o n : ℕ) (narrow : length row
   turn-emits last taken made (p, q) e =
       let c : ℕ = getD controls i 0 in
       let s : drop (i + takenBy c) row ≡ drop (takenBy c) (drop i row) = sym (drop-drop (takenBy c) i row) in
-      let w : Writing (least row) (least (drop (takenBy c) (drop i row))) out₀ (putMid o (length out - o) out last) (o + length (recordOf c (drop i row))) =
+      let w : PartlyWritten (least row) (least (drop (takenBy c) (drop i row))) out₀ (putMid o (length out - o) out last) (o + length (recordOf c (drop i row))) =
       writing-more (recordOf c (drop i row)) (least (drop (takenBy c) (drop i row))) fits turn-writing last (rw (tail-part row i) at e) in
       rw (p, q, tail-part row i)
       (record {

@@ -7,7 +7,7 @@ use mathlib.Core.List.{List, _++_}
 use lib.ListN.{length, take, drop}
 use borrow.Rule.Slice.PartMut.{putMid}
 use Rattle.lists.specs.Over.{over}
-use Rattle.lists.proofs.Pieces.{Writing, writing-start, piece-fits, writing-more, writing-end}
+use Rattle.lists.proofs.Pieces.{PartlyWritten, writing-start, piece-fits, writing-more, writing-end}
 use Rattle.packbits.specs.declared.Record.{Record}
 use Rattle.packbits.specs.Records.{packedLen, rowLen, rowBytes, fault, recordAt}
 use Rattle.packbits.specs.Unpack.{Progress, stopped}
@@ -19,7 +19,7 @@ use Rattle.unpack.proofs.Reading.{left, Reading, reading-start, left-wh
 pub record Putting (file : List ℕ) (at width : ℕ) (out₀ out : List ℕ) (from to records : ℕ) : Type 0 where
   pub inside : to ≤ width
   pub reading : Reading file at width from (width - to) records
-  pub writing : Writing (left file at width .made) (left file from (width - to) .made) out₀ out to
+  pub writing : PartlyWritten (left file at width .made) (left file from (width - to) .made) out₀ out to
 
 module _ (file : List ℕ) (at width : ℕ) (out₀ : List ℕ) (room : width ≤ length out₀) where
   pub putting-start : Putting file at width out₀ out₀ at 0 0
@@ -43,10 +43,10 @@ module _ (file : List ℕ) (at width : ℕ) (out₀ : List ℕ) (room : width �
       room-left : width - to - rowLen r ≡ width - (to + rowLen r)
       room-left = omega arith
 
-      next : Writing (left file at width .made) (piece ++ rest) out₀ out to
+      next : PartlyWritten (left file at width .made) (piece ++ rest) out₀ out to
       next =
           let e = left-whole file from (width - to) r is (omega arith) ok in
-          subst (λ (l : List ℕ). Writing (left file at width .made) l out₀ out to)
+          subst (λ (l : List ℕ). PartlyWritten (left file at width .made) l out₀ out to)
           (ap (λ (q : Progress). q .made) e ∙ ap (λ (k : ℕ). piece ++ left file (from + packedLen r) k .made) room-left) (p .writing)
 
       whole-next : WholeAt r file from (width - to)
@@ -67,4 +67,4 @@ module _ (file : List ℕ) (at width : ℕ) (out₀ : List ℕ) (room : width �
 
     -- no record is left, or the next is at fault
     pub putting-done : (number : ℕ) → left file from (width - to) ≡ stopped number → out ≡ over (left file at width .made) out₀
-    putting-done number stop = writing-end (subst (λ (q : Progress). Writing (left file at width .made) (q .made) out₀ out to) stop (p .writing)) .all
+    putting-done number stop = writing-end (subst (λ (q : Progress). PartlyWritten (left file at width .made) (q .made) out₀ out to) stop (p .writing)) .all

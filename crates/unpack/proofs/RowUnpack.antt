@@ -101,8 +101,8 @@ module _ (at : ℕ) (input : List ℕ) (width : ℕ) (buffer : List ℕ) where
 -- ---- what is accepted
 
 -- the width is 1 to 128, the output has room for the row, and the first `used` bytes of the input unpack to the row by so many records
-abbrev pub Accepts : List ℕ → ℕ → ℕ → ℕ → ℕ → List ℕ → Type 0
-Accepts packed width room used records row =
+abbrev pub AcceptsRow : List ℕ → ℕ → ℕ → ℕ → ℕ → List ℕ → Type 0
+AcceptsRow packed width room used records row =
     (0 < width) × (width ≤ 128) × (width ≤ room) × (length row ≡ width) × (used ≤ length packed) × Unpacks (take used packed) row records
 
 not-both : {o : Outcome Row} {number place : ℕ} {r : Row} → o ≡ refused number place → o ≡ accepted r → ⊥
@@ -110,11 +110,11 @@ not-both p q = let z : _≡_ {A = ℕ} 0 1 = cc in omega arith
 
 -- row unpack accepts just that
 pub row-exact : (packed : List ℕ) (width room used records : ℕ) (row : List ℕ) → Bytes packed
-    → (unpackRow packed width room ≡ done used records row) ↔ Accepts packed width room used records row
+    → (unpackRow packed width room ≡ done used records row) ↔ AcceptsRow packed width room used records row
 row-exact packed width room used records row bytes = (there (widthOutOfRange width) refl (decLt room width), back)
   where
     there : (w : Bool) → widthOutOfRange width ≡ w → Dec (room < width) → unpackRow packed width room ≡ done used records row
-        → Accepts packed width room used records row
+        → AcceptsRow packed width room used records row
     there true w t e = absurd (not-both (row-out packed width room w) e)
     there false w (yes l) e = absurd (not-both (row-short packed width room w l) e)
     there false w (no l) e =
@@ -122,5 +122,5 @@ row-exact packed width room used records row bytes = (there (widthOutOfRange wid
         let r = in-range width w in
         (r .0, r .1, omega arith, s .0, s .1, s .2)
 
-    back : Accepts packed width room used records row → unpackRow packed width room ≡ done used records row
+    back : AcceptsRow packed width room used records row → unpackRow packed width room ≡ done used records row
     back s = row-room packed width room (of-range width (s .0) (s .1)) (s .2) ∙ exact packed width used records row bytes .1 (s .3, s .4, s .5)

@@ -11,7 +11,7 @@ use lib.ListN.{length, take, drop, replicate, length-append}
 use lib.Seq.{take-at}
 use Rattle.lists.specs.Over.{over}
 use Rattle.lists.proofs.Over.{length-over}
-use Rattle.lists.proofs.Pieces.{Writing, writing-start, writing-end, piece-fits, writing-more}
+use Rattle.lists.proofs.Pieces.{PartlyWritten, writing-start, writing-end, piece-fits, writing-more}
 use Rattle.outcome.specs.Outcome.{Outcome, later}
 use Rattle.packbits.specs.Row.{done, widthOutOfRange}
 use Rattle.resolution.specs.declared.Resolution.{Resolution}
@@ -168,15 +168,15 @@ pub record RowsWritten (s : List ℕ) (r : Resolution) (out₀ out : List ℕ) (
   pub bound : end ≤ n * 81
   pub few : records ≤ end
   pub counted : records + leastRowsRecords (drop n (planeRows s r)) ≡ leastRowsRecords (planeRows s r)
-  pub writing : Writing (leastRows (planeRows s r)) (leastRows (drop n (planeRows s r))) out₀ out end
+  pub writing : PartlyWritten (leastRows (planeRows s r)) (leastRows (drop n (planeRows s r))) out₀ out end
 
 pub rows-start : (s : List ℕ) (r : Resolution) (out : List ℕ) → RowsWritten s r out out 0 0 0
 rows-start s r out = record { bound = omega arith; few = omega arith; counted = omega arith; writing = writing-start (leastRows (planeRows s r)) out }
 
 module _ (s : List ℕ) (r : Resolution) (out₀ out : List ℕ) (n end records : ℕ) (fits : length (leastRows (planeRows s r)) ≤ length out₀)
     (w : RowsWritten s r out₀ out n end records) (h : n < planeRowsOf r) where
-  row-writing : Writing (leastRows (planeRows s r)) (least (planeRow s r n) ++ leastRows (drop (n + 1) (planeRows s r))) out₀ out end
-  row-writing = subst (λ (rest : List ℕ). Writing (leastRows (planeRows s r)) rest out₀ out end) (body-next s r n h) (w .writing)
+  row-writing : PartlyWritten (leastRows (planeRows s r)) (least (planeRow s r n) ++ leastRows (drop (n + 1) (planeRows s r))) out₀ out end
+  row-writing = subst (λ (rest : List ℕ). PartlyWritten (leastRows (planeRows s r)) rest out₀ out end) (body-next s r n h) (w .writing)
 
   -- the part from `end` on has room for the next row's body
   pub row-fits : length (least (planeRow s r n)) ≤ length (take (length out - end) (drop end out))
@@ -198,5 +198,5 @@ pub rows-end : (s : List ℕ) (r : Resolution) (out₀ out : List ℕ) (n end re
     → ((end ≡ length (leastRows (planeRows s r))) × (records ≡ leastRowsRecords (planeRows s r))) × (out ≡ over (leastRows (planeRows s r)) out₀)
 rows-end s r out₀ out n end records h w =
     let past = none-left s r n h in
-    let written = writing-end (subst (λ (rest : List ℕ). Writing (leastRows (planeRows s r)) rest out₀ out end) (leastRows-past (planeRows s r) n past) (w .writing)) in
+    let written = writing-end (subst (λ (rest : List ℕ). PartlyWritten (leastRows (planeRows s r)) rest out₀ out end) (leastRows-past (planeRows s r) n past) (w .writing)) in
     ((written .bytes, omega (arith, w .counted, leastRowsRecords-past (planeRows s r) n past)), written .all)

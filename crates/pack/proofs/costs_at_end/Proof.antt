@@ -1,4 +1,4 @@
--- `pack::costs_at_end` meets its contract. The empty suffix, by computation.
+-- `pack::costs_at_end` meets its contract. The empty suffix, by computation. Assumes nothing.
 use mathlib.Core.Path.{refl}
 use Rattle.pack.specs.Least.{scan}
 use Rattle.pack.proofs.costs_at_end.Statement.{statement}

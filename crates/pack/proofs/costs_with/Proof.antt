@@ -1,4 +1,4 @@
--- `pack::costs_with` meets its contract. Each return rewrites by the test that led to it.
+-- `pack::costs_with` meets its contract. Each return rewrites by the test that led to it. Assumes nothing.
 use Prim.Native.Nat.{_+_}
 use native.Mathlib.Omega.{arith}
 use borrow.Author.Tests.{le-leb, lt-leb}

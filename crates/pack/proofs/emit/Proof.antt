@@ -1,4 +1,4 @@
--- `pack::emit` meets its contract. The loop keeps `Emitted`; a turn is `turn-emits`.
+-- `pack::emit` meets its contract. The loop keeps `Emitted`; a turn is `turn-emits`. Assumes nothing.
 use borrow.Author.Needs.{needs}
 use Prim.Native.Nat.{_+_, _≤_, _-_}
 use native.Mathlib.Omega.{arith}

@@ -1,4 +1,4 @@
--- `pack::lengthened` meets its contract: `step-lengthened`.
+-- `pack::lengthened` meets its contract: `step-lengthened`. Assumes nothing.
 use native.Mathlib.Omega.{arith}
 use Rattle.pack.proofs.Lengths.{step-lengthened}
 use borrow.Author.Needs.{needs}

@@ -1,4 +1,4 @@
--- `pack::literal_of` meets its contract. Each return rewrites by the test that led to it.
+-- `pack::literal_of` meets its contract. Each return rewrites by the test that led to it. Assumes nothing.
 use native.Mathlib.Omega.{arith}
 use borrow.Author.Tests.{le-leb, lt-leb}
 use borrow.Author.Needs.{needs}

@@ -1,4 +1,4 @@
--- `pack::pack_into` meets its contract. Each return is the outcome that the tests before it give.
+-- `pack::pack_into` meets its contract. Each return is the outcome that the tests before it give. Assumes nothing.
 use Prim.Native.Nat.{ℕ}
 use native.Mathlib.Omega.{arith}
 use mathlib.Core.Path.{_≡_, refl, sym, _∙_, ap₂}

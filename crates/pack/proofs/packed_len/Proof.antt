@@ -1,4 +1,4 @@
--- `pack::packed_len` meets its contract. Each return rewrites by the test that led to it.
+-- `pack::packed_len` meets its contract. Each return rewrites by the test that led to it. Assumes nothing.
 use borrow.Author.Needs.{needs}
 use native.Mathlib.Omega.{arith}
 use lib.ListN.{length}

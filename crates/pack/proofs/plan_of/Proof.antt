@@ -1,4 +1,4 @@
--- `pack::plan_of` meets its contract. The loop keeps `Scanned`.
+-- `pack::plan_of` meets its contract. The loop keeps `Scanned`. Assumes nothing.
 use native.Mathlib.Omega.{arith}
 use Rattle.pack.specs.Scanned.{Scanned}
 use Rattle.pack.proofs.Scanned.{scanned-start, scanned-end}

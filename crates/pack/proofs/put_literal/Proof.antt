@@ -1,4 +1,4 @@
--- `pack::put_literal` meets its contract. The copy is the kit's; a single byte is stored.
+-- `pack::put_literal` meets its contract. The copy is the kit's; a single byte is stored. Assumes nothing.
 use native.Mathlib.Omega.{arith}
 use mathlib.Core.Path.{refl, _∙_}
 use Rattle.lists.proofs.Over.{over-one}

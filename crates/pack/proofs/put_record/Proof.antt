@@ -1,4 +1,4 @@
--- `pack::put_record` meets its contract. What is lent to `put_literal` is the part of out after the control byte.
+-- `pack::put_record` meets its contract. What is lent to `put_literal` is the part of out after the control byte. Assumes nothing.
 use Prim.Native.Nat.{ℕ, _+_, _≤_, _<_, _-_}
 use native.Mathlib.Omega.{arith}
 use mathlib.Core.Path.{_≡_, sym, ap, _∙_}

@@ -1,4 +1,4 @@
--- `pack::repeat_of` meets its contract. Each return rewrites by the test that led to it.
+-- `pack::repeat_of` meets its contract. Each return rewrites by the test that led to it. Assumes nothing.
 use borrow.Author.Tests.{eq-eqb, ne-eqb}
 use borrow.Author.Needs.{needs}
 use Rattle.pack.proofs.repeat_of.Statement.{statement}

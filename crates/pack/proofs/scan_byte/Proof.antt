@@ -1,4 +1,4 @@
--- `pack::scan_byte` meets its contract: `scanned-more`.
+-- `pack::scan_byte` meets its contract: `scanned-more`. Assumes nothing.
 use native.Mathlib.Omega.{arith}
 use Rattle.pack.proofs.Scanned.{scanned-small, control-byte, scanned-more}
 use borrow.Author.Needs.{needs}

@@ -1,4 +1,4 @@
--- `pack::scan_run` meets its contract. The loop keeps `Scanned`, and that the repeat is chosen.
+-- `pack::scan_run` meets its contract. The loop keeps `Scanned`, and that the repeat is chosen. Assumes nothing.
 use Prim.Native.Nat.{ℕ, _+_, _-_, _≤_, _<_}
 use native.Mathlib.Omega.{arith}
 use native.Mathlib.Nat.{le-refl}

@@ -1,4 +1,4 @@
--- `pack::step` meets its contract. The bounds that its callees ask follow from `Small`.
+-- `pack::step` meets its contract. The bounds that its callees ask follow from `Small`. Assumes nothing.
 use Prim.Native.Nat.{_≤_}
 use native.Mathlib.Omega.{arith}
 use mathlib.Core.Path.{_∙_, ap₂}
