@@ -222,7 +222,8 @@ PondAnswer kutimuq_pond(const uint8_t *screen, size_t screen_len, uint16_t resol
  * Refusals in order: 1 area below 32,000 bytes, 2, 3 (DEGAS under 34 bytes,
  * NEOchrome not 32,128), 4, 5, 3 (raw not 32,034 or 32,066, packed above
  * 32,065), 6 or 7 at the first record at fault, 8. Offsets count from the
- * file's start.
+ * file's start. A packed file takes 32,000 bytes of stack, for a screen that is
+ * copied to `area` once all is judged.
  */
 ReadAnswer kutimuq_read(uint8_t kind, const uint8_t *file, size_t file_len, uint8_t *area,
                         size_t area_len);
