@@ -1,26 +1,18 @@
 -- Laws of `packWithin`: its refusals, its acceptance, and a room of 129. Assumes nothing.
 use Prim.Native.Nat.{ℕ, _≤_, _<_}
 use native.Mathlib.Omega.{arith}
-use mathlib.Core.Path.{_≡_, refl, sym, _∙_}
-use mathlib.Core.Bool.{Bool, true, false, _||_}
+use mathlib.Core.Path.{_≡_, sym, _∙_}
+use mathlib.Core.Bool.{true, false}
 use mathlib.Core.List.{List}
 use lib.ListN.{length}
-use lib.Dec.{ltb, eqb}
-use borrow.Author.Tests.{lt-ltb, le-ltb, ltb-false}
+use borrow.Author.Tests.{lt-ltb, le-ltb}
 use Rattle.outcome.specs.Outcome.{refused}
 use Rattle.outcome.specs.Refusal.{areaTooShort, outOfRange}
 use Rattle.packbits.specs.Row.{done, widthOutOfRange}
+use Rattle.packbits.proofs.Row.{in-range}
 use Rattle.pack.specs.Least.{least, leastRecords}
 use Rattle.pack.specs.Pack.{packWithin, packRow, packInto}
 use Rattle.pack.proofs.Bounds.{least-bound}
-
--- a width that is in range is at most 128
-pub narrow : (width : ℕ) → widthOutOfRange width ≡ false → width ≤ 128
-narrow width e = go (eqb width 0) (ltb 128 width) refl e
-  where
-    go : (a b : Bool) → ltb 128 width ≡ b → (a || b) ≡ false → width ≤ 128
-    go true b p q = let z : _≡_ {A = ℕ} 0 1 = cc in omega arith
-    go false b p q = ltb-false 128 width (p ∙ q)
 
 module _ (needed : ℕ) (row : List ℕ) (room : ℕ) where
   pub pack-wide : widthOutOfRange (length row) ≡ true → packWithin needed row room ≡ refused outOfRange 0
@@ -38,4 +30,4 @@ module _ (needed : ℕ) (row : List ℕ) (room : ℕ) where
 -- a room of 129 holds every least body
 pub pack-into-row : (row : List ℕ) (room : ℕ) → widthOutOfRange (length row) ≡ false → 129 ≤ room → packInto row room ≡ packRow row room
 pack-into-row row room w h =
-    pack-done (length (least row)) row room w (omega (arith, least-bound row, narrow (length row) w)) ∙ sym (pack-done 129 row room w h)
+    pack-done (length (least row)) row room w (omega (arith, least-bound row, in-range (length row) w)) ∙ sym (pack-done 129 row room w h)

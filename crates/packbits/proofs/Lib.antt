@@ -1,3 +1,4 @@
 pub mod Exact
 pub mod Records
+pub mod Row
 pub mod Unpack

@@ -23,8 +23,9 @@ use Rattle.unpack_rows.proofs.Next.{rowsOf, Next, next}
 use Rattle.unpack_rows.proofs.UnpackRows.{RowsBounded, rows-bounded}
 use Rattle.resolution.specs.declared.Resolution.{Resolution}
 use Rattle.resolution.specs.declared.Resolution.the-variants.{Low, Medium, High}
+use Rattle.packbits.proofs.Row.{of-range}
 use Rattle.resolution.specs.Shapes.{screenBytes, rowBytesOf, planeRowsOf}
-use Rattle.resolution.proofs.Shapes.{rowBytes-le}
+use Rattle.resolution.proofs.Shapes.{rowBytes-le, rowBytes-pos}
 use Rattle.screen.specs.PlaneRows.{withRow, putRow, screenOf}
 use Rattle.screen.proofs.Judged.{judgeRow-accepted}
 use Rattle.screen.proofs.PlaneRows.{putRows, length-screenOf, withRow-over, put-all}
@@ -43,9 +44,7 @@ bodyAnswer file r = rowsAnswer (unpackRowsAt file 34 (rowBytesOf r) (planeRowsOf
 
 -- a plane row's width is in range
 width-in-range : (r : Resolution) → widthOutOfRange (rowBytesOf r) ≡ false
-width-in-range Low = refl
-width-in-range Medium = refl
-width-in-range High = refl
+width-in-range r = of-range (rowBytesOf r) (rowBytes-pos r) (omega (arith, rowBytes-le r))
 
 row-at : (file : List ℕ) (at : ℕ) (r : Resolution) → unpackRowAt file at (rowBytesOf r) ≡ unpackAt file at (rowBytesOf r)
 row-at file at r = at-range file at (rowBytesOf r) (width-in-range r)

@@ -8,10 +8,9 @@ use Rattle.lists.specs.Sum.{sum}
 use Rattle.lists.specs.Tabulate.{tabulate}
 use Rattle.outcome.specs.Outcome.{Outcome, accepted, refused}
 use Rattle.resolution.specs.declared.Resolution.{Resolution}
-use Rattle.resolution.specs.Choice.{judgeScreen}
 use Rattle.tally.specs.declared.Rectangle.{Rectangle}
 use Rattle.tally.specs.declared.TallyAnswer.{TallyAnswer}
-use Rattle.tally.specs.Area.{judgeAreaAt, areaSum}
+use Rattle.tally.specs.Area.{judgeAreaAt, judgeArea, areaSum}
 
 -- 1 for register v, else 0
 unfoldable pub isRegister : ℕ → ℕ → ℕ
@@ -31,7 +30,7 @@ talliedAt s r a = judgeAreaAt r a (accepted (counts s r a))
 
 -- tally: the counts; no columns or no lines is accepted and counts nothing
 unfoldable pub tallied : List ℕ → ℕ → Rectangle → Outcome (List ℕ)
-tallied s number a = judgeScreen (length s) number (λ r. talliedAt s r a)
+tallied s number a = judgeArea (length s) number a (λ r. accepted (counts s r a))
 
 -- a refusal gives its number, its place, and 0 in all else
 abbrev pub tallyAnswer : Outcome (List ℕ) → TallyAnswer

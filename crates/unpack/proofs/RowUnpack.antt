@@ -4,12 +4,12 @@ use mathlib.Core.Logic.{_↔_}
 use Prim.Native.Nat.{ℕ, _≤_, _<_}
 use native.Mathlib.Decide.{decLt}
 use native.Mathlib.Omega.{arith}
-use mathlib.Core.Bool.{Bool, true, false, cond, _||_}
+use mathlib.Core.Bool.{Bool, true, false, cond}
 use mathlib.Core.List.{List}
 use lib.ListN.{length, take, drop, length-append}
 use lib.Seq.{take-at}
-use lib.Dec.{ltb, eqb}
-use borrow.Author.Tests.{lt-ltb, le-ltb, eq-eqb, ne-eqb, eqb-false, ltb-false}
+use lib.Dec.{eqb}
+use borrow.Author.Tests.{lt-ltb, le-ltb, eq-eqb, eqb-false}
 use Rattle.lists.specs.Bytes.{Bytes}
 use Rattle.lists.specs.Over.{over}
 use Rattle.outcome.specs.Outcome.{Outcome, accepted, refused}
@@ -18,20 +18,9 @@ use Rattle.packbits.specs.Row.{Row, done, rowAnswer, rowOutput, widthOutOfRange
 use Rattle.packbits.specs.Unpack.{Progress, outcomeOf, unpack, placed, unpackAt, unpackRow}
 use Rattle.packbits.specs.Unpacks.{Unpacks}
 use Rattle.packbits.proofs.Exact.{exact}
+use Rattle.packbits.proofs.Row.{in-range, of-range}
 use Rattle.packbits.proofs.Unpack.{RowBounded}
 use Rattle.unpack.specs.RowAt.{unpackRowAt}
-
--- ---- widths
-
-pub in-range : (width : ℕ) → widthOutOfRange width ≡ false → (0 < width) × (width ≤ 128)
-in-range width = go (eqb width 0) (ltb 128 width) refl refl
-  where
-    go : (a b : Bool) → eqb width 0 ≡ a → ltb 128 width ≡ b → (a || b) ≡ false → (0 < width) × (width ≤ 128)
-    go true b p q e = let z : _≡_ {A = ℕ} 0 1 = cc in absurd (omega arith)
-    go false b p q e = let ne : width ≡ 0 → ⊥ = eqb-false width 0 p in (omega arith, ltb-false 128 width (q ∙ e))
-
-pub of-range : (width : ℕ) → 0 < width → width ≤ 128 → widthOutOfRange width ≡ false
-of-range width some narrow = simp (ne-eqb width 0 (omega arith), le-ltb 128 width narrow)
 
 -- ---- the cases, in the order of judging
 
@@ -65,11 +54,6 @@ module _ (file : List ℕ) (at width : ℕ) where
 pub answer-placed : (o : Outcome Row) → rowAnswer (placed 0 o) ≡ rowAnswer o
 answer-placed (accepted r) = refl
 answer-placed (refused number place) = ap (λ (k : ℕ). record { number = number; place = k; bytes = 0; records = 0 }) (omega arith)
-
--- a refusal changes no byte of the output
-pub refused-keeps : (o : Outcome Row) (out : List ℕ) → (rowAnswer o .number ≡ 0 → ⊥) → rowOutput o out ≡ out
-refused-keeps (accepted r) out h = absurd (h refl)
-refused-keeps (refused number place) out h = refl
 
 -- a full row is accepted
 pub full-outcome : (at : ℕ) (p : Progress) → p .fault ≡ 0 → placed at (outcomeOf p) ≡ done (p .bytes) (p .records) (p .made)

@@ -16,6 +16,7 @@ use Rattle.outcome.specs.Outcome.{Outcome, later}
 use Rattle.packbits.specs.Row.{done, widthOutOfRange}
 use Rattle.resolution.specs.declared.Resolution.{Resolution}
 use Rattle.resolution.specs.declared.Resolution.the-variants.{Low, Medium, High}
+use Rattle.packbits.proofs.Row.{of-range}
 use Rattle.resolution.specs.Shapes.{screenBytes, rowBytesOf, planeRowsOf}
 use Rattle.pack.specs.Least.{least, leastRecords}
 use Rattle.pack.specs.Pack.{packInto, leastLen}
@@ -23,7 +24,7 @@ use Rattle.pack.proofs.Bounds.{least-bound}
 use Rattle.pack.proofs.Pack.{pack-done}
 use Rattle.pack_rows.specs.LeastRows.{leastRows, leastRowsRecords}
 use Rattle.pack_rows.proofs.LeastRows.{leastRecords-bound, leastRows-next, leastRowsRecords-next, leastRows-past, leastRowsRecords-past}
-use Rattle.resolution.proofs.Shapes.{planeRows-rowBytes, rowBytes-le}
+use Rattle.resolution.proofs.Shapes.{planeRows-rowBytes, rowBytes-le, rowBytes-pos}
 use Rattle.screen.specs.PlaneRows.{planeRow, planeRows, takeRow}
 use Rattle.screen.proofs.Judged.{judgeRow-accepted}
 use Rattle.screen.proofs.PlaneRows.{length-planeRow, length-planeRows, getD-planeRows}
@@ -31,9 +32,7 @@ use Rattle.screen.proofs.PlaneRows.{length-planeRow, length-planeRows, getD-pla
 -- ---- numbers that hold at every resolution
 
 rowBytes-range : (r : Resolution) → widthOutOfRange (rowBytesOf r) ≡ false
-rowBytes-range Low = refl
-rowBytes-range Medium = refl
-rowBytes-range High = refl
+rowBytes-range r = of-range (rowBytesOf r) (rowBytes-pos r) (omega (arith, rowBytes-le r))
 
 -- ---- a plane row taken into a buffer, and packed
 

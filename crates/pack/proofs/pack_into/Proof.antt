@@ -6,7 +6,8 @@ use mathlib.Core.Bool.{true, false}
 use lib.ListN.{length}
 use Rattle.packbits.specs.Row.{rowAnswer, done, widthOutOfRange}
 use Rattle.pack.specs.Least.{least}
-use Rattle.pack.proofs.Pack.{narrow, pack-wide, pack-short, pack-done}
+use Rattle.packbits.proofs.Row.{in-range}
+use Rattle.pack.proofs.Pack.{pack-wide, pack-short, pack-done}
 use borrow.Author.Needs.{needs}
 use Rattle.pack.proofs.pack_into.Statement.{statement}
 use Rattle.pack.proofs.pack_into.Tie as tie
@@ -26,7 +27,7 @@ returns c =
 plan-of-requires : tie.Need-plan-of-requires
 plan-of-requires c κs =
     let a = c .before .before .before .before .before .args in
-    (narrow (length (a .row .now)) (sym (c .before .before .width-out-of-range .ensures) ∙ c .before .if1 .left), refl)
+    (in-range (length (a .row .now)) (sym (c .before .before .width-out-of-range .ensures) ∙ c .before .if1 .left) .1, refl)
 
 row-refused-requires-2 : tie.Need-row-refused-requires-2
 row-refused-requires-2 c κs = search needs
@@ -41,7 +42,7 @@ emit-requires : tie.Need-emit-requires
 emit-requires c κs =
     let a = c .before .before .before .before .before .before .before .before .before .args in
     let w : widthOutOfRange (length (a .row .now)) ≡ false = sym (c .before .before .before .before .before .before .width-out-of-range .ensures) ∙ c .before .before .before .before .before .if1 .left in
-    (narrow (length (a .row .now)) w, (c .before .before .before .plan-of .ensures .1, omega (arith, c .before .before .before .plan-of .ensures .0)))
+    (in-range (length (a .row .now)) w .1, (c .before .before .before .plan-of .ensures .1, omega (arith, c .before .before .before .plan-of .ensures .0)))
 
 same-length : tie.Need-same-length
 same-length c = search needs

@@ -12,7 +12,8 @@ use Rattle.packbits.specs.declared.RowAnswer.{RowAnswer}
 use Rattle.packbits.specs.Row.{Row, rowAnswer, rowOutput, widthOutOfRange}
 use Rattle.packbits.specs.Unpack.{unpack, placed}
 use Rattle.packbits.proofs.Unpack.{row-bounded}
-use Rattle.unpack.proofs.RowUnpack.{row-out, row-short, row-room, at-range, answer-placed, refused-keeps, made-inside, made-copied}
+use Rattle.packbits.proofs.Row.{refused-keeps}
+use Rattle.unpack.proofs.RowUnpack.{row-out, row-short, row-room, at-range, answer-placed, made-inside, made-copied}
 use Rattle.unpack.proofs.unpack_row.Statement.{statement}
 use Rattle.unpack.proofs.unpack_row.Tie as tie
 

@@ -6,7 +6,8 @@ use borrow.Author.Needs.{needs}
 use Rattle.packbits.specs.declared.RowAnswer.{RowAnswer}
 use Rattle.packbits.specs.Row.{widthOutOfRange}
 use Rattle.packbits.specs.Unpack.{progress, unpackAt}
-use Rattle.unpack.proofs.RowUnpack.{in-range, at-out, at-range, refused-keeps, accepted-output}
+use Rattle.packbits.proofs.Row.{in-range, refused-keeps}
+use Rattle.unpack.proofs.RowUnpack.{at-out, at-range, accepted-output}
 use Rattle.unpack.proofs.unpack_row_at.Statement.{statement}
 use Rattle.unpack.proofs.unpack_row_at.Tie as tie
 
