@@ -113,14 +113,14 @@ fn record_of(x: u8, left: usize, room: usize) -> Record
     if x == 128 {
         return Record::Nothing;
     }
-    let n = 255 - x + 2;
-    if room < n as usize {
+    let times = 255 - x + 2;
+    if room < times as usize {
         return Record::Crossing;
     }
     if left < 2 {
         return Record::Truncated;
     }
-    Record::Repeat(n)
+    Record::Repeat(times)
 }
 
 // The record whose control byte stands at an offset.

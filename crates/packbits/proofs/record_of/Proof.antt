@@ -38,11 +38,11 @@ returns-4 c =
     let a = c .before .before .args in
     rw (ap control (c .if4 .taken) ∙ control-nothing) (sym (judged-whole Nothing (a .left) (a .room) (omega arith) (omega arith)))
 
-sub-n : tie.Need-sub-n
-sub-n c = search needs
+sub-times : tie.Need-sub-times
+sub-times c = search needs
 
-add-n-2 : tie.Need-add-n-2
-add-n-2 c = search needs
+add-times : tie.Need-add-times
+add-times c = search needs
 
 cast-if5 : tie.Need-cast-if5
 cast-if5 c = search needs
@@ -73,8 +73,8 @@ record-of-spec =
     returns-2
     returns-3
     returns-4
-    sub-n
-    add-n-2
+    sub-times
+    add-times
     cast-if5
     returns-5
     returns-6
