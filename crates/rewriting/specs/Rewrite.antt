@@ -1,24 +1,39 @@
 -- A packed DEGAS file rewritten: read, and what it gives written as form 3 (document 02, ticket 12). Assumes nothing: these are definitions.
-use Prim.Native.Nat.{ℕ}
+use Prim.Native.Nat.{ℕ, _≤_}
 use mathlib.Core.Path.{_≡_}
 use mathlib.Core.Bool.{true}
 use mathlib.Core.List.{List}
+use lib.ListN.{length, take}
 use Rattle.outcome.specs.Outcome.{Outcome, accepted, refused}
-use Rattle.reader.specs.Reading.{Reading, degasPacked, readFile}
-use Rattle.writer.specs.Write.{Writing, writeFile}
+use Rattle.resolution.specs.Shapes.{screenBytes}
+use Rattle.reader.specs.Reading.{Reading, degasPacked, readFile, readArea}
+use Rattle.writer.specs.Write.{Writing, writeFile, writeAnswer, writeOutput}
 
--- what reading gave, written as form 3 into an output of so many bytes; a refusal of the reading stays
-abbrev pub rewriteRead : ℕ → Outcome Reading → Outcome Writing
-rewriteRead out (accepted q) = writeFile 3 (q .picture) (q .screen) out
-rewriteRead out (refused number place) = refused number place
+-- the lent areas are of the stated sizes
+pub record Lent (area out : List ℕ) : Type 0 where
+  pub room : screenBytes ≤ length area
+  pub enough : 32128 ≤ length out
 
--- a DEGAS file rewritten, by way of an area of so many bytes
-abbrev pub rewrite : ℕ → ℕ → List ℕ → Outcome Writing
-rewrite area out file = rewriteRead out (readFile 1 file area)
+-- the picture that reading gave, and the area that it was lent, written as form 3; a refusal of the reading stays
+abbrev pub writeRead : List ℕ → List ℕ → Outcome Reading → Outcome Writing
+writeRead area out (accepted q) = writeFile 3 (q .picture) (readArea (accepted q) area) (length out)
+writeRead area out (refused number place) = refused number place
 
--- `PackedFile area file q`: a packed DEGAS file, whose reading is accepted and gives q
-pub record PackedFile (area : ℕ) (file : List ℕ) (q : Reading) : Type 0 where
+-- a DEGAS file rewritten, by way of a lent area and into a lent output
+abbrev pub rewrite : List ℕ → List ℕ → List ℕ → Outcome Writing
+rewrite area out file = writeRead area out (readFile 1 file (length area))
+
+-- the file that an output begins with after a writing, as long as the writing reports
+abbrev pub fileIn : List ℕ → Outcome Writing → List ℕ
+fileIn out o = take (writeAnswer o .length) (writeOutput o out)
+
+abbrev pub rewritten : List ℕ → List ℕ → List ℕ → List ℕ
+rewritten area out file = fileIn out (rewrite area out file)
+
+-- `ReadsPacked file q`: a packed DEGAS file, whose reading into some area is accepted and gives q
+pub record ReadsPacked (file : List ℕ) (q : Reading) : Type 0 where
   pub packed : degasPacked file ≡ true
+  pub area : ℕ
   pub reads : readFile 1 file area ≡ accepted q
 
 -- resolution, palette words, tail words and screen are equal
@@ -27,3 +42,8 @@ pub record SamePicture (q other : Reading) : Type 0 where
   pub palette : q .picture .palette ≡ other .picture .palette
   pub tail : q .picture .tail ≡ other .picture .tail
   pub screen : q .screen ≡ other .screen
+
+-- accepted, so never refused with 9, and no longer than the file
+pub record NeverLonger (area out file : List ℕ) : Type 0 where
+  pub written : writeAnswer (rewrite area out file) .number ≡ 0
+  pub bytes : length (rewritten area out file) ≤ length file
