@@ -5,7 +5,7 @@ use mathlib.Core.Bool.{Bool, true, false, false≢true}
 use mathlib.Core.List.{List, [], _++_}
 use Prim.Native.Nat.{ℕ, _+_, _*_, _/_, _%_, _^_, _≤_, _<_}
 use native.Mathlib.Omega.{arith}
-use lib.ListN.{length, getD, take, drop}
+use lib.ListN.{length, getD, drop}
 use lib.Seq.{take-all, take-append-seam}
 use borrow.Author.Tests.{eq-eqb}
 use Rattle.lists.specs.Bytes.{Bytes}
@@ -29,7 +29,7 @@ use Rattle.picture.specs.Tables.{tablesAt, held}
 use Rattle.reader.specs.Reading.{Reading, withTail, degasResolution, degasPacked, readFile}
 use Rattle.reader.proofs.Reading.{file-degas}
 use Rattle.writer.specs.Layout.{degasHeader, tailBytes, packedFile}
-use Rattle.writer.specs.Write.{Writing, leastBody, writeFile, writeAnswer, writeOutput}
+use Rattle.writer.specs.Write.{Writing, leastBody, writeFile, writeAnswer}
 use Rattle.writer.proofs.WriteFile.{packed-accepted, form-packed, file-form}
 use Rattle.demands.specs.Accepted.{PackedFits, DegasFits, Accepts, packedGiven, degasGiven, given}
 use Rattle.demands.specs.Pictures.{Whole}
