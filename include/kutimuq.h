@@ -67,97 +67,97 @@ enum {
 };
 
 /* A number and a place, no more. */
-typedef struct Answer {
+typedef struct KutimuqAnswer {
     uint8_t number;
     size_t place;
-} Answer;
+} KutimuqAnswer;
 
 /* Packed bytes used or written, and records, do-nothing ones included. */
-typedef struct RowAnswer {
+typedef struct KutimuqRowAnswer {
     uint8_t number;
     size_t place;
     size_t bytes;
     size_t records;
-} RowAnswer;
+} KutimuqRowAnswer;
 
 /* One of the tail's four tables. */
-typedef struct Table {
+typedef struct KutimuqTable {
     uint16_t words[4];
-} Table;
+} KutimuqTable;
 
 /* A picture without its screen. The tail's tables are left limits, right
    limits, directions and delays; all zero where reading found no tail. */
-typedef struct Picture {
+typedef struct KutimuqPicture {
     uint16_t resolution;
     uint16_t palette[16];
     bool tailed;
-    Table tail[4];
-} Picture;
+    KutimuqTable tail[4];
+} KutimuqPicture;
 
 /* Body: the packed body's bytes; records: its records, do-nothing ones
    included. Both are 0 for a raw file. */
-typedef struct ReadAnswer {
+typedef struct KutimuqReadAnswer {
     uint8_t number;
     size_t place;
-    Picture picture;
+    KutimuqPicture picture;
     size_t body;
     size_t records;
-} ReadAnswer;
+} KutimuqReadAnswer;
 
 /* Length: the file's bytes. Body and records are 0 except for form 3. */
-typedef struct WriteAnswer {
+typedef struct KutimuqWriteAnswer {
     uint8_t number;
     size_t place;
     size_t length;
     size_t body;
     size_t records;
-} WriteAnswer;
+} KutimuqWriteAnswer;
 
 /* Left plus columns must not exceed the width, top plus lines not the height,
    as whole numbers. No columns or no lines is an empty rectangle. */
-typedef struct Rectangle {
+typedef struct KutimuqRectangle {
     size_t left;
     size_t top;
     size_t columns;
     size_t lines;
-} Rectangle;
+} KutimuqRectangle;
 
 /* Pixels of each register. */
-typedef struct TallyAnswer {
+typedef struct KutimuqTallyAnswer {
     uint8_t number;
     size_t place;
     uint32_t counts[16];
-} TallyAnswer;
+} KutimuqTallyAnswer;
 
 /* Each colour from 0 to 255. */
-typedef struct ColourAnswer {
+typedef struct KutimuqColourAnswer {
     uint8_t number;
     size_t place;
     uint8_t red;
     uint8_t green;
     uint8_t blue;
-} ColourAnswer;
+} KutimuqColourAnswer;
 
 /* For each register a class (0 to 255) and a confidence (0 to 100). */
-typedef struct Legend {
+typedef struct KutimuqLegend {
     uint8_t classes[16];
     uint8_t confidences[16];
-} Legend;
+} KutimuqLegend;
 
 /* Pixels of the class at or above the floor, of the class below the floor, and
    of any other class. They add up to the rectangle's pixels. */
-typedef struct PondAnswer {
+typedef struct KutimuqPondAnswer {
     uint8_t number;
     size_t place;
     uint32_t sure;
     uint32_t unsure;
     uint32_t other;
-} PondAnswer;
+} KutimuqPondAnswer;
 
 /* The 16 palette words, register 0 first. */
-typedef struct Palette {
+typedef struct KutimuqPalette {
     uint16_t words[16];
-} Palette;
+} KutimuqPalette;
 
 /*
  * Unpacks one PackBits row of `width` bytes, 1 to 128, to the front of `out`.
@@ -165,8 +165,8 @@ typedef struct Palette {
  * Refusals in order: 10 width, 1 output below the width, 6 or 7 at the first
  * record at fault. Offsets count from the start of `packed`.
  */
-RowAnswer kutimuq_unpack_row(const uint8_t *packed, size_t packed_len, size_t width,
-                             uint8_t *out, size_t out_len);
+KutimuqRowAnswer kutimuq_unpack_row(const uint8_t *packed, size_t packed_len, size_t width,
+                                    uint8_t *out, size_t out_len);
 
 /*
  * Packs a row of 1 to 128 bytes, the whole input, to the shortest byte string
@@ -174,7 +174,8 @@ RowAnswer kutimuq_unpack_row(const uint8_t *packed, size_t packed_len, size_t wi
  * of unsigned bytes. Output past that string is unchanged.
  * Refusals in order: 10 width, 1 output below 129 bytes.
  */
-RowAnswer kutimuq_pack_row(const uint8_t *row, size_t row_len, uint8_t *out, size_t out_len);
+KutimuqRowAnswer kutimuq_pack_row(const uint8_t *row, size_t row_len, uint8_t *out,
+                                  size_t out_len);
 
 /*
  * Takes the registers of one scan line, one byte a pixel, from a screen.
@@ -182,8 +183,8 @@ RowAnswer kutimuq_pack_row(const uint8_t *row, size_t row_len, uint8_t *out, siz
  * Refusals in order: 1 screen below 32,000 bytes, 5, 10 line not below the
  * height, 1 output below the width.
  */
-Answer kutimuq_line_out(const uint8_t *screen, size_t screen_len, uint16_t resolution,
-                        size_t line, uint8_t *out, size_t out_len);
+KutimuqAnswer kutimuq_line_out(const uint8_t *screen, size_t screen_len, uint16_t resolution,
+                               size_t line, uint8_t *out, size_t out_len);
 
 /*
  * Puts the registers of one scan line, one byte a pixel, into a screen. All
@@ -191,30 +192,32 @@ Answer kutimuq_line_out(const uint8_t *screen, size_t screen_len, uint16_t resol
  * Refusals in order: 1 screen below 32,000 bytes, 5, 10 line not below the
  * height, 1 registers below the width, 10 a register not below 2^planes.
  */
-Answer kutimuq_line_in(uint8_t *screen, size_t screen_len, uint16_t resolution, size_t line,
-                       const uint8_t *registers, size_t registers_len);
+KutimuqAnswer kutimuq_line_in(uint8_t *screen, size_t screen_len, uint16_t resolution,
+                              size_t line, const uint8_t *registers, size_t registers_len);
 
 /*
  * Counts the pixels of each register in a rectangle.
  * Refusals in order: 1 screen below 32,000 bytes, 5, 10 rectangle.
  */
-TallyAnswer kutimuq_tally(const uint8_t *screen, size_t screen_len, uint16_t resolution,
-                          Rectangle area);
+KutimuqTallyAnswer kutimuq_tally(const uint8_t *screen, size_t screen_len,
+                                 uint16_t resolution, KutimuqRectangle area);
 
 /*
  * The colour of a register. At high resolution register 0 is white and
  * register 1 black, whatever the palette.
  * Refusals in order: 5, 10 register not below 2^planes.
  */
-ColourAnswer kutimuq_colour(uint16_t resolution, Palette palette, uint8_t register_number);
+KutimuqColourAnswer kutimuq_colour(uint16_t resolution, KutimuqPalette palette,
+                                   uint8_t register_number);
 
 /*
  * Counts the pixels of a class in a rectangle, sure and unsure ones apart.
  * Refusals in order: 1 screen below 32,000 bytes, 5, 10 rectangle, or the floor
  * or any of the 16 confidences above 100.
  */
-PondAnswer kutimuq_pond(const uint8_t *screen, size_t screen_len, uint16_t resolution,
-                        Rectangle area, uint8_t class_number, uint8_t floor, Legend legend);
+KutimuqPondAnswer kutimuq_pond(const uint8_t *screen, size_t screen_len, uint16_t resolution,
+                               KutimuqRectangle area, uint8_t class_number, uint8_t floor,
+                               KutimuqLegend legend);
 
 /*
  * Reads a DEGAS (kind 1) or NEOchrome (kind 2) file: the screen goes to the
@@ -222,11 +225,11 @@ PondAnswer kutimuq_pond(const uint8_t *screen, size_t screen_len, uint16_t resol
  * Refusals in order: 1 area below 32,000 bytes, 2, 3 (DEGAS under 34 bytes,
  * NEOchrome not 32,128), 4, 5, 3 (raw not 32,034 or 32,066, packed above
  * 32,065), 6 or 7 at the first record at fault, 8. Offsets count from the
- * file's start. A packed file takes 32,000 bytes of stack, for a screen that is
- * copied to `area` once all is judged.
+ * file's start. A packed file takes about 33,000 bytes of stack, 32,000 of them
+ * for a screen that is copied to `area` once all is judged.
  */
-ReadAnswer kutimuq_read(uint8_t kind, const uint8_t *file, size_t file_len, uint8_t *area,
-                        size_t area_len);
+KutimuqReadAnswer kutimuq_read(uint8_t kind, const uint8_t *file, size_t file_len,
+                               uint8_t *area, size_t area_len);
 
 /*
  * Writes a picture in form 1 to 4 to the front of `out`; output past the file
@@ -235,8 +238,8 @@ ReadAnswer kutimuq_read(uint8_t kind, const uint8_t *file, size_t file_len, uint
  * Refusals in order: 1 screen below 32,000 or output below 32,128 bytes, 2, 5,
  * 9 (form 3 only).
  */
-WriteAnswer kutimuq_write(uint8_t form, Picture picture, const uint8_t *screen,
-                          size_t screen_len, uint8_t *out, size_t out_len);
+KutimuqWriteAnswer kutimuq_write(uint8_t form, KutimuqPicture picture, const uint8_t *screen,
+                                 size_t screen_len, uint8_t *out, size_t out_len);
 
 #ifdef __cplusplus
 }

@@ -1,5 +1,5 @@
-/* Prints size and field offsets of each struct of kutimuq.h, as
-   `kutimuq-tests --layout` does for the Rust side. */
+/* Prints size and field offsets of each struct of kutimuq.h, named without its
+   prefix, as `kutimuq-tests --layout` does for the Rust side. */
 
 #include <stdalign.h>
 #include <stddef.h>
@@ -8,8 +8,9 @@
 #include "kutimuq.h"
 
 #define STRUCT(name) \
-    printf("%s size %zu align %zu\n", #name, sizeof(name), (size_t)alignof(name))
-#define FIELD(name, field) printf("%s.%s offset %zu\n", #name, #field, offsetof(name, field))
+    printf("%s size %zu align %zu\n", #name, sizeof(Kutimuq##name), (size_t)alignof(Kutimuq##name))
+#define FIELD(name, field) \
+    printf("%s.%s offset %zu\n", #name, #field, offsetof(Kutimuq##name, field))
 
 static void print_answers(void)
 {

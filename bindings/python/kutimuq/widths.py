@@ -10,13 +10,14 @@ SIZE_MAX = ctypes.c_size_t(-1).value
 
 def _fitted(number, largest):
     # ctypes would cut upper bits off: kind 257 would pass for kind 1. The largest
-    # number of each width is out of range everywhere, so the library refuses it.
+    # number of each width is out of range for all but a class, so the library
+    # refuses it. 255 is a class: counts.pond sees to classes out of range.
     number = index(number)
     return number if 0 <= number <= largest else largest
 
 
 def byte(number):
-    """A kind, form, register, floor or confidence."""
+    """A kind, form, register, class, floor or confidence."""
     return _fitted(number, BYTE_MAX)
 
 

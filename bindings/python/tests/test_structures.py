@@ -24,9 +24,10 @@ def program():
     prints = []
     for struct in structs():
         name = struct.__name__
-        prints.append(f'printf("{name} %zu\\n", sizeof({name}));')
+        declared = f"Kutimuq{name}"
+        prints.append(f'printf("{name} %zu\\n", sizeof({declared}));')
         for field, _ in struct._fields_:
-            place = f"offsetof({name}, {field}), sizeof((({name} *)0)->{field})"
+            place = f"offsetof({declared}, {field}), sizeof((({declared} *)0)->{field})"
             prints.append(f'printf("{name}.{field} %zu %zu\\n", {place});')
     return f'#include <stdio.h>\n#include "{HEADER}"\nint main(void) {{ {" ".join(prints)} }}\n'
 
