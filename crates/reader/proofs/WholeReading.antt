@@ -21,41 +21,41 @@ use Rattle.reader.specs.Reading.{Reading, degasResolution, degasPacked, 
 use Rattle.reader.proofs.Reading.{file-degas}
 
 -- an accepted reading has a whole screen and a known resolution; a refusal has a number
-abbrev pub Sound : Outcome Reading → Type 0
-Sound (accepted q) = (length (q .screen) ≡ screenBytes) × ((r : Resolution) × (chosen (q .picture .resolution) ≡ Known r))
-Sound (refused number place) = number ≡ 0 → ⊥
+abbrev pub WholeReading : Outcome Reading → Type 0
+WholeReading (accepted q) = (length (q .screen) ≡ screenBytes) × ((r : Resolution) × (chosen (q .picture .resolution) ≡ Known r))
+WholeReading (refused number place) = number ≡ 0 → ⊥
 
 module _ (file : List ℕ) (r : Resolution) (known : chosen (degasResolution file) ≡ Known r) where
-  raw-sound : Sound (readRaw file)
+  raw-whole : WholeReading (readRaw file)
   unfolding readRaw
-  raw-sound =
-      cond-eqb Sound (length file) 32034 (λ h. (whole (omega arith), (r, known)))
-      (λ _. cond-eqb Sound (length file) 32066 (λ h. (whole (omega arith), (r, known))) (λ _ e. omega arith))
+  raw-whole =
+      cond-eqb WholeReading (length file) 32034 (λ h. (whole (omega arith), (r, known)))
+      (λ _. cond-eqb WholeReading (length file) 32066 (λ h. (whole (omega arith), (r, known))) (λ _ e. omega arith))
     where
       whole : 32034 ≤ length file → length (take screenBytes (drop 34 file)) ≡ screenBytes
       whole h = length-take-le screenBytes (drop 34 file) (omega (arith, length-drop 34 file))
 
-  tail-sound : (input : List ℕ) (width n : ℕ) (o : Outcome Rows) → RowsBounded input width n o → Sound (tailAfter file r (placed 34 o))
-  tail-sound input width n (accepted q) b =
-      cond-elim Sound (eqb (length file) (34 + q .bytes + 32)) (λ _. (length-screenOf r (q .rows), (r, known))) (λ _ e. omega arith)
-  tail-sound input width n (refused number place) b = b .0
+  tail-whole : (input : List ℕ) (width n : ℕ) (o : Outcome Rows) → RowsBounded input width n o → WholeReading (tailAfter file r (placed 34 o))
+  tail-whole input width n (accepted q) b =
+      cond-elim WholeReading (eqb (length file) (34 + q .bytes + 32)) (λ _. (length-screenOf r (q .rows), (r, known))) (λ _ e. omega arith)
+  tail-whole input width n (refused number place) b = b .0
 
-  packed-sound : Sound (readPacked file r)
+  packed-whole : WholeReading (readPacked file r)
   unfolding readPacked
-  packed-sound =
-      cond-ltb Sound 32065 (length file) (λ _ e. omega arith)
-      (λ _. tail-sound (drop 34 file) (rowBytesOf r) (planeRowsOf r) (unpackRows (planeRowsOf r) (rowBytesOf r) (drop 34 file))
+  packed-whole =
+      cond-ltb WholeReading 32065 (length file) (λ _ e. omega arith)
+      (λ _. tail-whole (drop 34 file) (rowBytesOf r) (planeRowsOf r) (unpackRows (planeRowsOf r) (rowBytesOf r) (drop 34 file))
       (rows-bounded (planeRowsOf r) (rowBytesOf r) (drop 34 file)))
 
-  chosen-sound : Sound (readChosen file r)
+  chosen-whole : WholeReading (readChosen file r)
   unfolding readChosen
-  chosen-sound = cond-elim Sound (degasPacked file) (λ _. packed-sound) (λ _. raw-sound)
+  chosen-whole = cond-elim WholeReading (degasPacked file) (λ _. packed-whole) (λ _. raw-whole)
 
-degas-sound : (file : List ℕ) → Sound (readDegas file)
+degas-whole : (file : List ℕ) → WholeReading (readDegas file)
 unfolding readDegas
-degas-sound file =
-    cond-ltb Sound (length file) 34 (λ _ e. omega arith)
-    (λ _. withResolution-elim Sound (degasResolution file) (λ r. readChosen file r) (λ e. omega arith) (λ r known. chosen-sound file r known))
+degas-whole file =
+    cond-ltb WholeReading (length file) 34 (λ _ e. omega arith)
+    (λ _. withResolution-elim WholeReading (degasResolution file) (λ r. readChosen file r) (λ e. omega arith) (λ r known. chosen-whole file r known))
 
-pub read-sound : (file : List ℕ) → Sound (readFile 1 file screenBytes)
-read-sound file = rw (file-degas file 1 screenBytes (omega arith) refl) (degas-sound file)
+pub read-whole : (file : List ℕ) → WholeReading (readFile 1 file screenBytes)
+read-whole file = rw (file-degas file 1 screenBytes (omega arith) refl) (degas-whole file)
