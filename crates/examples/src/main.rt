@@ -1,15 +1,19 @@
-// Runs document 01's examples that are not proved, one function each, and writes what comes of them after a short label.
+// Runs document 01's examples that are not proved, one function each, and writes what comes of them after a short label. The blank
+// file's summary is run by crates/summary.
 ghost use Prim.Native.Nat.{_+_, _≤_};
 ghost use lib.ListN.{length};
 ghost use mathlib.Core.Path.{_≡_};
 use libc::STDOUT_FILENO;
 use picture::Picture;
 use picture::Table;
+use report::SUMMARY_BYTES;
 use resolution::Resolution;
+use resolution::SCREEN_BYTES;
+use writer::FILE_BYTES;
 
 // Writes a label and the summary of a file.
 fn show(label: &[u8], file: &[u8]) {
-    let mut text = [0u8; 512];
+    let mut text = [0u8; SUMMARY_BYTES];
     let answer = report::summarise(file, &mut text);
     let end = answer.length;
     io::write_all(STDOUT_FILENO, label);
@@ -100,18 +104,13 @@ fn blank_picture() -> Picture {
 fn row_len(row: &[u8]) -> usize
     ensures { λ r. ⌜ r ≤ 129 ⌝ }
 {
-    let n = pack::packed_len(row);
-    if n < pack::MAX_BODY {
-        n
-    } else {
-        pack::MAX_BODY
-    }
+    pack::packed_len(row)
 }
 
 // A low screen whose first row has so many equal bytes at its front and whose others have three: its least body's length, and what
 // writing it as form 3 gives.
 fn rows_of_three(label: &[u8], first: usize) {
-    let mut screen = [0u8; 32000];
+    let mut screen = [0u8; SCREEN_BYTES];
     let row = row_of(3);
     let mut n: usize = 0;
     while n < 800 {
@@ -120,7 +119,7 @@ fn rows_of_three(label: &[u8], first: usize) {
     }
     let front = row_of(first);
     screen::put_row(&mut screen, Resolution::Low, 0, &front);
-    let mut out = [0u8; 32128];
+    let mut out = [0u8; FILE_BYTES];
     let answer = writer::write(writer::PACKED, blank_picture(), &screen, &mut out);
     let least = row_len(&front) + 799 * row_len(&row);
     io::write_all(STDOUT_FILENO, label);

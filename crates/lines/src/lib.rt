@@ -86,7 +86,8 @@ fn copy_columns(screen: &[u8], start: usize, planes: usize, columns: usize, out:
     }
 }
 
-// The registers of a scan line, from the left, into out.
+// The registers of a scan line, from the left, into out. What the shape table says is repeated as constants of each resolution, so that
+// the compiler divides and multiplies by constants.
 fn fill_line(screen: &[u8], r: Resolution, line: usize, out: &mut [u8])
     requires { ⌜ (screenBytes ≤ length (now screen)) × (line < heightOf r) × (widthOf r ≤ length (now out)) ⌝ }
     ensures { λ _. ⌜ now (out .exit) ≡ over (scanLine (now (screen .entry)) r line) (now (out .entry)) ⌝ }
@@ -98,7 +99,8 @@ fn fill_line(screen: &[u8], r: Resolution, line: usize, out: &mut [u8])
     }
 }
 
-// The registers of a scan line, from the left, into out, by way of an array that no slice overlaps.
+// The registers of a scan line, from the left, into out, by way of an array of its own: the compiler then knows that writing a register
+// changes no byte of the screen, which makes it faster.
 fn copy_line(screen: &[u8], r: Resolution, line: usize, out: &mut [u8])
     requires { ⌜ (screenBytes ≤ length (now screen)) × (line < heightOf r) × (widthOf r ≤ length (now out)) ⌝ }
     ensures { λ _. ⌜ now (out .exit) ≡ over (scanLine (now (screen .entry)) r line) (now (out .entry)) ⌝ }
@@ -184,7 +186,8 @@ fn plane_byte(registers: &[u8], at: usize, p: usize) -> u8
     byte
 }
 
-// Byte i of the scan line that the registers make.
+// Byte i of the scan line that the registers make. The planes are constants of each resolution, so that the compiler divides by
+// constants.
 fn line_byte(registers: &[u8], r: Resolution, i: usize) -> u8
     requires { ⌜ (i < 160) × (i < lineBytesOf r) × (widthOf r ≤ length (now registers)) ⌝ }
     ensures { λ v. ⌜ v ≡ getD (wordBytes (wordOf (now (registers .entry)) (i / 2 / planesOf r) (i / 2 % planesOf r))) (i % 2) 0 ⌝ }

@@ -13,7 +13,7 @@ use Rattle.pack.specs.declared.Costs.{Costs}
 use Rattle.pack.specs.declared.Literal.{Literal}
 use Rattle.pack.specs.declared.Repeat.{Repeat}
 use Rattle.pack.specs.Least.{Body, size, Opening, Run, openingOf, runOf, bestOf, with-byte, literalBody, repeatBody, step, scan}
-use Rattle.pack.specs.Costs.{costsOf, Small, Chosen, literalOf, repeatOf, costsWith, stepCosts}
+use Rattle.pack.specs.Costs.{costsOf, Small, RepeatIfShorter, literalOf, repeatOf, costsWith, stepCosts}
 use Rattle.pack.proofs.Least.{best-cases, run-byte, more-bound, count-bound, after≤best}
 use Rattle.pack.proofs.Bounds.{opening-bound, least-bound}
 
@@ -81,16 +81,16 @@ costs-before row i h l = ap costsOf (drop-before row i h l) ∙ costs-step (getD
 
 -- ---- a run that goes on
 
-pub chosen : (s : List ℕ) → Chosen (costsOf s)
+pub repeat-if-shorter : (s : List ℕ) → RepeatIfShorter (costsOf s)
 unfolding scan
-chosen [] h = absurd (omega arith)
-chosen (x ∷ s) h =
+repeat-if-shorter [] h = absurd (omega arith)
+repeat-if-shorter (x ∷ s) h =
     best-cases x (scan s) (λ b. (size b ≡ size (scan (x ∷ s) .run .after) + 2) × (getD (b .bytes) 0 0 ≡ 257 - scan (x ∷ s) .run .count))
     (λ l. absurd (omega arith))
     (λ l. (omega arith, refl))
 
 -- the repeat stays chosen, one byte longer
-pub step-lengthened : (t : Costs) → Chosen t → t .after + 1 < t .rest
+pub step-lengthened : (t : Costs) → RepeatIfShorter t → t .after + 1 < t .rest
     → _≡_ {A = Costs} (record { best = t .best; control = t .control - 1; more = 0; rest = t .best + 1; byte = t .byte; count = t .count + 1; after = t .after }) (stepCosts (t .byte) t)
 step-lengthened t k h =
     let b : t .best ≡ t .after + 2 = k h .0 in

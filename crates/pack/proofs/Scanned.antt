@@ -8,11 +8,11 @@ use lib.ListN.{length, getD, drop, set, length-drop, length-set}
 use lib.Seq.{drop-length}
 use Rattle.pack.specs.declared.Costs.{Costs}
 use Rattle.pack.specs.Controls.{ControlsFrom}
-use Rattle.pack.specs.Costs.{costsOf, Small, Chosen, stepCosts}
+use Rattle.pack.specs.Costs.{costsOf, Small, RepeatIfShorter, stepCosts}
 use Rattle.pack.specs.Least.{least}
 use Rattle.pack.specs.Scanned.{Scanned}
 use Rattle.pack.proofs.Controls.{leads, controls-more}
-use Rattle.pack.proofs.Lengths.{costs-before, costs-small, chosen}
+use Rattle.pack.proofs.Lengths.{costs-before, costs-small, repeat-if-shorter}
 
 pub scanned-start : (row controls : List ℕ) (t : Costs) → length controls ≡ 128 → t ≡ costsOf [] → Scanned row controls (length row) t
 scanned-start row controls t l e =
@@ -27,8 +27,8 @@ module _ (row controls : List ℕ) (i : ℕ) (t : Costs) (narrow : length row �
   pub scanned-small : Small t
   scanned-small = subst Small (sym (s .costs)) (costs-small (drop i row) (omega (arith, length-drop i row)))
 
-  pub scanned-chosen : Chosen t
-  scanned-chosen = subst Chosen (sym (s .costs)) (chosen (drop i row))
+  pub scanned-repeat : RepeatIfShorter t
+  scanned-repeat = subst RepeatIfShorter (sym (s .costs)) (repeat-if-shorter (drop i row))
 
   -- a step with the byte before the place i, whose control byte is then written
   module _ (u : Costs) (some : 1 ≤ i) (e : u ≡ stepCosts (getD row (i - 1) 0) t) where

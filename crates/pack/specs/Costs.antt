@@ -32,8 +32,8 @@ pub record Small (t : Costs) : Type 0 where
   pub after : t .after ≤ 1000
 
 -- where the repeat is shorter than the literal, the least body begins with it
-abbrev pub Chosen : Costs → Type 0
-Chosen t = t .after + 1 < t .rest → (t .best ≡ t .after + 2) × (t .control ≡ 257 - t .count)
+abbrev pub RepeatIfShorter : Costs → Type 0
+RepeatIfShorter t = t .after + 1 < t .rest → (t .best ≡ t .after + 2) × (t .control ≡ 257 - t .count)
 
 -- the literal from one byte further left
 abbrev pub literalOf : Costs → Literal

@@ -7,7 +7,7 @@ ghost use Rattle.lists.specs.Over.{over};
 ghost use Rattle.packbits.specs.Row.{rowAnswer, rowOutput};
 ghost use Rattle.pack.specs.Least.{least, leastRecords};
 ghost use Rattle.pack.specs.Controls.{recordOf, takenBy, shownBy, ControlsFrom};
-ghost use Rattle.pack.specs.Costs.{costsOf, Small, Chosen, literalOf, repeatOf, costsWith, stepCosts};
+ghost use Rattle.pack.specs.Costs.{costsOf, Small, RepeatIfShorter, literalOf, repeatOf, costsWith, stepCosts};
 ghost use Rattle.pack.specs.Scanned.{Scanned};
 ghost use Rattle.pack.specs.Pack.{packRow, packInto, leastLen};
 use outcome::AREA_TOO_SHORT;
@@ -18,7 +18,8 @@ use packbits::RowAnswer;
 // The longest body that packing makes of a row.
 pub const MAX_BODY: usize = 129;
 
-// What is known of a suffix of the row, in lengths. The terms are those of specs/Least.antt.
+// What is known of a suffix of the row: control is the control byte that its least body begins with, byte the byte of its first run, and
+// the others are lengths. The terms are those of specs/Least.antt.
 struct Costs {
     best: usize,
     control: usize,
@@ -117,7 +118,7 @@ fn step(x: u8, t: Costs) -> Costs
 
 // The same with the byte of the run, where the repeat is chosen: it stays so.
 fn lengthened(t: Costs) -> Costs
-    requires { ⌜ Small t × Chosen t × (t .after + 1 < t .rest) ⌝ }
+    requires { ⌜ Small t × RepeatIfShorter t × (t .after + 1 < t .rest) ⌝ }
     ensures { λ r. ⌜ r ≡ stepCosts (t .byte) t ⌝ }
     ensures { λ r. ⌜ r .after + 1 < r .rest ⌝ }
 {
@@ -295,7 +296,7 @@ pub fn pack_into(row: &[u8], out: &mut [u8]) -> RowAnswer
     }
 }
 
-// Packs the row to the front of out, which has 129 bytes at least.
+// Packs the row to the front of out. An output below 129 bytes is refused with 1.
 pub fn pack_row(row: &[u8], out: &mut [u8]) -> RowAnswer
     ensures { λ r. ⌜ r ≡ rowAnswer (packRow (now (row .entry)) (length (now (out .entry)))) ⌝ }
     ensures { λ r. ⌜ now (out .exit) ≡ rowOutput (packRow (now (row .entry)) (length (now (out .entry)))) (now (out .entry)) ⌝ }

@@ -23,7 +23,7 @@ pondOf s r a class floor l = record {
   other = areaSum s r a (isOther l class);
 }
 
--- the pixels of register v, of which there are so many
+-- the pixels of register v, of which there are so many; only contracts of private functions cite it
 unfoldable pub entryCounts : Legend → ℕ → ℕ → ℕ → ℕ → PondCounts
 entryCounts l class floor v count = record {
   sure = isSure l class floor v * count;
@@ -31,7 +31,7 @@ entryCounts l class floor v count = record {
   other = isOther l class v * count;
 }
 
--- the pixels of a rectangle from the counts of registers 0 to 15
+-- the pixels of a rectangle from the counts of registers 0 to 15; only contracts of private functions cite it
 unfoldable pub pondFrom : List ℕ → ℕ → ℕ → Legend → PondCounts
 pondFrom counts class floor l = record {
   sure = sum 16 (λ v. entryCounts l class floor v (getD counts v 0) .sure);

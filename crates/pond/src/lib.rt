@@ -78,7 +78,7 @@ fn entry_counts(legend: Legend, v: usize, class: u8, floor: u8, count: u32) -> P
     }
 }
 
-// The pixels of all registers, counted by register.
+// The pixels of all registers, counted by register. No count exceeds 256,000: 640 x 400, the pixels of the largest screen.
 fn pond_counts(counts: [u32; 16], legend: Legend, class: u8, floor: u8) -> PondCounts
     requires { ⌜ ((v : ℕ) → getD counts v 0 ≤ 256000) ⌝ }
     ensures { λ p. ⌜ p ≡ pondFrom counts class floor legend ⌝ }

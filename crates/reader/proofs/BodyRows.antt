@@ -49,17 +49,14 @@ width-in-range r = of-range (rowBytesOf r) (rowBytes-pos r) (omega (arith, rowBy
 row-at : (file : List ℕ) (at : ℕ) (r : Resolution) → unpackRowAt file at (rowBytesOf r) ≡ unpackAt file at (rowBytesOf r)
 row-at file at r = at-range file at (rowBytesOf r) (width-in-range r)
 
-placed-number : (at : ℕ) (o : Outcome Rows) → rowsAnswer (placed at o) .number ≡ rowsAnswer o .number
-placed-number at (accepted q) = refl
-placed-number at (refused number place) = refl
-
 judged-number : (at used records : ℕ) (o : Outcome Rows) → judged at used records o .number ≡ rowsAnswer o .number
 judged-number at used records (accepted q) = refl
 judged-number at used records (refused number place) = refl
 
 -- an accepted body gives the screen made from its rows
-screen-of-body : (input : List ℕ) (width n : ℕ) (r : Resolution) (screen : List ℕ) (o : Outcome Rows) → RowsBounded input width n o → rowsAnswer o .number ≡ 0
-    → screenOf r (rowsOf o) ≡ later o (λ q. screenOf r (q .rows)) screen
+screen-of-body : (input : List ℕ) (width n : ℕ) (r : Resolution) (screen : List ℕ) (o : Outcome Rows) → RowsBounded input width n o
+    → rowsAnswer (placed 34 o) .number ≡ 0
+    → screenOf r (rowsOf o) ≡ later (placed 34 o) (λ q. screenOf r (q .rows)) screen
 screen-of-body input width n r screen (accepted q) b e = refl
 screen-of-body input width n r screen (refused number place) b e = absurd (b .0 e)
 
@@ -170,7 +167,7 @@ module _ (file : List ℕ) (r : Resolution) (screen₀ : List ℕ) (size : lengt
       pub unpacking-done : record { number = 0; place = 0; bytes = used; records = records } ≡ bodyAnswer file r
       unpacking-done = sym (u .answer ∙ judged-full 34 used records (rowBytesOf r) (planeRowsOf r - n) (drop (34 + used) file) (omega arith))
 
-      pub screen-done : screen ≡ later (bodyRows file r) (λ q. screenOf r (q .rows)) screen₀
+      pub screen-done : screen ≡ later (unpackRowsAt file 34 (rowBytesOf r) (planeRowsOf r)) (λ q. screenOf r (q .rows)) screen₀
       screen-done =
           let rows : List (List ℕ) = rowsOf (bodyRows file r) in
           let all : n ≡ planeRowsOf r = omega (arith, u .within) in
@@ -179,5 +176,4 @@ module _ (file : List ℕ) (r : Resolution) (screen₀ : List ℕ) (size : lengt
           ∙ ap (λ (k : ℕ). putRows r k rows screen₀) all
           ∙ put-all r rows screen₀ (omega arith)
           ∙ over-whole (screenOf r rows) screen₀ (omega (arith, length-screenOf r rows))
-          ∙ screen-of-body (drop 34 file) (rowBytesOf r) (planeRowsOf r) r screen₀ (bodyRows file r) (rows-bounded (planeRowsOf r) (rowBytesOf r) (drop 34 file))
-          (sym (placed-number 34 (bodyRows file r)) ∙ ok)
+          ∙ screen-of-body (drop 34 file) (rowBytesOf r) (planeRowsOf r) r screen₀ (bodyRows file r) (rows-bounded (planeRowsOf r) (rowBytesOf r) (drop 34 file)) ok

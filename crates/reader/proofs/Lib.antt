@@ -1,3 +1,3 @@
 pub mod BodyRows
 pub mod Reading
-pub mod Sound
+pub mod WholeReading

@@ -116,7 +116,7 @@ module _ (file : List ℕ) (r : Resolution) (q : RowAnswer) where
     tail-after (refused number place) b is h = absurd (b .0 (sym (ap (λ (a : RowAnswer). a .number) is) ∙ ok))
 
     done-after : (o : Outcome Rows) → RowsBounded input width n o → q ≡ rowsAnswer (placed 34 o) → length file ≡ 34 + q .bytes + 32
-        → (screen was area : List ℕ) → screen ≡ later o (λ s. screenOf r (s .rows)) was
+        → (screen was area : List ℕ) → screen ≡ later (placed 34 o) (λ s. screenOf r (s .rows)) was
         → (_≡_ {A = ReadAnswer} (record { number = 0; place = 0; picture = withTail file (degasResolution file) 2 (34 + q .bytes); body = q .bytes; records = q .records }) (readAnswer (tailAfter file r (placed 34 o))))
         × (over screen area ≡ readArea (tailAfter file r (placed 34 o)) area)
     done-after (accepted rows) b is h screen was area made =
@@ -150,7 +150,7 @@ module _ (file : List ℕ) (r : Resolution) where
       unfolding readPacked
       packed-tail h = rw (le-ltb 32065 (length file) short) (tail-after file r q (drop 34 file) (rowBytesOf r) (planeRowsOf r) ok rows bound is h)
 
-      pub packed-done : length file ≡ 34 + q .bytes + 32 → (screen was area : List ℕ) → screen ≡ later rows (λ s. screenOf r (s .rows)) was
+      pub packed-done : length file ≡ 34 + q .bytes + 32 → (screen was area : List ℕ) → screen ≡ later (placed 34 rows) (λ s. screenOf r (s .rows)) was
           → (_≡_ {A = ReadAnswer} (record { number = 0; place = 0; picture = withTail file (degasResolution file) 2 (34 + q .bytes); body = q .bytes; records = q .records }) (readAnswer (readPacked file r)))
           × (over screen area ≡ readArea (readPacked file r) area)
       unfolding readPacked

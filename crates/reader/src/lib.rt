@@ -17,9 +17,10 @@ use resolution::SCREEN_BYTES;
 mod body;
 mod parts;
 
-// The kinds of files.
+// The kind of a DEGAS file.
 pub const DEGAS: u8 = 1;
 
+// The kind of a NEOchrome file.
 pub const NEOCHROME: u8 = 2;
 
 // The answer of a reading: the picture, the packed body's length and its records. A refusal has its number and place, and zero in all

@@ -17,7 +17,7 @@ use Rattle.resolution.specs.Choice.{chosen}
 use Rattle.tally.specs.Counts.{counts, talliedAt, tallied, tallyAnswer}
 use Rattle.reader.specs.declared.ReadAnswer.{ReadAnswer}
 use Rattle.reader.specs.Reading.{Reading, readAnswer, readArea}
-use Rattle.reader.proofs.Sound.{Sound}
+use Rattle.reader.proofs.WholeReading.{WholeReading}
 use Rattle.report.specs.Labels.{blank}
 use Rattle.report.specs.Summary.{item, items, refusalLine, tallyLine, wholeScreen, screenCounts, numbersText, readingText, summaryText}
 
@@ -46,7 +46,7 @@ pub text-refused : (o : Outcome Reading) (a : ReadAnswer) → a ≡ readAnswer o
 text-refused (accepted q) a is h = absurd (h (ap (λ (r : ReadAnswer). r .number) is))
 text-refused (refused number place) a is h = rw is
 
-pub text-accepted : (o : Outcome Reading) → Sound o → (a : ReadAnswer) (area screen : List ℕ) → length area ≡ screenBytes → a ≡ readAnswer o → a .number ≡ 0
+pub text-accepted : (o : Outcome Reading) → WholeReading o → (a : ReadAnswer) (area screen : List ℕ) → length area ≡ screenBytes → a ≡ readAnswer o → a .number ≡ 0
     → screen ≡ readArea o area
     → numbersText (a .picture .resolution) (a .records) (a .body) (cond (a .picture .tailed) 1 0)
     ++ tallyLine (screenCounts screen (chosen (a .picture .resolution)))

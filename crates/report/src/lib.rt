@@ -14,6 +14,7 @@ use outcome::AREA_TOO_SHORT;
 use reader::DEGAS;
 use resolution::Chosen;
 use resolution::Resolution;
+use resolution::SCREEN_BYTES;
 use tally::Rectangle;
 
 mod text;
@@ -55,7 +56,7 @@ fn put_summary(file: &[u8], out: &mut [u8]) -> usize
     ensures { λ r. ⌜ (r ≡ length (summary (now (file .entry)))) × (r ≤ 512) ⌝ }
     ensures { λ _. ⌜ now (out .exit) ≡ over (summary (now (file .entry))) (now (out .entry)) ⌝ }
 {
-    let mut screen = [0u8; 32000];
+    let mut screen = [0u8; SCREEN_BYTES];
     let reading = reader::read(DEGAS, file, &mut screen);
     if reading.number != 0 {
         return text::put_refusal(reading.number, reading.place, out);

@@ -29,6 +29,7 @@ pub enum Chosen {
 }
 
 impl Resolution {
+    // The shape of a low screen.
     pub const LOW: Shape = Shape {
         width: 320,
         height: 200,
@@ -37,6 +38,7 @@ impl Resolution {
         plane_rows: 800,
     };
 
+    // The shape of a medium screen.
     pub const MEDIUM: Shape = Shape {
         width: 640,
         height: 200,
@@ -45,6 +47,7 @@ impl Resolution {
         plane_rows: 400,
     };
 
+    // The shape of a high screen.
     pub const HIGH: Shape = Shape {
         width: 640,
         height: 400,

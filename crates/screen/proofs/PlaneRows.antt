@@ -162,7 +162,7 @@ screen-of-rows r s h =
 
 -- ---- a plane row put into a screen
 
-pub length-withRow : (s : List ℕ) (r : Resolution) (n : ℕ) (row : List ℕ) → length (withRow s r n row) ≡ length s
+length-withRow : (s : List ℕ) (r : Resolution) (n : ℕ) (row : List ℕ) → length (withRow s r n row) ≡ length s
 unfolding withRow
 length-withRow s r n row = length-stores (rowBytesOf r) (rowOffset r n) (λ c. getD row c 0) s
 

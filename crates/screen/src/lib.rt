@@ -37,7 +37,8 @@ fn judge_row(screen: usize, r: Resolution, n: usize, room: usize) -> Answer
     }
 }
 
-// Where plane row n begins.
+// Where plane row n begins. What the shape table says is repeated as constants of each resolution, so that the compiler divides by
+// constants.
 fn row_start(r: Resolution, n: usize) -> usize
     requires { ⌜ n < 800 ⌝ }
     ensures { λ o. ⌜ o ≡ rowOffset r n 0 ⌝ }

@@ -67,7 +67,7 @@ fn number_of(r: Resolution) -> u16
     }
 }
 
-// Counts n registers from offset left on.
+// Counts n registers from offset left on. No count exceeds 256,000 before: 640 x 400, the pixels of the largest screen.
 fn count_registers(counts: &mut [u32; 16], registers: &[u8], left: usize, n: usize)
     requires { ⌜ ((v : ℕ) → getD (now counts) v 0 ≤ 256000) × (length (now counts) ≡ 16) × (n ≤ 640) × (left + n ≤ length (now registers)) ⌝ }
     requires { ⌜ ((i : ℕ) → i < n → getD (now registers) (left + i) 0 < 16) ⌝ }
@@ -81,7 +81,7 @@ fn count_registers(counts: &mut [u32; 16], registers: &[u8], left: usize, n: usi
     }
 }
 
-// Counts the n pixels of scan line y from column left on.
+// Counts the n pixels of scan line y from column left on. The same bound holds of the counts before.
 fn count_line(counts: &mut [u32; 16], screen: &[u8], r: Resolution, left: usize, n: usize, y: usize)
     requires { ⌜ ((v : ℕ) → getD (now counts) v 0 ≤ 256000) × (length (now counts) ≡ 16) ⌝ }
     requires { ⌜ (screenBytes ≤ length (now screen)) × (left + n ≤ widthOf r) × (y < heightOf r) ⌝ }

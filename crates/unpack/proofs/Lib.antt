@@ -1,4 +1,4 @@
 pub mod Put
-pub mod Reading
 pub mod Records
+pub mod RecordsRead
 pub mod RowUnpack

@@ -13,19 +13,19 @@ use Rattle.packbits.specs.Records.{packedLen, rowLen, rowBytes, fault, recordAt
 use Rattle.packbits.specs.Unpack.{Progress, stopped}
 use Rattle.packbits.proofs.Records.{WholeAt, whole-at}
 use Rattle.packbits.proofs.Unpack.{bounded}
-use Rattle.unpack.proofs.Reading.{left, Reading, reading-start, left-whole, reading-turn}
+use Rattle.unpack.proofs.RecordsRead.{left, RecordsRead, read-start, left-whole, read-turn}
 
 -- the row that starts at one offset is read up to another, so many records, and the `to` bytes of it that they make are written
 pub record Putting (file : List ℕ) (at width : ℕ) (out₀ out : List ℕ) (from to records : ℕ) : Type 0 where
   pub inside : to ≤ width
-  pub reading : Reading file at width from (width - to) records
+  pub read : RecordsRead file at width from (width - to) records
   pub writing : PartlyWritten (left file at width .made) (left file from (width - to) .made) out₀ out to
 
 module _ (file : List ℕ) (at width : ℕ) (out₀ : List ℕ) (room : width ≤ length out₀) where
   pub putting-start : Putting file at width out₀ out₀ at 0 0
   putting-start = record {
     inside = omega arith;
-    reading = rw sub-zero (reading-start file at width);
+    read = rw sub-zero (read-start file at width);
     writing = rw sub-zero (writing-start (left file at width .made) out₀);
   }
 
@@ -61,7 +61,7 @@ module _ (file : List ℕ) (at width : ℕ) (out₀ : List ℕ) (room : width �
           let w = whole-next in
           record {
             inside = omega (arith, w .fits);
-            reading = rw room-left at (reading-turn file from (width - to) r is (omega arith) ok at width records (p .reading));
+            read = rw room-left at (read-turn file from (width - to) r is (omega arith) ok at width records (p .read));
             writing = rw (w .makes) at (writing-more piece rest row-fits next last e);
           }
 

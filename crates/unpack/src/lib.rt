@@ -54,7 +54,7 @@ fn put_twice(byte: u8, k: usize, n: usize, out: &mut [u8])
     put_run(byte, k, &mut out[n - k..]);
 }
 
-// The same. Of up to 16 bytes it is two runs of a constant length, which cost less than a loop.
+// The same. Of 2 to 16 bytes it is two runs of a constant length, which cost less than a loop.
 fn put_repeat(byte: u8, n: usize, out: &mut [u8])
     requires { ⌜ n ≤ length (now out) ⌝ }
     ensures { λ _. ⌜ now (out .exit) ≡ over (replicate n byte) (now (out .entry)) ⌝ }

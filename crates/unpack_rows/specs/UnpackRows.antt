@@ -32,7 +32,7 @@ unpackRows (suc n) width input = andThen (unpack input width) (λ r. unpackRows 
 abbrev pub unpackRowsAt : List ℕ → ℕ → ℕ → ℕ → Outcome Rows
 unpackRowsAt file at width n = placed at (unpackRows n width (drop at file))
 
--- a refusal gives its number, its place, and 0 in all else
+-- a refusal gives its number, its place, and 0 in all else; only contracts of private functions cite it
 abbrev pub rowsAnswer : Outcome Rows → RowAnswer
 rowsAnswer (accepted q) = record { number = 0; place = 0; bytes = q .bytes; records = q .records }
 rowsAnswer (refused number place) = record { number = number; place = place; bytes = 0; records = 0 }

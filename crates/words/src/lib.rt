@@ -4,7 +4,7 @@ ghost use lib.ListN.{getD};
 ghost use Rattle.words.specs.Word.{wordAt};
 
 // The byte at an offset; past the end 0.
-pub fn byte_at(s: &[u8], at: usize) -> u8
+fn byte_at(s: &[u8], at: usize) -> u8
     ensures { λ r. ⌜ r ≡ getD (now (s .entry)) at 0 ⌝ }
 {
     if at < s.len() { s[at] } else { 0 }

@@ -7,7 +7,7 @@ use Rattle.resolution.specs.Shapes.{screenBytes}
 use Rattle.picture.specs.declared.Picture.{Picture}
 use Rattle.picture.specs.Tables.{tablesOf, tablesBytes}
 
--- a DEGAS header: the first word, whose bits 2 to 14 are 0, and the palette
+-- a DEGAS header: the first word and the palette
 abbrev pub degasHeader : ℕ → Picture → List ℕ
 degasHeader word p = wordBytes word ++ wordsBytes (p .palette)
 
@@ -15,15 +15,15 @@ degasHeader word p = wordBytes word ++ wordsBytes (p .palette)
 abbrev pub tailBytes : Picture → List ℕ
 tailBytes p = tablesBytes (tablesOf (p .tail))
 
--- form 1, plain DEGAS
+-- form 1, plain DEGAS; the first word is the resolution, at most 2 where a file is written, so bits 2 to 14 are 0
 unfoldable pub plainFile : Picture → List ℕ → List ℕ
 plainFile p screen = degasHeader (p .resolution) p ++ take screenBytes screen
 
--- form 2, DEGAS Elite raw
+-- form 2, DEGAS Elite raw; the first word as in form 1
 unfoldable pub eliteFile : Picture → List ℕ → List ℕ
 eliteFile p screen = degasHeader (p .resolution) p ++ (take screenBytes screen ++ tailBytes p)
 
--- form 3, DEGAS Elite packed: bit 15 of the first word says so
+-- form 3, DEGAS Elite packed: bit 15 of the first word says so; bits 2 to 14 are 0 as in form 1
 unfoldable pub packedFile : Picture → List ℕ → List ℕ
 packedFile p body = degasHeader (32768 + p .resolution) p ++ (body ++ tailBytes p)
 

@@ -76,7 +76,6 @@ pub(crate) fn put_body(screen: &[u8], r: Resolution, out: &mut [u8]) -> Packed
     requires { ⌜ 32000 ≤ length (now screen) ⌝ }
     requires { ⌜ length (leastBody r (now screen)) < 32000 ⌝ }
     requires { ⌜ 32000 ≤ length (now out) ⌝ }
-    ensures { λ p. ⌜ p .bytes < 32000 ⌝ }
     ensures { λ p. ⌜ (p .bytes ≡ length (leastBody r (now (screen .entry)))) × (p .records ≡ leastRowsRecords (planeRows (now (screen .entry)) r)) ⌝ }
     ensures { λ _. ⌜ now (out .exit) ≡ over (leastBody r (now (screen .entry))) (now (out .entry)) ⌝ }
 {

@@ -19,13 +19,16 @@ use resolution::SCREEN_BYTES;
 mod body;
 mod parts;
 
-// The forms of files.
+// The form of a plain DEGAS file.
 pub const PLAIN: u8 = 1;
 
+// The form of a raw DEGAS Elite file.
 pub const ELITE: u8 = 2;
 
+// The form of a packed DEGAS Elite file.
 pub const PACKED: u8 = 3;
 
+// The form of a NEOchrome file.
 pub const NEOCHROME: u8 = 4;
 
 // The least output: the longest file of any form.

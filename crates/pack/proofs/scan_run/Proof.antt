@@ -7,7 +7,7 @@ use borrow.Author.Tests.{eqb-true}
 use lib.ListN.{length, getD}
 use Rattle.pack.specs.Costs.{stepCosts}
 use Rattle.pack.specs.Scanned.{Scanned}
-use Rattle.pack.proofs.Scanned.{scanned-small, scanned-chosen, control-byte, scanned-more}
+use Rattle.pack.proofs.Scanned.{scanned-small, scanned-repeat, control-byte, scanned-more}
 use borrow.Author.Needs.{needs}
 use Rattle.pack.proofs.scan_run.Statement.{statement}
 use Rattle.pack.proofs.scan_run.Tie as tie
@@ -40,7 +40,7 @@ lengthened-requires c κs =
     let l = c .before .before .before .before .loop in
     let row = c .before .before .before .before .before .before .before .before .before .before .args .row .now in (
       scanned-small row (l .controls) (l .at) (l .t) (l .inv .0) (l .inv .3),
-      scanned-chosen row (l .controls) (l .at) (l .t) (l .inv .0) (l .inv .3),
+      scanned-repeat row (l .controls) (l .at) (l .t) (l .inv .0) (l .inv .3),
       l .inv .2,
     )
 

@@ -9,7 +9,7 @@ use Rattle.lists.specs.Over.{over}
 use Rattle.resolution.specs.Shapes.{screenBytes}
 use Rattle.reader.specs.Reading.{readFile}
 use Rattle.report.specs.Summary.{summary, numbersText, tallyLine}
-use Rattle.reader.proofs.Sound.{read-sound}
+use Rattle.reader.proofs.WholeReading.{read-whole}
 use Rattle.report.proofs.Summary.{text-refused, text-accepted}
 use borrow.Author.Needs.{needs}
 use Rattle.report.proofs.put_summary.Statement.{statement}
@@ -63,7 +63,7 @@ returns-2 c =
     let e =
     ap₂ (λ (n : ℕ) (sums : List ℕ). numbersText (j .read .result .picture .resolution) (j .read .result .records) (j .read .result .body) n ++ tallyLine sums)
     (t .tail-number .ensures) (s .screen-counts .ensures)
-    ∙ text-accepted (readFile 1 (now (a .file)) screenBytes) (read-sound (now (a .file))) (j .read .result) _ _ refl (j .read .ensures .0) (f .if1 .left)
+    ∙ text-accepted (readFile 1 (now (a .file)) screenBytes) (read-whole (now (a .file))) (j .read .result) _ _ refl (j .read .ensures .0) (f .if1 .left)
     (j .read .ensures .1) in
     ((p .put-reading .ensures .0 .0 ∙ ap length e, p .put-reading .ensures .0 .1), p .put-reading .ensures .1 ∙ ap (λ (t : List ℕ). over t (now (a .out))) e)
 

@@ -6,7 +6,7 @@ use lib.ListN.{length}
 use borrow.Author.Needs.{needs}
 use Rattle.packbits.specs.Records.{fault}
 use Rattle.packbits.proofs.Records.{WholeAt, whole-at}
-use Rattle.unpack.proofs.Reading.{left-full, left-fault, answer-refused, answer-accepted}
+use Rattle.unpack.proofs.RecordsRead.{left-full, left-fault, answer-refused, answer-accepted}
 use Rattle.unpack.proofs.Put.{Putting, putting-start, record-fits, putting-turn, putting-done}
 use Rattle.unpack.proofs.put_row.Statement.{statement}
 use Rattle.unpack.proofs.put_row.Tie as tie
@@ -51,7 +51,7 @@ returns c =
     let bad : fault (rec .result) ≡ 0 → ⊥ = λ e. c .if1 .taken (c .before .fault-of .ensures ∙ e) in
     let stop = left-fault (a .file .now) (l .from) (a .width - l .to) (rec .result) (rec .ensures) (omega arith) bad in
     rw (c .before .fault-of .ensures) (
-      sym (answer-refused (a .file .now) (a .at) (a .width) (l .from) (a .width - l .to) (l .records) (l .inv .reading) (fault (rec .result)) stop bad),
+      sym (answer-refused (a .file .now) (a .at) (a .width) (l .from) (a .width - l .to) (l .records) (l .inv .read) (fault (rec .result)) stop bad),
       putting-done (a .file .now) (a .at) (a .width) (a .out .now) (omega arith) (l .out) (l .from) (l .to) (l .records) (l .inv) (fault (rec .result)) stop,
     )
 
@@ -90,7 +90,7 @@ add-records : tie.Need-add-records Inv-loop μ-loop
 add-records c =
     let turn = c .before .before .before .before .before .before in
     let w = whole-here turn in
-    omega (arith, w .has, turn .before .before .before .before .loop .inv .reading .counted)
+    omega (arith, w .has, turn .before .before .before .before .loop .inv .read .counted)
 
 loop-less : tie.Need-loop-less Inv-loop μ-loop
 loop-less c =
@@ -108,7 +108,7 @@ loop-again c =
     (turn .before .before .before .loop-test .taken) (sym (turn .before .fault-of .ensures) ∙ turn .if1 .left) _ (c .before .before .before .before .put-record .ensures))
 
 sub-t16 : tie.Need-sub-t16 Inv-loop μ-loop
-sub-t16 c = omega (arith, c .before .loop .inv .reading .counted)
+sub-t16 c = omega (arith, c .before .loop .inv .read .counted)
 
 same-length-2 : tie.Need-same-length-2 Inv-loop μ-loop
 same-length-2 c = c .before .loop .inv .writing .kept
@@ -118,7 +118,7 @@ returns-2 c =
     let l = c .before .loop in
     let a = c .before .before .before .before .args in
     let stop = left-full (a .file .now) (l .from) (a .width - l .to) (omega (arith, c .loop-test .left)) in (
-      sym (answer-accepted (a .file .now) (a .at) (a .width) (l .from) (a .width - l .to) (l .records) (l .inv .reading) 0 stop refl),
+      sym (answer-accepted (a .file .now) (a .at) (a .width) (l .from) (a .width - l .to) (l .records) (l .inv .read) 0 stop refl),
       putting-done (a .file .now) (a .at) (a .width) (a .out .now) (omega arith) (l .out) (l .from) (l .to) (l .records) (l .inv) 0 stop,
     )
 

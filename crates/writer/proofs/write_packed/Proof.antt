@@ -51,23 +51,27 @@ part-put-body-end c = search needs
 put-body-requires : tie.Need-put-body-requires
 put-body-requires c κs = (c .before .before .before .before .before .before .before .before .before .before .pre .1 .0, (short (c .before .before .before .before .before .before), search needs))
 
+-- the body that is written is that one
+written : (d : tie.After-put-body) → d .put-body .result .bytes < 32000
+written d = omega (arith, d .put-body .ensures .0 .0, short (d .before .before .before .before .before .before .before))
+
 add-end : tie.Need-add-end
-add-end c = search needs
+add-end c = omega (arith, written (c .before .before .before))
 
 sub-put-tail : tie.Need-sub-put-tail
-sub-put-tail c = search needs
+sub-put-tail c = omega (arith, written (c .before .before .before))
 
 part-put-tail-start : tie.Need-part-put-tail-start
-part-put-tail-start c = search needs
+part-put-tail-start c = omega (arith, written (c .before .before .before))
 
 part-put-tail-end : tie.Need-part-put-tail-end
 part-put-tail-end c = search needs
 
 put-tail-requires : tie.Need-put-tail-requires
-put-tail-requires c κs = search needs
+put-tail-requires c κs = omega (arith, written (c .before .before .before .before))
 
 add-t13 : tie.Need-add-t13
-add-t13 c = search needs
+add-t13 c = omega (arith, written (c .before .before .before .before .before .before .before))
 
 same-length : tie.Need-same-length
 same-length c = search needs
@@ -76,7 +80,7 @@ returns-2 : tie.Need-returns-2
 unfolding packedFile
 returns-2 c =
     let a = c .before .before .before .before .before .before .before .before .before .before .before .before .before .before .before .before .before .before .args in
-    let p = c .before .before .before .before .before .before .before .put-body .ensures .1 in
+    let p = c .before .before .before .before .before .before .before .put-body .ensures in
     let e = c .before .before .before .before .before .before .before .before .before .before .before .put-degas-header .ensures in
     let f = c .before .before .put-tail .ensures in
     let d = now (a .out) in

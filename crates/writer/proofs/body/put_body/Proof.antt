@@ -81,8 +81,7 @@ returns : tie.Need-returns Inv-loop μ-loop
 returns c =
     let l = c .before .loop in
     let a = c .before .before .before .before .before .args in
-    let e = rows-end (now (a .screen)) (a .r) (now (a .out)) (l .out) (l .n) (l .end) (l .records) (omega (arith, l .inv .0, c .loop-test .left)) (l .inv .2) in
-    (omega (arith, e .0 .0, c .before .before .before .before .before .pre), e)
+    rows-end (now (a .screen)) (a .r) (now (a .out)) (l .out) (l .n) (l .end) (l .records) (omega (arith, l .inv .0, c .loop-test .left)) (l .inv .2)
 
 pub put-body-spec : {M : Type 1} → statement M
 put-body-spec =

@@ -18,14 +18,14 @@ abbrev pub left : List ℕ → ℕ → ℕ → Progress
 left file from room = progress (drop from file) room
 
 -- the row that starts at one offset is read up to another, so many records of it, and what is left of the file gives the rest of it
-pub record Reading (file : List ℕ) (at width from room records : ℕ) : Type 0 where
+pub record RecordsRead (file : List ℕ) (at width from room records : ℕ) : Type 0 where
   pub counted : at + records ≤ from
   pub bytes : from + left file from room .bytes ≡ at + left file at width .bytes
   pub total : records + left file from room .records ≡ left file at width .records
   pub fault : left file from room .fault ≡ left file at width .fault
 
-pub reading-start : (file : List ℕ) (at width : ℕ) → Reading file at width at width 0
-reading-start file at width = record { counted = omega arith; bytes = refl; total = omega arith; fault = refl }
+pub read-start : (file : List ℕ) (at width : ℕ) → RecordsRead file at width at width 0
+read-start file at width = record { counted = omega arith; bytes = refl; total = omega arith; fault = refl }
 
 -- ---- no room left
 
@@ -42,9 +42,9 @@ module _ (file : List ℕ) (from room : ℕ) (r : Record) (is : r ≡ recordAt (
     pub left-whole : left file from room ≡ after (packedLen r) (rowBytes r (drop from file)) (left file (from + packedLen r) (room - rowLen r))
     left-whole = progress-whole (drop from file) room r is h ok ∙ rw (drop-drop (packedLen r) from file)
 
-    pub reading-turn : (at width records : ℕ) → Reading file at width from room records
-        → Reading file at width (from + packedLen r) (room - rowLen r) (records + 1)
-    reading-turn at width records g =
+    pub read-turn : (at width records : ℕ) → RecordsRead file at width from room records
+        → RecordsRead file at width (from + packedLen r) (room - rowLen r) (records + 1)
+    read-turn at width records g =
         let w : WholeAt r file from room = whole-at file from room r is ok in
         record {
           counted = omega (arith, w .takes, g .counted);
@@ -55,7 +55,7 @@ module _ (file : List ℕ) (from room : ℕ) (r : Record) (is : r ≡ recordAt (
 
 -- ---- the answer, where no record is left or the next is at fault
 
-module _ (file : List ℕ) (at width from room records : ℕ) (g : Reading file at width from room records) (number : ℕ)
+module _ (file : List ℕ) (at width from room records : ℕ) (g : RecordsRead file at width from room records) (number : ℕ)
     (stop : left file from room ≡ stopped number) where
   abbrev all : Progress
   all = left file at width
