@@ -26,15 +26,15 @@ use Rattle.screen.specs.Registers.{groupOffset, wordOffset}
 use Rattle.screen.proofs.Places.{row-within}
 use Rattle.screen.proofs.PlaneRows.{length-planeRows, getD-planeRows}
 use Rattle.picture.specs.declared.Picture.{Picture}
+use Rattle.picture.specs.Whole.{Whole}
 use Rattle.writer.specs.Layout.{packedFile}
 use Rattle.writer.specs.Write.{Writing, leastBody, writePacked, writeFile}
+use Rattle.writer.proofs.Files.{length-packedFile}
 use Rattle.writer.proofs.WriteFile.{packed-refused, packed-accepted, form-packed, file-form}
 use Rattle.demands.specs.Screens.{UnpacksScreen}
 use Rattle.demands.specs.LeastBodies.{WritersRows, noRow, nextRow, ShortestBody, WritesPacked, mostBytes, alternating}
-use Rattle.demands.specs.Pictures.{Whole}
 use Rattle.demands.proofs.ByteStrings.{body-bytes}
 use Rattle.demands.proofs.Screens.{wide-planeRows}
-use Rattle.demands.proofs.Files.{length-packedFile}
 
 -- ---- sizes, by the three resolutions
 

@@ -1,7 +1,6 @@
 pub mod Acceptance
 pub mod ByteStrings
 pub mod Examples
-pub mod Files
 pub mod LeastBodies
 pub mod Refusals
 pub mod Registers

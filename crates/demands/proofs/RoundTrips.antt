@@ -23,16 +23,16 @@ use Rattle.screen.specs.Registers.{register}
 use Rattle.screen.specs.PlaneRows.{planeRows}
 use Rattle.screen.proofs.PlaneRows.{screen-of-rows, register-front}
 use Rattle.picture.specs.declared.Picture.{Picture}
+use Rattle.picture.specs.Whole.{Whole}
 use Rattle.reader.specs.Reading.{Reading, degasResolution, readRaw, readPacked, readDegas, readFile, readArea}
 use Rattle.reader.proofs.Reading.{raw-plain, raw-tail, chosen-packed, chosen-raw, degas-known, neo-known, file-degas, file-neo}
 use Rattle.writer.specs.Layout.{degasHeader, tailBytes, plainFile, eliteFile, packedFile, neoFile}
 use Rattle.writer.specs.Write.{Writing, unpacked, leastBody, writePacked, writeForm, writeFile, writeAnswer, writeOutput}
+use Rattle.writer.proofs.Files.{length-degasHeader, header-word, header-palette, header-rest, length-tailed, tailed-tail, length-neoFile, neo-flag, neo-resolution, neo-palette, neo-screen}
 use Rattle.writer.proofs.WriteFile.{form-plain, form-elite, form-neo, file-form}
 use Rattle.demands.specs.Screens.{UnpacksScreen}
-use Rattle.demands.specs.Pictures.{Whole}
 use Rattle.demands.specs.RoundTrips.{kindOf, readBack}
 use Rattle.demands.proofs.Screens.{rows-complete}
-use Rattle.demands.proofs.Files.{length-degasHeader, header-word, header-palette, header-rest, length-tailed, tailed-tail, length-neoFile, neo-flag, neo-resolution, neo-palette, neo-screen}
 use Rattle.demands.proofs.LeastBodies.{least-shortest}
 
 -- an accepted file is read back, into an area of so many bytes; a refusal has a number

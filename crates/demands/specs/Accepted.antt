@@ -5,14 +5,13 @@ use mathlib.Core.Path.{_≡_}
 use mathlib.Core.Bool.{Bool, true, false}
 use mathlib.Core.List.{List, _++_}
 use mathlib.Core.Logic.{_⊎_, inl, inr}
-use lib.ListN.{length, take, drop}
+use lib.ListN.{length}
 use Rattle.words.specs.Word.{wordAt}
 use Rattle.resolution.specs.declared.Resolution.{Resolution}
 use Rattle.resolution.specs.declared.Chosen.the-variants.{Known}
 use Rattle.resolution.specs.Shapes.{screenBytes}
 use Rattle.resolution.specs.Choice.{chosen}
-use Rattle.picture.specs.declared.Picture.{Picture}
-use Rattle.reader.specs.Reading.{Reading, untailed, withTail, degasResolution, degasPacked}
+use Rattle.reader.specs.Reading.{Reading, untailed, withTail, rawReading, degasResolution, degasPacked}
 use Rattle.demands.specs.Screens.{UnpacksScreen}
 
 -- ---- its parts fit and its runs fill every plane row exactly
@@ -59,10 +58,6 @@ Accepts kind file = ((kind ≡ 1) × AcceptsDegas file) ⊎ ((kind ≡ 2) × Acc
 
 -- ---- what an accepted file gives
 
--- a raw file: the screen's bytes as they stand from an offset on; both counts are 0
-abbrev pub rawGiven : Picture → List ℕ → ℕ → Reading
-rawGiven p file at = record { picture = p; body = 0; records = 0; screen = take screenBytes (drop at file) }
-
 -- a packed file: the screen that the body unpacks to, the body's length and its records; the tail after the body
 abbrev pub packedGiven : {file : List ℕ} {r : Resolution} → PackedFits file r → Reading
 packedGiven {file} p = record {
@@ -74,9 +69,9 @@ packedGiven {file} p = record {
 
 abbrev pub degasGiven : (file : List ℕ) (r : Resolution) (packed : Bool) → DegasFits file r packed → Reading
 degasGiven file r true p = packedGiven p
-degasGiven file r false (inl plain) = rawGiven (untailed file (degasResolution file) 2) file 34
-degasGiven file r false (inr tailed) = rawGiven (withTail file (degasResolution file) 2 (34 + screenBytes)) file 34
+degasGiven file r false (inl plain) = rawReading (untailed file (degasResolution file) 2) file 34
+degasGiven file r false (inr tailed) = rawReading (withTail file (degasResolution file) 2 (34 + screenBytes)) file 34
 
 abbrev pub given : (kind : ℕ) (file : List ℕ) → Accepts kind file → Reading
 given kind file (inl a) = degasGiven file (a .1 .resolution) (degasPacked file) (a .1 .fits)
-given kind file (inr a) = rawGiven (untailed file (wordAt file 2) 4) file 128
+given kind file (inr a) = rawReading (untailed file (wordAt file 2) 4) file 128

@@ -1,14 +1,15 @@
 -- Laws of the definitions of reading: what each test that the code makes comes to. Assumes nothing.
 use mathlib.Core.Path.{_≡_, refl, sym, ap, _∙_}
-use mathlib.Core.List.{List}
-use Prim.Native.Nat.{ℕ, _+_, _-_, _/_, _%_, _^_, _≤_, _<_}
+use mathlib.Core.List.{List, []}
+use Prim.Native.Nat.{ℕ, _+_, _-_, _*_, _/_, _%_, _^_, _≤_, _<_}
 use native.Mathlib.Omega.{arith}
-use lib.ListN.{length, drop, length-drop}
+use lib.ListN.{length, getD, drop, length-drop}
 use borrow.Author.Tests.{lt-ltb, le-ltb, eq-eqb, ne-eqb}
 use Rattle.outcome.specs.Outcome.{Outcome, accepted, refused, later}
 use Rattle.outcome.specs.Refusal.{areaTooShort, unknownKind, unknownResolution, wrongLength, wrongFlag, wrongTail}
 use Rattle.lists.specs.Over.{over}
-use Rattle.words.specs.Word.{wordAt}
+use Rattle.lists.proofs.Tabulate.{length-tabulate, getD-tabulate}
+use Rattle.words.specs.Word.{wordAt, wordsAt}
 use Rattle.packbits.specs.declared.RowAnswer.{RowAnswer}
 use Rattle.packbits.specs.Unpack.{placed}
 use Rattle.unpack_rows.specs.UnpackRows.{Rows, unpackRows, unpackRowsAt, rowsAnswer}
@@ -18,8 +19,27 @@ use Rattle.screen.specs.PlaneRows.{screenOf}
 use Rattle.resolution.specs.declared.Chosen.the-variants.{Known, Unknown}
 use Rattle.resolution.specs.declared.Resolution.{Resolution}
 use Rattle.resolution.specs.Choice.{chosen}
+use Rattle.picture.specs.declared.Table.{Table}
+use Rattle.picture.specs.Tables.{tablesAt, held}
+use Rattle.picture.specs.Whole.{Whole}
 use Rattle.reader.specs.declared.ReadAnswer.{ReadAnswer}
 use Rattle.reader.specs.Reading.{untailed, withTail, raw, degasResolution, readRaw, tailAfter, readPacked, readChosen, readDegas, readNeo, readFile, readAnswer, readArea}
+
+-- ---- a picture that was read has 16 palette words and four tables of four
+
+pub whole-read : (file : List ℕ) (number palette at : ℕ) → Whole (withTail file number palette at)
+unfolding wordsAt tablesAt held
+whole-read file number palette at = record {
+  sixteen = length-tabulate 16 _;
+  four = length-tabulate 4 _;
+  words = table;
+}
+  where
+    table : (i : ℕ) → i < 4 → length (getD (held (tablesAt file at)) i (record { words = [] }) .words) ≡ 4
+    table i h =
+        ap (λ (t : Table). length (t .words)) (getD-tabulate 4 (λ i. record { words = getD (tablesAt file at) i [] }) i (record { words = [] }) h)
+        ∙ ap length (getD-tabulate 4 (λ i. wordsAt 4 file (at + i * 8)) i [] h)
+        ∙ length-tabulate 4 _
 
 -- ---- raw DEGAS
 

@@ -33,9 +33,12 @@ untailed file number palette = record { resolution = number; palette = wordsAt 1
 abbrev pub withTail : List ℕ → ℕ → ℕ → ℕ → Picture
 withTail file number palette tail = record { resolution = number; palette = wordsAt 16 file palette; tailed = true; tail = held (tablesAt file tail) }
 
--- a raw screen stands in the file from an offset on
+-- a raw file: the screen's bytes as they stand from an offset on; both counts are 0
+abbrev pub rawReading : Picture → List ℕ → ℕ → Reading
+rawReading p file at = record { picture = p; body = 0; records = 0; screen = take screenBytes (drop at file) }
+
 abbrev pub raw : Picture → List ℕ → ℕ → Outcome Reading
-raw p file at = accepted (record { picture = p; body = 0; records = 0; screen = take screenBytes (drop at file) })
+raw p file at = accepted (rawReading p file at)
 
 -- ---- DEGAS: word, 16 palette words, body, and for Elite 16 tail words
 

@@ -3,18 +3,17 @@ use mathlib.Core.Path.{_≡_, refl, sym, ap, ap₂, _∙_}
 use mathlib.Core.Logic.{_↔_, inl, inr}
 use mathlib.Core.Bool.{Bool, true, false, false≢true}
 use mathlib.Core.List.{List, [], _++_}
-use Prim.Native.Nat.{ℕ, _+_, _*_, _/_, _%_, _^_, _≤_, _<_}
+use Prim.Native.Nat.{ℕ, _+_, _/_, _%_, _^_, _≤_}
 use native.Mathlib.Omega.{arith}
-use lib.ListN.{length, getD, drop}
+use lib.ListN.{length, drop}
 use lib.Seq.{take-all, take-append-seam}
 use borrow.Author.Tests.{eq-eqb}
 use Rattle.lists.specs.Bytes.{Bytes}
 use Rattle.lists.specs.Over.{over}
 use Rattle.lists.proofs.Over.{length-over, getD-over-in}
 use Rattle.lists.proofs.Cond.{cond-ltb}
-use Rattle.lists.proofs.Tabulate.{length-tabulate, getD-tabulate}
 use Rattle.outcome.specs.Outcome.{Outcome, accepted, later}
-use Rattle.words.specs.Word.{wordAt, wordsAt}
+use Rattle.words.specs.Word.{wordAt}
 use Rattle.resolution.specs.declared.Chosen.the-variants.{Known}
 use Rattle.resolution.specs.declared.Resolution.{Resolution}
 use Rattle.resolution.specs.Shapes.{screenBytes}
@@ -25,35 +24,18 @@ use Rattle.screen.specs.PlaneRows.{planeRows}
 use Rattle.screen.proofs.PlaneRows.{planeRows-front}
 use Rattle.picture.specs.declared.Picture.{Picture}
 use Rattle.picture.specs.declared.Table.{Table}
-use Rattle.picture.specs.Tables.{tablesAt, held}
-use Rattle.reader.specs.Reading.{Reading, withTail, degasResolution, degasPacked, readFile}
-use Rattle.reader.proofs.Reading.{file-degas}
+use Rattle.picture.specs.Whole.{Whole}
+use Rattle.reader.specs.Reading.{Reading, degasResolution, degasPacked, readFile}
+use Rattle.reader.proofs.Reading.{file-degas, whole-read}
 use Rattle.writer.specs.Layout.{degasHeader, tailBytes, packedFile}
 use Rattle.writer.specs.Write.{Writing, leastBody, writeFile, writeAnswer}
+use Rattle.writer.proofs.Files.{header-word, length-packedFile}
 use Rattle.writer.proofs.WriteFile.{packed-accepted, form-packed, file-form}
 use Rattle.demands.specs.Accepted.{PackedFits, DegasFits, Accepts, packedGiven, degasGiven, given}
-use Rattle.demands.specs.Pictures.{Whole}
 use Rattle.demands.proofs.Acceptance.{packed-length, reading}
-use Rattle.demands.proofs.Files.{header-word, length-packedFile}
 use Rattle.demands.proofs.LeastBodies.{least-shortest}
 use Rattle.demands.proofs.RoundTrips.{written-read}
 use Rattle.rewriting.specs.Rewrite.{Lent, writeRead, rewrite, fileIn, rewritten, ReadsPacked, SamePicture, NeverLonger}
-
--- ---- a picture that was read has 16 palette words and four tables of four
-
-whole-read : (file : List ℕ) (number palette at : ℕ) → Whole (withTail file number palette at)
-unfolding wordsAt tablesAt held
-whole-read file number palette at = record {
-  sixteen = length-tabulate 16 _;
-  four = length-tabulate 4 _;
-  words = table;
-}
-  where
-    table : (i : ℕ) → i < 4 → length (getD (held (tablesAt file at)) i (record { words = [] }) .words) ≡ 4
-    table i h =
-        ap (λ (t : Table). length (t .words)) (getD-tabulate 4 (λ i. record { words = getD (tablesAt file at) i [] }) i (record { words = [] }) h)
-        ∙ ap length (getD-tabulate 4 (λ i. wordsAt 4 file (at + i * 8)) i [] h)
-        ∙ length-tabulate 4 _
 
 -- ---- what is written is packed
 

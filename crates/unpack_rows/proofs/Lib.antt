@@ -2,4 +2,5 @@ pub mod Exact
 pub mod Judging
 pub mod Next
 pub mod UnpackRows
+pub mod UnpacksRows
 pub mod Wide

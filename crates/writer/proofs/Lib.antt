@@ -1,2 +1,3 @@
+pub mod Files
 pub mod LeastBody
 pub mod WriteFile

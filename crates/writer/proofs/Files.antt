@@ -1,4 +1,4 @@
--- The parts of a written file: their lengths, and what is read where they stand. Assumes nothing.
+-- Laws of specs/Layout.antt, the parts of a written file: their lengths, and what is read where they stand. Assumes nothing.
 use mathlib.Core.Path.{_≡_, refl, sym, ap, _∙_}
 use mathlib.Core.List.{List, [], _++_, append-assoc, append-nil}
 use Prim.Native.Nat.{ℕ, _+_, _*_, _<_}
@@ -13,9 +13,9 @@ use Rattle.resolution.specs.Shapes.{screenBytes}
 use Rattle.picture.specs.declared.Picture.{Picture}
 use Rattle.picture.specs.declared.Table.{Table}
 use Rattle.picture.specs.Tables.{tablesAt, tablesOf, held}
+use Rattle.picture.specs.Whole.{Whole}
 use Rattle.picture.proofs.Tables.{length-tablesBytes, table-back}
 use Rattle.writer.specs.Layout.{degasHeader, tailBytes, packedFile, neoMiddle, neoFile}
-use Rattle.demands.specs.Pictures.{Whole}
 
 module _ (p : Picture) (whole : Whole p) where
   -- ---- a DEGAS header, and what follows it
