@@ -1,6 +1,6 @@
 -- Byte columns: column h of a scan line has one byte of each plane, and these hold its eight pixels h * 8 to h * 8 + 7.
--- Their registers are those of screen/specs/Registers.antt: proofs/Columns.antt, `columnRegister-register`. No public contract
--- cites it. Assumes nothing: these are definitions.
+-- Their registers are those of screen/specs/Registers.antt: proofs/Columns.antt, `columnRegister-register`. No public contract cites
+-- it. Assumes nothing: these are definitions.
 use Prim.Native.Nat.{ℕ, _+_, _*_, _-_, _/_, _%_, _^_}
 use mathlib.Core.Bool.{cond}
 use mathlib.Core.List.{List}

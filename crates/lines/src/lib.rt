@@ -87,7 +87,7 @@ fn copy_columns(screen: &[u8], start: usize, planes: usize, columns: usize, out:
 }
 
 // The registers of a scan line, from the left, into out. What the shape table says is repeated as constants of each resolution, so that
-// the compiler divides and multiplies by constants.
+// the compiler computes with constants.
 fn fill_line(screen: &[u8], r: Resolution, line: usize, out: &mut [u8])
     requires { ⌜ (screenBytes ≤ length (now screen)) × (line < heightOf r) × (widthOf r ≤ length (now out)) ⌝ }
     ensures { λ _. ⌜ now (out .exit) ≡ over (scanLine (now (screen .entry)) r line) (now (out .entry)) ⌝ }

@@ -22,7 +22,6 @@ use Rattle.unpack_rows.proofs.Judging.{judged, judged-start, row-bounds, judged
 use Rattle.unpack_rows.proofs.Next.{rowsOf, Next, next}
 use Rattle.unpack_rows.proofs.UnpackRows.{RowsBounded, rows-bounded}
 use Rattle.resolution.specs.declared.Resolution.{Resolution}
-use Rattle.resolution.specs.declared.Resolution.the-variants.{Low, Medium, High}
 use Rattle.packbits.proofs.Row.{of-range}
 use Rattle.resolution.specs.Shapes.{screenBytes, rowBytesOf, planeRowsOf}
 use Rattle.resolution.proofs.Shapes.{rowBytes-le, rowBytes-pos}
