@@ -13,8 +13,9 @@ use Rattle.outcome.specs.Outcome.{Outcome}
 use Rattle.resolution.specs.declared.Resolution.{Resolution}
 use Rattle.resolution.specs.Shapes.{screenBytes, widthOf, heightOf, planesOf}
 use Rattle.screen.specs.Registers.{register}
-use Rattle.screen.specs.PlaneRows.{planeRow, planeRows}
-use Rattle.screen.proofs.PlaneRows.{rowsRegister, register-of-rows, planeRows-front, register-front}
+use Rattle.screen.specs.PlaneRows.{planeRow, planeRows, rowsRegister}
+use Rattle.screen.proofs.PlaneRows.{planeRows-front}
+use Rattle.screen.proofs.RowRegisters.{register-of-rows, register-front}
 use Rattle.reader.specs.Reading.{Reading, degasPacked, readFile, readArea}
 use Rattle.demands.specs.Accepted.{PackedFits, DegasFits, AcceptsDegas, AcceptsNeo, Accepts, degasGiven, given}
 use Rattle.demands.proofs.Acceptance.{packed-unique, file-complete}

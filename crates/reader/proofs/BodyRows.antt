@@ -27,7 +27,8 @@ use Rattle.resolution.specs.Shapes.{screenBytes, rowBytesOf, planeRowsOf}
 use Rattle.resolution.proofs.Shapes.{rowBytes-le, rowBytes-pos}
 use Rattle.screen.specs.PlaneRows.{withRow, putRow, screenOf}
 use Rattle.screen.proofs.Judged.{judgeRow-accepted}
-use Rattle.screen.proofs.PlaneRows.{putRows, length-screenOf, withRow-over, put-all}
+use Rattle.screen.proofs.PlaneRows.{length-screenOf}
+use Rattle.screen.proofs.PutRows.{putRows, withRow-over, put-all}
 
 -- ---- the rows of a body, and what is left of them past so many of its bytes
 

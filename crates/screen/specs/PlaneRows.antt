@@ -1,15 +1,17 @@
 -- Plane rows, and the screen made from them (document 01, "Packed rows"; "plane row" is its term). Assumes nothing: these are definitions.
-use Prim.Native.Nat.{ℕ, _+_, _*_, _/_, _%_}
+use Prim.Native.Nat.{ℕ, _+_, _*_, _/_, _%_, _^_}
 use mathlib.Core.List.{List, []}
 use lib.ListN.{length, getD}
 use lib.Dec.{ltb, leb}
 use Rattle.lists.specs.Stores.{stores}
+use Rattle.lists.specs.Sum.{sum}
 use Rattle.lists.specs.Tabulate.{tabulate}
 use Rattle.outcome.specs.Outcome.{Outcome, accepted, refuseIf}
 use Rattle.outcome.specs.Refusal.{areaTooShort, outOfRange}
+use Rattle.words.specs.Word.{wordAt}
 use Rattle.resolution.specs.declared.Resolution.{Resolution}
 use Rattle.resolution.specs.Shapes.{screenBytes, planesOf, rowBytesOf, lineBytesOf, planeRowsOf}
-use Rattle.screen.specs.Registers.{wordOffset}
+use Rattle.screen.specs.Registers.{wordOffset, pixelBit}
 
 -- where byte c of plane row n lies: of the words of plane n % planes in scan line n / planes, left to right, two bytes a word
 unfoldable pub rowOffset : Resolution → ℕ → ℕ → ℕ
@@ -23,11 +25,15 @@ planeRow s r n = tabulate (rowBytesOf r) (λ c. getD s (rowOffset r n c) 0)
 unfoldable pub planeRows : List ℕ → Resolution → List (List ℕ)
 planeRows s r = tabulate (planeRowsOf r) (λ n. planeRow s r n)
 
+-- the register that a scan line's plane rows give a pixel
+abbrev pub rowsRegister : Resolution → (ℕ → List ℕ) → ℕ → ℕ
+rowsRegister r row x = sum (planesOf r) (λ p. pixelBit (wordAt (row p) (x / 16 * 2)) (x % 16) * 2 ^ p)
+
 -- the screen with plane row n replaced by a row's first bytes
 unfoldable pub withRow : List ℕ → Resolution → ℕ → List ℕ → List ℕ
 withRow s r n row = stores (rowBytesOf r) (rowOffset r n) (λ c. getD row c 0) s
 
--- the plane row and the column of the byte at an offset: `rowOffset` undone (proofs/PlaneRows.antt, `rowOffset-at`)
+-- the plane row and the column of the byte at an offset: `rowOffset` undone (proofs/Offsets.antt, `rowOffset-at`)
 unfoldable pub rowAt : Resolution → ℕ → ℕ
 rowAt r o = o / lineBytesOf r * planesOf r + o / 2 % planesOf r
 
