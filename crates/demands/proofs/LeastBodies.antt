@@ -29,7 +29,7 @@ use Rattle.picture.specs.declared.Picture.{Picture}
 use Rattle.picture.specs.Whole.{Whole}
 use Rattle.writer.specs.Layout.{packedFile}
 use Rattle.writer.specs.Write.{Writing, leastBody, writePacked, writeFile}
-use Rattle.writer.proofs.Files.{length-packedFile}
+use Rattle.writer.proofs.FileLayout.{length-packedFile}
 use Rattle.writer.proofs.WriteFile.{packed-refused, packed-accepted, form-packed, file-form}
 use Rattle.demands.specs.Screens.{UnpacksScreen}
 use Rattle.demands.specs.LeastBodies.{WritersRows, noRow, nextRow, ShortestBody, WritesPacked, mostBytes, alternating}

@@ -29,7 +29,7 @@ use Rattle.reader.specs.Reading.{Reading, degasResolution, readRaw, readPacked,
 use Rattle.reader.proofs.Reading.{raw-plain, raw-tail, chosen-packed, chosen-raw, degas-known, neo-known, file-degas, file-neo}
 use Rattle.writer.specs.Layout.{degasHeader, tailBytes, plainFile, eliteFile, packedFile, neoFile}
 use Rattle.writer.specs.Write.{Writing, unpacked, leastBody, writePacked, writeForm, writeFile, writeAnswer, writeOutput}
-use Rattle.writer.proofs.Files.{length-degasHeader, header-word, header-palette, header-rest, length-tailed, tailed-tail, length-neoFile, neo-flag, neo-resolution, neo-palette, neo-screen}
+use Rattle.writer.proofs.FileLayout.{length-degasHeader, header-word, header-palette, header-rest, length-tailed, tailed-tail, length-neoFile, neo-flag, neo-resolution, neo-palette, neo-screen}
 use Rattle.writer.proofs.WriteFile.{form-plain, form-elite, form-neo, file-form}
 use Rattle.demands.specs.Screens.{UnpacksScreen}
 use Rattle.demands.specs.RoundTrips.{kindOf, readBack}

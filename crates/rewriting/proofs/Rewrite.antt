@@ -29,7 +29,7 @@ use Rattle.reader.specs.Reading.{Reading, degasResolution, degasPacked, readFil
 use Rattle.reader.proofs.Reading.{file-degas, whole-read}
 use Rattle.writer.specs.Layout.{degasHeader, tailBytes, packedFile}
 use Rattle.writer.specs.Write.{Writing, leastBody, writeFile, writeAnswer}
-use Rattle.writer.proofs.Files.{header-word, length-packedFile}
+use Rattle.writer.proofs.FileLayout.{header-word, length-packedFile}
 use Rattle.writer.proofs.WriteFile.{packed-accepted, form-packed, file-form}
 use Rattle.demands.specs.Accepted.{PackedFits, DegasFits, Accepts, packedGiven, degasGiven, given}
 use Rattle.demands.proofs.Acceptance.{packed-length, reading}

@@ -1,5 +1,5 @@
 -- The packed body of a screen, row by row: its length summed, and its bytes written. Assumes nothing.
-use mathlib.Core.Path.{_≡_, refl, sym, ap, _∙_, subst}
+use mathlib.Core.Path.{_≡_, sym, ap, _∙_, subst}
 use mathlib.Core.Bool.{false}
 use mathlib.Core.List.{List, _++_}
 use Prim.Native.Nat.{ℕ, zero, suc, _+_, _-_, _*_, _≤_, _<_}
@@ -15,7 +15,6 @@ use Rattle.lists.proofs.Pieces.{PartlyWritten, writing-start, writing-end, piec
 use Rattle.outcome.specs.Outcome.{Outcome, later}
 use Rattle.packbits.specs.Row.{done, widthOutOfRange}
 use Rattle.resolution.specs.declared.Resolution.{Resolution}
-use Rattle.resolution.specs.declared.Resolution.the-variants.{Low, Medium, High}
 use Rattle.packbits.proofs.Row.{of-range}
 use Rattle.resolution.specs.Shapes.{screenBytes, rowBytesOf, planeRowsOf}
 use Rattle.pack.specs.Least.{least, leastRecords}

@@ -1,3 +1,3 @@
-pub mod Files
+pub mod FileLayout
 pub mod LeastBody
 pub mod WriteFile
