@@ -15,7 +15,7 @@ use Rattle.resolution.specs.Shapes.{screenBytes, widthOf, heightOf, planesOf}
 use Rattle.screen.specs.Registers.{register}
 use Rattle.screen.specs.PlaneRows.{planeRow, planeRows, rowsRegister}
 use Rattle.screen.proofs.PlaneRows.{planeRows-front}
-use Rattle.screen.proofs.RowRegisters.{register-of-rows, register-front}
+use Rattle.screen.proofs.PlaneRegisters.{register-of-rows, register-front}
 use Rattle.reader.specs.Reading.{Reading, degasPacked, readFile, readArea}
 use Rattle.demands.specs.Accepted.{PackedFits, DegasFits, AcceptsDegas, AcceptsNeo, Accepts, degasGiven, given}
 use Rattle.demands.proofs.Acceptance.{packed-unique, file-complete}

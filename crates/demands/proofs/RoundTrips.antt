@@ -22,7 +22,7 @@ use Rattle.resolution.proofs.Choice.{known-le, withResolution-elim}
 use Rattle.screen.specs.Registers.{register}
 use Rattle.screen.specs.PlaneRows.{planeRows}
 use Rattle.screen.proofs.PlaneRows.{screen-of-rows}
-use Rattle.screen.proofs.RowRegisters.{register-front}
+use Rattle.screen.proofs.PlaneRegisters.{register-front}
 use Rattle.picture.specs.declared.Picture.{Picture}
 use Rattle.picture.specs.Whole.{Whole}
 use Rattle.reader.specs.Reading.{Reading, degasResolution, readRaw, readPacked, readDegas, readFile, readArea}

@@ -1,8 +1,8 @@
 pub mod Judged
 pub mod Offsets
 pub mod Places
+pub mod PlaneRegisters
 pub mod PlaneRows
 pub mod PutRows
 pub mod Registers
-pub mod RowRegisters
 pub mod Strides
