@@ -10,10 +10,10 @@ use lib.ListN.{length, getD, drop, replicate}
 use lib.Seq.{drop-drop, getD-drop}
 use Rattle.lists.specs.Over.{over}
 use Rattle.lists.proofs.Over.{length-over, over-whole}
-use Rattle.outcome.specs.Outcome.{Outcome, accepted, refused, later}
+use Rattle.outcome.specs.Outcome.{Outcome, accepted, refused, placed, later}
 use Rattle.packbits.specs.declared.RowAnswer.{RowAnswer}
 use Rattle.packbits.specs.Row.{Row, done, rowAnswer, rowOutput, widthOutOfRange}
-use Rattle.packbits.specs.Unpack.{Progress, progress, unpackAt, placed}
+use Rattle.packbits.specs.Unpack.{Progress, progress, unpackAt}
 use Rattle.packbits.proofs.Unpack.{bounded}
 use Rattle.unpack.specs.RowAt.{unpackRowAt}
 use Rattle.unpack.proofs.RowUnpack.{at-range, full-outcome}
@@ -22,7 +22,6 @@ use Rattle.unpack_rows.proofs.Judging.{judged, judged-start, row-bounds, judged
 use Rattle.unpack_rows.proofs.Next.{rowsOf, Next, next}
 use Rattle.unpack_rows.proofs.UnpackRows.{RowsBounded, rows-bounded}
 use Rattle.resolution.specs.declared.Resolution.{Resolution}
-use Rattle.resolution.specs.declared.Resolution.the-variants.{Low, Medium, High}
 use Rattle.packbits.proofs.Row.{of-range}
 use Rattle.resolution.specs.Shapes.{screenBytes, rowBytesOf, planeRowsOf}
 use Rattle.resolution.proofs.Shapes.{rowBytes-le, rowBytes-pos}
