@@ -12,12 +12,10 @@ use borrow.Author.Tests.{le-ltb, eq-eqb, eqb-true, not-false}
 use Rattle.lists.specs.Bytes.{Bytes}
 use Rattle.lists.proofs.Bytes.{bytes-drop}
 use Rattle.lists.proofs.Cond.{cond-elim, cond-ltb, cond-eqb}
-use Rattle.outcome.specs.Outcome.{Outcome, accepted, refused, later}
-use Rattle.packbits.specs.Unpack.{placed}
+use Rattle.outcome.specs.Outcome.{Outcome, accepted, refused, placed, later}
 use Rattle.words.specs.Word.{wordAt}
-use Rattle.unpack_rows.specs.UnpackRows.{Rows, unpackRows}
+use Rattle.unpack_rows.specs.UnpackRows.{Rows, doneRows, unpackRows}
 use Rattle.unpack_rows.proofs.UnpackRows.{RowsBounded, rows-bounded}
-use Rattle.unpack_rows.proofs.Exact.{doneRows}
 use Rattle.resolution.specs.declared.Resolution.{Resolution}
 use Rattle.resolution.specs.Shapes.{screenBytes, rowBytesOf, planeRowsOf}
 use Rattle.resolution.proofs.Choice.{withResolution-elim}

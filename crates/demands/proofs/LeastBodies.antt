@@ -7,10 +7,10 @@ use native.Mathlib.Omega.{arith}
 use lib.ListN.{length, getD}
 use Rattle.lists.specs.Bytes.{Bytes}
 use Rattle.lists.specs.Tabulate.{tabulate}
+use Rattle.lists.specs.Wide.{Wide}
 use Rattle.lists.proofs.Tabulate.{length-tabulate, getD-tabulate, tabulate-ext, tabulate-le}
 use Rattle.outcome.specs.Outcome.{accepted, refused}
 use Rattle.outcome.specs.Refusal.{noPackedBody}
-use Rattle.unpack_rows.proofs.Wide.{Wide}
 use Rattle.pack.proofs.Bounds.{Separate, separate-tabulate}
 use Rattle.pack.proofs.Valid.{least-is-least}
 use Rattle.pack_rows.specs.LeastRows.{leastRows, leastRowsRecords}
@@ -24,7 +24,7 @@ use Rattle.resolution.proofs.Shapes.{rowBytes-pos, rowBytes-le}
 use Rattle.screen.specs.PlaneRows.{rowOffset, planeRow, planeRows}
 use Rattle.screen.specs.Registers.{groupOffset, wordOffset}
 use Rattle.screen.proofs.Places.{row-within}
-use Rattle.screen.proofs.PlaneRows.{length-planeRows, getD-planeRows}
+use Rattle.screen.proofs.PlaneRows.{length-planeRows, getD-planeRows, wide-planeRows}
 use Rattle.picture.specs.declared.Picture.{Picture}
 use Rattle.picture.specs.Whole.{Whole}
 use Rattle.writer.specs.Layout.{packedFile}
@@ -34,7 +34,6 @@ use Rattle.writer.proofs.WriteFile.{packed-refused, packed-accepted, form-packe
 use Rattle.demands.specs.Screens.{UnpacksScreen}
 use Rattle.demands.specs.LeastBodies.{WritersRows, noRow, nextRow, ShortestBody, WritesPacked, mostBytes, alternating}
 use Rattle.demands.proofs.ByteStrings.{body-bytes}
-use Rattle.demands.proofs.Screens.{wide-planeRows}
 
 -- ---- sizes, by the three resolutions
 

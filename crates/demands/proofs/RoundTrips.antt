@@ -12,8 +12,7 @@ use Rattle.lists.proofs.Over.{getD-over-in}
 use Rattle.lists.proofs.Cond.{cond-leb, cond-ltb, cond-eqb}
 use Rattle.outcome.specs.Outcome.{Outcome, accepted, refused}
 use Rattle.words.specs.Word.{wordAt}
-use Rattle.unpack_rows.specs.UnpackRows.{unpackRows}
-use Rattle.unpack_rows.proofs.Exact.{doneRows}
+use Rattle.unpack_rows.specs.UnpackRows.{doneRows, unpackRows}
 use Rattle.resolution.specs.declared.Chosen.the-variants.{Known}
 use Rattle.resolution.specs.declared.Resolution.{Resolution}
 use Rattle.resolution.specs.Shapes.{screenBytes, widthOf, heightOf, rowBytesOf, planeRowsOf}

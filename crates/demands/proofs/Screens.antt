@@ -1,28 +1,20 @@
--- Laws of a byte string that unpacks to a screen. Assumes nothing.
+-- A packed body: unpacked to the screen that the relation names, and to no other. Assumes nothing.
 use mathlib.Core.Path.{_≡_, sym, ap, _∙_, subst}
 use mathlib.Core.List.{List, _++_}
 use Prim.Native.Nat.{ℕ, _≤_}
 use native.Mathlib.Omega.{arith}
 use lib.ListN.{length, take}
 use Rattle.lists.specs.Bytes.{Bytes}
+use Rattle.lists.proofs.Wide.{wide-at}
 use Rattle.outcome.specs.Outcome.{accepted}
-use Rattle.unpack_rows.specs.UnpackRows.{Rows, unpackRows}
+use Rattle.unpack_rows.specs.UnpackRows.{Rows, doneRows, unpackRows}
 use Rattle.unpack_rows.specs.UnpacksRows.{UnpacksRows}
-use Rattle.unpack_rows.proofs.Exact.{doneRows, complete-rows, exact-rows}
-use Rattle.unpack_rows.proofs.Wide.{Wide, wide-at, wide-tabulate}
+use Rattle.unpack_rows.proofs.Exact.{complete-rows, exact-rows}
 use Rattle.resolution.specs.declared.Resolution.{Resolution}
 use Rattle.resolution.specs.Shapes.{rowBytesOf, planeRowsOf}
-use Rattle.screen.specs.PlaneRows.{planeRow, planeRows, screenOf}
-use Rattle.screen.proofs.PlaneRows.{length-planeRow, length-planeRows, rows-of-screen}
+use Rattle.screen.specs.PlaneRows.{planeRows, screenOf}
+use Rattle.screen.proofs.PlaneRows.{length-planeRows, wide-planeRows, rows-of-screen}
 use Rattle.demands.specs.Screens.{UnpacksScreen}
-
--- ---- plane rows have their resolution's width
-
-pub wide-planeRows : (s : List ℕ) (r : Resolution) → Wide (rowBytesOf r) (planeRows s r)
-unfolding planeRows
-wide-planeRows s r = wide-tabulate (rowBytesOf r) (planeRowsOf r) (λ n. planeRow s r n) (λ n. length-planeRow s r n)
-
--- ---- a packed body: unpacked to the screen that the relation names, and to no other
 
 -- a body that unpacks to a screen, with anything after it
 pub rows-complete : (r : Resolution) (body screen : List ℕ) (n : ℕ) → UnpacksScreen r body screen n → (rest : List ℕ)

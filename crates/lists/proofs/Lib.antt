@@ -8,3 +8,4 @@ pub mod Pieces
 pub mod Stores
 pub mod Sum
 pub mod Tabulate
+pub mod Wide

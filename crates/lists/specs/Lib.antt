@@ -4,3 +4,4 @@ pub mod Over
 pub mod Stores
 pub mod Sum
 pub mod Tabulate
+pub mod Wide

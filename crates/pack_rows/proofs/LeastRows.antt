@@ -7,9 +7,9 @@ use native.Mathlib.Numerals.{add-one}
 use native.Mathlib.Omega.{arith}
 use lib.ListN.{length, getD, drop, length-append, drop-of-length-le}
 use lib.Seq.{drop-cons}
+use Rattle.lists.specs.Wide.{Wide}
 use Rattle.packbits.proofs.Exact.{records-few}
 use Rattle.unpack_rows.specs.UnpacksRows.{UnpacksRows, none, more}
-use Rattle.unpack_rows.proofs.Wide.{Wide}
 use Rattle.pack.specs.Least.{least, leastRecords}
 use Rattle.pack.proofs.Bounds.{least-bound, Separate, separate-length}
 use Rattle.pack.proofs.Optimal.{least-first}

@@ -5,7 +5,7 @@ use mathlib.Core.Bool.{cond}
 use mathlib.Core.List.{List, [], _++_}
 use lib.ListN.{length, drop}
 use lib.Dec.{ltb, eqb}
-use Rattle.outcome.specs.Outcome.{Outcome, accepted, refused, refuseIf}
+use Rattle.outcome.specs.Outcome.{Outcome, refused, refuseIf, placed}
 use Rattle.outcome.specs.Refusal.{areaTooShort, inputEnds, outOfRange}
 use Rattle.packbits.specs.declared.Record.{Record}
 use Rattle.packbits.specs.Records.{packedLen, rowLen, rowBytes, fault, recordAt}
@@ -52,11 +52,6 @@ outcomeOf p = cond (eqb (p .fault) 0) (done (p .bytes) (p .records) (p .made)) (
 -- a row of so many bytes, unpacked from the front of the input; places count from the input's start
 abbrev pub unpack : List ℕ → ℕ → Outcome Row
 unpack input width = outcomeOf (progress input width)
-
--- an outcome of what starts at an offset of a file, with its place counted from the file's start
-abbrev pub placed : {A : Type 0} → ℕ → Outcome A → Outcome A
-placed at (accepted a) = accepted a
-placed at (refused number place) = refused number (at + place)
 
 -- a row unpacked from an offset of a file
 abbrev pub unpackAt : List ℕ → ℕ → ℕ → Outcome Row

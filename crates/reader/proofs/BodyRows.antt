@@ -10,10 +10,10 @@ use lib.ListN.{length, getD, drop, replicate}
 use lib.Seq.{drop-drop, getD-drop}
 use Rattle.lists.specs.Over.{over}
 use Rattle.lists.proofs.Over.{length-over, over-whole}
-use Rattle.outcome.specs.Outcome.{Outcome, accepted, refused, later}
+use Rattle.outcome.specs.Outcome.{Outcome, accepted, refused, placed, later}
 use Rattle.packbits.specs.declared.RowAnswer.{RowAnswer}
 use Rattle.packbits.specs.Row.{Row, done, rowAnswer, rowOutput, widthOutOfRange}
-use Rattle.packbits.specs.Unpack.{Progress, progress, unpackAt, placed}
+use Rattle.packbits.specs.Unpack.{Progress, progress, unpackAt}
 use Rattle.packbits.proofs.Unpack.{bounded}
 use Rattle.unpack.specs.RowAt.{unpackRowAt}
 use Rattle.unpack.proofs.RowUnpack.{at-range, full-outcome}

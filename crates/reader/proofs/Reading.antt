@@ -5,13 +5,12 @@ use Prim.Native.Nat.{ℕ, _+_, _-_, _*_, _/_, _%_, _^_, _≤_, _<_}
 use native.Mathlib.Omega.{arith}
 use lib.ListN.{length, getD, drop, length-drop}
 use borrow.Author.Tests.{lt-ltb, le-ltb, eq-eqb, ne-eqb}
-use Rattle.outcome.specs.Outcome.{Outcome, accepted, refused, later}
+use Rattle.outcome.specs.Outcome.{Outcome, accepted, refused, placed, later}
 use Rattle.outcome.specs.Refusal.{areaTooShort, unknownKind, unknownResolution, wrongLength, wrongFlag, wrongTail}
 use Rattle.lists.specs.Over.{over}
 use Rattle.lists.proofs.Tabulate.{length-tabulate, getD-tabulate}
 use Rattle.words.specs.Word.{wordAt, wordsAt}
 use Rattle.packbits.specs.declared.RowAnswer.{RowAnswer}
-use Rattle.packbits.specs.Unpack.{placed}
 use Rattle.unpack_rows.specs.UnpackRows.{Rows, unpackRows, unpackRowsAt, rowsAnswer}
 use Rattle.unpack_rows.proofs.UnpackRows.{RowsBounded, rows-bounded}
 use Rattle.resolution.specs.Shapes.{rowBytesOf, planeRowsOf}

@@ -7,8 +7,7 @@ use lib.ListN.{length, take, drop, length-drop}
 use lib.Seq.{length-take-le}
 use lib.Dec.{eqb}
 use Rattle.lists.proofs.Cond.{cond-elim, cond-ltb, cond-eqb}
-use Rattle.outcome.specs.Outcome.{Outcome, accepted, refused}
-use Rattle.packbits.specs.Unpack.{placed}
+use Rattle.outcome.specs.Outcome.{Outcome, accepted, refused, placed}
 use Rattle.unpack_rows.specs.UnpackRows.{Rows, unpackRows}
 use Rattle.unpack_rows.proofs.UnpackRows.{RowsBounded, rows-bounded}
 use Rattle.resolution.specs.declared.Chosen.the-variants.{Known}

@@ -4,7 +4,9 @@ use mathlib.Core.List.{List, []}
 use Prim.Native.Nat.{ℕ, _≤_, _<_}
 use lib.ListN.{length, getD, take}
 use Rattle.lists.specs.Tabulate.{tabulate}
+use Rattle.lists.specs.Wide.{Wide}
 use Rattle.lists.proofs.Tabulate.{length-tabulate, getD-tabulate, tabulate-ext, tabulate-getD, tabulate-take}
+use Rattle.lists.proofs.Wide.{wide-tabulate}
 use Rattle.resolution.specs.declared.Resolution.{Resolution}
 use Rattle.resolution.specs.Shapes.{screenBytes, rowBytesOf, planeRowsOf}
 use Rattle.screen.specs.PlaneRows.{rowOffset, rowAt, columnAt, planeRow, planeRows, screenOf}
@@ -28,6 +30,11 @@ getD-planeRow s r n c h = getD-tabulate (rowBytesOf r) (λ c. getD s (rowOffset 
 pub getD-planeRows : (s : List ℕ) (r : Resolution) (n : ℕ) → n < planeRowsOf r → getD (planeRows s r) n [] ≡ planeRow s r n
 unfolding planeRows
 getD-planeRows s r n h = getD-tabulate (planeRowsOf r) (λ n. planeRow s r n) n [] h
+
+-- they have their resolution's width
+pub wide-planeRows : (s : List ℕ) (r : Resolution) → Wide (rowBytesOf r) (planeRows s r)
+unfolding planeRows
+wide-planeRows s r = wide-tabulate (rowBytesOf r) (planeRowsOf r) (λ n. planeRow s r n) (λ n. length-planeRow s r n)
 
 -- ---- the screen made from plane rows
 

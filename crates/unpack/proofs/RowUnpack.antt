@@ -12,14 +12,14 @@ use lib.Dec.{eqb}
 use borrow.Author.Tests.{lt-ltb, le-ltb, eq-eqb, eqb-false}
 use Rattle.lists.specs.Bytes.{Bytes}
 use Rattle.lists.specs.Over.{over}
-use Rattle.outcome.specs.Outcome.{Outcome, accepted, refused}
+use Rattle.outcome.specs.Outcome.{Outcome, accepted, refused, placed}
 use Rattle.outcome.specs.Refusal.{areaTooShort, outOfRange}
 use Rattle.packbits.specs.Row.{Row, done, rowAnswer, rowOutput, widthOutOfRange}
-use Rattle.packbits.specs.Unpack.{Progress, outcomeOf, unpack, placed, unpackAt, unpackRow}
-use Rattle.packbits.specs.Unpacks.{Unpacks}
+use Rattle.packbits.specs.Unpack.{Progress, outcomeOf, unpack, unpackAt, unpackRow}
 use Rattle.packbits.proofs.Exact.{exact}
 use Rattle.packbits.proofs.Row.{in-range, of-range}
 use Rattle.packbits.proofs.Unpack.{RowBounded}
+use Rattle.unpack.specs.AcceptsRow.{AcceptsRow}
 use Rattle.unpack.specs.RowAt.{unpackRowAt}
 
 -- ---- the cases, in the order of judging
@@ -83,11 +83,6 @@ module _ (at : ℕ) (input : List ℕ) (width : ℕ) (buffer : List ℕ) where
   made-copied (refused number place) out b e = absurd (b .0 e)
 
 -- ---- what is accepted
-
--- the width is 1 to 128, the output has room for the row, and the first `used` bytes of the input unpack to the row by so many records
-abbrev pub AcceptsRow : List ℕ → ℕ → ℕ → ℕ → ℕ → List ℕ → Type 0
-AcceptsRow packed width room used records row =
-    (0 < width) × (width ≤ 128) × (width ≤ room) × (length row ≡ width) × (used ≤ length packed) × Unpacks (take used packed) row records
 
 not-both : {o : Outcome Row} {number place : ℕ} {r : Row} → o ≡ refused number place → o ≡ accepted r → ⊥
 not-both p q = let z : _≡_ {A = ℕ} 0 1 = cc in omega arith

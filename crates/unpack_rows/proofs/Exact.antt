@@ -7,18 +7,14 @@ use mathlib.Core.List.{List, _++_, append-assoc}
 use lib.ListN.{length, take, drop, length-append, length-drop, take-append-drop}
 use lib.Seq.{take-add, drop-append-seam, length-take-le}
 use Rattle.lists.specs.Bytes.{Bytes}
+use Rattle.lists.specs.Wide.{Wide}
 use Rattle.lists.proofs.Bytes.{bytes-drop}
 use Rattle.outcome.specs.Outcome.{Outcome, accepted, refused}
 use Rattle.packbits.specs.Row.{Row, done}
 use Rattle.packbits.specs.Unpack.{unpack}
 use Rattle.packbits.proofs.Exact.{sound, complete}
-use Rattle.unpack_rows.specs.UnpackRows.{Rows, rowThen, andThen, unpackRows}
+use Rattle.unpack_rows.specs.UnpackRows.{Rows, doneRows, rowThen, andThen, unpackRows}
 use Rattle.unpack_rows.specs.UnpacksRows.{UnpacksRows, none, more}
-use Rattle.unpack_rows.proofs.Wide.{Wide}
-
--- accepted with so many packed bytes, so many records and these rows
-abbrev pub doneRows : ℕ → ℕ → List (List ℕ) → Outcome Rows
-doneRows bytes records rows = accepted (record { bytes = bytes; records = records; rows = rows })
 
 -- ---- complete: a body of the relation, with anything after it, is accepted, and used whole
 

@@ -7,10 +7,10 @@ use native.Mathlib.Omega.{arith}
 use mathlib.Core.List.{List}
 use lib.ListN.{length, drop, length-drop}
 use lib.Seq.{drop-drop}
-use Rattle.outcome.specs.Outcome.{Outcome, accepted, refused}
+use Rattle.outcome.specs.Outcome.{Outcome, accepted, refused, placed}
 use Rattle.packbits.specs.declared.RowAnswer.{RowAnswer}
 use Rattle.packbits.specs.Row.{Row, rowAnswer}
-use Rattle.packbits.specs.Unpack.{unpack, placed}
+use Rattle.packbits.specs.Unpack.{unpack}
 use Rattle.packbits.proofs.Unpack.{RowBounded, row-bounded}
 use Rattle.unpack_rows.specs.UnpackRows.{Rows, rowThen, andThen, unpackRows, unpackRowsAt, rowsAnswer}
 

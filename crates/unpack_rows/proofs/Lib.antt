@@ -3,4 +3,3 @@ pub mod Judging
 pub mod Next
 pub mod UnpackRows
 pub mod UnpacksRows
-pub mod Wide

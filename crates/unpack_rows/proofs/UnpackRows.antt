@@ -4,12 +4,12 @@ use Prim.Native.Nat.{ℕ, zero, suc, _≤_}
 use native.Mathlib.Omega.{arith}
 use mathlib.Core.List.{List}
 use lib.ListN.{length, drop, length-drop}
+use Rattle.lists.specs.Wide.{Wide}
 use Rattle.outcome.specs.Outcome.{Outcome, accepted, refused}
 use Rattle.packbits.specs.Row.{Row}
 use Rattle.packbits.specs.Unpack.{unpack}
 use Rattle.packbits.proofs.Unpack.{RowBounded, row-bounded}
 use Rattle.unpack_rows.specs.UnpackRows.{Rows, rowThen, andThen, unpackRows}
-use Rattle.unpack_rows.proofs.Wide.{Wide}
 
 -- n rows of the width that was asked, and no more records than bytes used, all of them there; a refusal has a number, and a place in the
 -- input or at its end

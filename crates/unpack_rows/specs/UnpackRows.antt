@@ -2,16 +2,20 @@
 use Prim.Native.Nat.{ℕ, zero, suc, _+_}
 use mathlib.Core.List.{List, [], _∷_}
 use lib.ListN.{drop}
-use Rattle.outcome.specs.Outcome.{Outcome, accepted, refused}
+use Rattle.outcome.specs.Outcome.{Outcome, accepted, refused, placed}
 use Rattle.packbits.specs.declared.RowAnswer.{RowAnswer}
 use Rattle.packbits.specs.Row.{Row}
-use Rattle.packbits.specs.Unpack.{unpack, placed}
+use Rattle.packbits.specs.Unpack.{unpack}
 
 -- rows that were unpacked: the packed bytes used, the records, those that do nothing included, and the rows
 pub record Rows : Type 0 where
   pub bytes : ℕ
   pub records : ℕ
   pub rows : List (List ℕ)
+
+-- accepted with so many packed bytes, so many records and these rows
+abbrev pub doneRows : ℕ → ℕ → List (List ℕ) → Outcome Rows
+doneRows bytes records rows = accepted (record { bytes = bytes; records = records; rows = rows })
 
 -- a row, and then the rows that follow it; their places count from where the row ended
 abbrev pub rowThen : Row → Outcome Rows → Outcome Rows

@@ -2,16 +2,17 @@
 use mathlib.Core.Path.{_≡_, sym, ap, _∙_, subst}
 use mathlib.Core.Bool.{false}
 use mathlib.Core.List.{List, _++_}
-use Prim.Native.Nat.{ℕ, zero, suc, _+_, _-_, _*_, _≤_, _<_}
+use Prim.Native.Nat.{ℕ, suc, _+_, _-_, _*_, _≤_, _<_}
 use native.Mathlib.Nat.{suc-mul, mul-add}
 use native.Mathlib.Omega.{arith}
 use borrow.Author.Tests.{le-leb}
 use borrow.Rule.Slice.PartMut.{putMid}
-use lib.ListN.{length, take, drop, replicate, length-append}
+use lib.ListN.{length, take, drop, replicate, length-append, length-drop}
 use lib.Seq.{take-at}
 use Rattle.lists.specs.Over.{over}
 use Rattle.lists.proofs.Over.{length-over}
 use Rattle.lists.proofs.Pieces.{PartlyWritten, writing-start, writing-end, piece-fits, writing-more}
+use Rattle.lists.proofs.Wide.{wide-drop}
 use Rattle.outcome.specs.Outcome.{Outcome, later}
 use Rattle.packbits.specs.Row.{done, widthOutOfRange}
 use Rattle.resolution.specs.declared.Resolution.{Resolution}
@@ -22,11 +23,11 @@ use Rattle.pack.specs.Pack.{packInto, leastLen}
 use Rattle.pack.proofs.Bounds.{least-bound}
 use Rattle.pack.proofs.Pack.{pack-done}
 use Rattle.pack_rows.specs.LeastRows.{leastRows, leastRowsRecords}
-use Rattle.pack_rows.proofs.LeastRows.{leastRecords-bound, leastRows-next, leastRowsRecords-next, leastRows-past, leastRowsRecords-past}
+use Rattle.pack_rows.proofs.LeastRows.{leastRows-bound, leastRecords-bound, leastRows-next, leastRowsRecords-next, leastRows-past, leastRowsRecords-past}
 use Rattle.resolution.proofs.Shapes.{planeRows-rowBytes, rowBytes-le, rowBytes-pos}
 use Rattle.screen.specs.PlaneRows.{planeRow, planeRows, takeRow}
 use Rattle.screen.proofs.Judged.{judgeRow-accepted}
-use Rattle.screen.proofs.PlaneRows.{length-planeRow, length-planeRows, getD-planeRows}
+use Rattle.screen.proofs.PlaneRows.{length-planeRow, length-planeRows, getD-planeRows, wide-planeRows}
 
 -- ---- numbers that hold at every resolution
 
@@ -118,22 +119,16 @@ most-start s r =
     let e : planeRowsOf r - 0 ≡ planeRowsOf r = omega arith in
     record { sum = rw e (omega (arith, planeRows-rowBytes r, mul-add (planeRowsOf r) (rowBytesOf r) 1)) }
 
--- the last k rows
-last-rows : (s : List ℕ) (r : Resolution) (k n : ℕ) → n + k ≡ planeRowsOf r → length (leastRows (drop n (planeRows s r))) ≤ k * (rowBytesOf r + 1)
-last-rows s r zero n e = omega (arith, length-past s r n (omega arith))
-last-rows s r (suc k) n e =
-    omega (
-      arith,
-      length-next s r n (omega arith),
-      row-longest s r n,
-      last-rows s r k (n + 1) (omega arith),
-      suc-mul k (rowBytesOf r + 1),
-    )
+-- the rows from n on
+last-rows : (s : List ℕ) (r : Resolution) (n : ℕ) → length (leastRows (drop n (planeRows s r))) ≤ (planeRowsOf r - n) * (rowBytesOf r + 1)
+last-rows s r n =
+    let left : length (drop n (planeRows s r)) ≡ planeRowsOf r - n = omega (arith, length-drop n (planeRows s r), length-planeRows s r) in
+    rw left at (leastRows-bound (rowBytesOf r) (drop n (planeRows s r)) (wide-drop (rowBytesOf r) n (planeRows s r) (wide-planeRows s r)))
 
 module _ (s : List ℕ) (r : Resolution) (n most : ℕ) (m : Most s r n most) where
   -- the body has no more
-  pub most-bound : n ≤ planeRowsOf r → length (leastRows (planeRows s r)) ≤ most
-  most-bound h = omega (arith, m .sum, last-rows s r (planeRowsOf r - n) n (omega arith))
+  pub most-bound : length (leastRows (planeRows s r)) ≤ most
+  most-bound = omega (arith, m .sum, last-rows s r n)
 
   -- row n measured
   pub most-turn : n < planeRowsOf r → Most s r (n + 1) (most - (rowBytesOf r + 1 - length (least (planeRow s r n))))
@@ -149,7 +144,7 @@ module _ (s : List ℕ) (r : Resolution) (n most : ℕ) (m : Most s r n most) wh
               suc-mul k (rowBytesOf r + 1),
               length-next s r n h,
               row-longest s r n,
-              last-rows s r k (n + 1) (omega arith),
+              last-rows s r (n + 1),
             );
       }
 

@@ -7,10 +7,10 @@ use mathlib.Core.List.{List}
 use lib.ListN.{length, take, replicate}
 use borrow.Author.Needs.{needs}
 use Rattle.lists.specs.Over.{over}
-use Rattle.outcome.specs.Outcome.{Outcome}
+use Rattle.outcome.specs.Outcome.{Outcome, placed}
 use Rattle.packbits.specs.declared.RowAnswer.{RowAnswer}
 use Rattle.packbits.specs.Row.{Row, rowAnswer, rowOutput, widthOutOfRange}
-use Rattle.packbits.specs.Unpack.{unpack, placed}
+use Rattle.packbits.specs.Unpack.{unpack}
 use Rattle.packbits.proofs.Unpack.{row-bounded}
 use Rattle.packbits.proofs.Row.{refused-keeps}
 use Rattle.unpack.proofs.RowUnpack.{row-out, row-short, row-room, at-range, answer-placed, made-inside, made-copied}

@@ -64,7 +64,7 @@ returns : tie.Need-returns Inv-loop μ-loop
 returns c =
     let a = c .before .before .before .before .before .before .before .args in
     let m = measured (c .before) in
-    let bound = most-bound (now (a .screen)) (a .r) (c .before .before .before .loop .n + 1) _ (m .1) (omega (arith, m .0)) in
+    let bound = most-bound (now (a .screen)) (a .r) (c .before .before .before .loop .n + 1) _ (m .1) in
     sym (lt-leb 32000 (length (leastBody (a .r) (now (a .screen)))) (omega (arith, bound, c .if1 .taken)))
 
 add-n : tie.Need-add-n Inv-loop μ-loop

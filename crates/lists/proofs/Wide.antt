@@ -1,15 +1,11 @@
--- Rows of one width. Assumes nothing.
+-- Laws of rows of one width. Assumes nothing.
 use mathlib.Core.Path.{_≡_}
 use Prim.Native.Nat.{ℕ, zero, suc, _<_}
 use native.Mathlib.Omega.{arith}
 use mathlib.Core.List.{List, [], _∷_}
-use lib.ListN.{length, getD}
+use lib.ListN.{length, getD, drop}
 use Rattle.lists.specs.Tabulate.{tabulate}
-
--- each row has this width
-abbrev pub Wide : ℕ → List (List ℕ) → Type 0
-Wide width [] = Unit {0}
-Wide width (row ∷ rows) = (length row ≡ width) × Wide width rows
+use Rattle.lists.specs.Wide.{Wide}
 
 pub wide-at : (width : ℕ) (rows : List (List ℕ)) → Wide width rows → (k : ℕ) → k < length rows → length (getD rows k []) ≡ width
 wide-at width [] w k h = absurd (omega arith)
@@ -20,3 +16,8 @@ pub wide-tabulate : (width n : ℕ) (f : ℕ → List ℕ) → ((k : ℕ) → le
 unfolding tabulate
 wide-tabulate width zero f h = tt
 wide-tabulate width (suc n) f h = (h 0, wide-tabulate width n (λ k. f (suc k)) (λ k. h (suc k)))
+
+pub wide-drop : (width n : ℕ) (rows : List (List ℕ)) → Wide width rows → Wide width (drop n rows)
+wide-drop width zero rows w = w
+wide-drop width (suc n) [] w = tt
+wide-drop width (suc n) (row ∷ rows) w = wide-drop width n rows (w .1)
