@@ -27,6 +27,7 @@ rewrite area out file = writeRead area out (readFile 1 file (length area))
 abbrev pub fileIn : List ℕ → Outcome Writing → List ℕ
 fileIn out o = take (writeAnswer o .length) (writeOutput o out)
 
+-- the file that rewriting leaves at the output's front
 abbrev pub rewritten : List ℕ → List ℕ → List ℕ → List ℕ
 rewritten area out file = fileIn out (rewrite area out file)
 
