@@ -2,7 +2,7 @@
 ghost use mathlib.Core.Path.{_≡_};
 ghost use lib.ListN.{length};
 ghost use Rattle.lists.specs.Over.{over};
-ghost use Rattle.outcome.specs.Outcome.{answer, later};
+ghost use Rattle.outcome.specs.Outcome.{refusalOf, later};
 ghost use Rattle.packbits.specs.Row.{rowAnswer, rowOutput};
 ghost use Rattle.packbits.specs.Unpack.{unpackRow};
 ghost use Rattle.pack.specs.Pack.{packRow};
@@ -10,18 +10,20 @@ ghost use Rattle.lines.specs.Lines.{lineOut, lineIn};
 ghost use Rattle.tally.specs.Counts.{tallied, tallyAnswer};
 ghost use Rattle.colour.specs.Shown.{shown, colourAnswer};
 ghost use Rattle.pond.specs.Reading.{pondReading, pondAnswer};
-ghost use Rattle.reader.specs.Reading.{readFile, readAnswer, readArea};
-ghost use Rattle.writer.specs.Write.{writeFile, writeAnswer, writeOutput};
+ghost use Rattle.picture.specs.Reading.{readAnswer, readArea};
+ghost use Rattle.picture.specs.Writing.{writeAnswer, writeOutput};
+ghost use Rattle.reader.specs.Reading.{readFile};
+ghost use Rattle.writer.specs.Writing.{writeFile};
 use colour::ColourAnswer;
-use outcome::Answer;
+use outcome::Refusal;
 use packbits::RowAnswer;
 use picture::Picture;
+use picture::ReadAnswer;
+use picture::WriteAnswer;
 use pond::Legend;
 use pond::PondAnswer;
-use reader::ReadAnswer;
 use tally::Rectangle;
 use tally::TallyAnswer;
-use writer::WriteAnswer;
 
 // The 16 words of a palette: C passes no array by value.
 #[repr(C)]
@@ -32,8 +34,9 @@ pub struct Palette {
 // Row unpack.
 #[no_mangle]
 pub extern "C" fn kutimuq_unpack_row(packed: &[u8], width: usize, out: &mut [u8]) -> RowAnswer
-    ensures answer { λ r. ⌜ r ≡ rowAnswer (unpackRow (now (packed .entry)) width (length (now (out .entry)))) ⌝ }
-    ensures output { λ _. ⌜ now (out .exit) ≡ rowOutput (unpackRow (now (packed .entry)) width (length (now (out .entry)))) (now (out .entry)) ⌝ }
+    ensures answer { λ a. ⌜ a ≡ rowAnswer (unpackRow (now (packed .entry)) width (length (now (out .entry)))) ⌝ }
+    ensures output { λ _. ⌜ now (out .exit)
+        ≡ rowOutput (unpackRow (now (packed .entry)) width (length (now (out .entry)))) (now (out .entry)) ⌝ }
 {
     unpack::unpack_row(packed, width, out)
 }
@@ -41,8 +44,9 @@ pub extern "C" fn kutimuq_unpack_row(packed: &[u8], width: usize, out: &mut [u8]
 // Row pack.
 #[no_mangle]
 pub extern "C" fn kutimuq_pack_row(row: &[u8], out: &mut [u8]) -> RowAnswer
-    ensures answer { λ r. ⌜ r ≡ rowAnswer (packRow (now (row .entry)) (length (now (out .entry)))) ⌝ }
-    ensures output { λ _. ⌜ now (out .exit) ≡ rowOutput (packRow (now (row .entry)) (length (now (out .entry)))) (now (out .entry)) ⌝ }
+    ensures answer { λ a. ⌜ a ≡ rowAnswer (packRow (now (row .entry)) (length (now (out .entry)))) ⌝ }
+    ensures output { λ _. ⌜ now (out .exit)
+        ≡ rowOutput (packRow (now (row .entry)) (length (now (out .entry)))) (now (out .entry)) ⌝ }
 {
     pack::pack_row(row, out)
 }
@@ -54,9 +58,12 @@ pub extern "C" fn kutimuq_line_out(
     resolution: u16,
     line: usize,
     out: &mut [u8],
-) -> Answer
-    ensures answer { λ r. ⌜ r ≡ answer (lineOut (now (screen .entry)) resolution line (length (now (out .entry)))) ⌝ }
-    ensures output { λ _. ⌜ now (out .exit) ≡ later (lineOut (now (screen .entry)) resolution line (length (now (out .entry)))) (λ l. over l (now (out .entry))) (now (out .entry)) ⌝ }
+) -> Refusal
+    ensures answer { λ a. ⌜ a
+        ≡ refusalOf (lineOut (now (screen .entry)) resolution line (length (now (out .entry)))) ⌝ }
+    ensures output { λ _. ⌜ now (out .exit)
+        ≡ later (lineOut (now (screen .entry)) resolution line (length (now (out .entry))))
+        (λ l. over l (now (out .entry))) (now (out .entry)) ⌝ }
 {
     lines::line_out(screen, resolution, line, out)
 }
@@ -68,25 +75,27 @@ pub extern "C" fn kutimuq_line_in(
     resolution: u16,
     line: usize,
     registers: &[u8],
-) -> Answer
-    ensures answer { λ r. ⌜ r ≡ answer (lineIn (now (screen .entry)) resolution line (now (registers .entry))) ⌝ }
-    ensures screen { λ _. ⌜ now (screen .exit) ≡ later (lineIn (now (screen .entry)) resolution line (now (registers .entry))) (λ s. s) (now (screen .entry)) ⌝ }
+) -> Refusal
+    ensures answer { λ a. ⌜ a ≡ refusalOf (lineIn (now (screen .entry)) resolution line (now (registers .entry))) ⌝ }
+    ensures screen { λ _. ⌜ now (screen .exit)
+        ≡ later (lineIn (now (screen .entry)) resolution line (now (registers .entry)))
+        (λ s. s) (now (screen .entry)) ⌝ }
 {
     lines::line_in(screen, resolution, line, registers)
 }
 
 // Tally.
 #[no_mangle]
-pub extern "C" fn kutimuq_tally(screen: &[u8], resolution: u16, area: Rectangle) -> TallyAnswer
-    ensures { λ r. ⌜ r ≡ tallyAnswer (tallied (now (screen .entry)) resolution area) ⌝ }
+pub extern "C" fn kutimuq_tally(screen: &[u8], resolution: u16, rectangle: Rectangle) -> TallyAnswer
+    ensures { λ a. ⌜ a ≡ tallyAnswer (tallied (now (screen .entry)) resolution rectangle) ⌝ }
 {
-    tally::tally(screen, resolution, area)
+    tally::tally(screen, resolution, rectangle)
 }
 
 // Colour.
 #[no_mangle]
 pub extern "C" fn kutimuq_colour(resolution: u16, palette: Palette, register: u8) -> ColourAnswer
-    ensures { λ r. ⌜ r ≡ colourAnswer (shown resolution (palette .words) register) ⌝ }
+    ensures { λ a. ⌜ a ≡ colourAnswer (shown resolution (palette .words) register) ⌝ }
 {
     let words = palette.words;
     colour::colour(resolution, words, register)
@@ -97,21 +106,22 @@ pub extern "C" fn kutimuq_colour(resolution: u16, palette: Palette, register: u8
 pub extern "C" fn kutimuq_pond(
     screen: &[u8],
     resolution: u16,
-    area: Rectangle,
+    rectangle: Rectangle,
     class: u8,
     floor: u8,
     legend: Legend,
 ) -> PondAnswer
-    ensures { λ r. ⌜ r ≡ pondAnswer (pondReading (now (screen .entry)) resolution area class floor legend) ⌝ }
+    ensures { λ a. ⌜ a ≡ pondAnswer (pondReading (now (screen .entry)) resolution rectangle class floor legend) ⌝ }
 {
-    pond::read_pond(screen, resolution, area, class, floor, legend)
+    pond::read_pond(screen, resolution, rectangle, class, floor, legend)
 }
 
 // Read.
 #[no_mangle]
 pub extern "C" fn kutimuq_read(kind: u8, file: &[u8], area: &mut [u8]) -> ReadAnswer
-    ensures answer { λ r. ⌜ r ≡ readAnswer (readFile kind (now (file .entry)) (length (now (area .entry)))) ⌝ }
-    ensures area { λ _. ⌜ now (area .exit) ≡ readArea (readFile kind (now (file .entry)) (length (now (area .entry)))) (now (area .entry)) ⌝ }
+    ensures answer { λ a. ⌜ a ≡ readAnswer (readFile kind (now (file .entry)) (length (now (area .entry)))) ⌝ }
+    ensures area { λ _. ⌜ now (area .exit)
+        ≡ readArea (readFile kind (now (file .entry)) (length (now (area .entry)))) (now (area .entry)) ⌝ }
 {
     reader::read(kind, file, area)
 }
@@ -124,8 +134,10 @@ pub extern "C" fn kutimuq_write(
     screen: &[u8],
     out: &mut [u8],
 ) -> WriteAnswer
-    ensures answer { λ r. ⌜ r ≡ writeAnswer (writeFile form picture (now (screen .entry)) (length (now (out .entry)))) ⌝ }
-    ensures output { λ _. ⌜ now (out .exit) ≡ writeOutput (writeFile form picture (now (screen .entry)) (length (now (out .entry)))) (now (out .entry)) ⌝ }
+    ensures answer { λ a. ⌜ a
+        ≡ writeAnswer (writeFile form picture (now (screen .entry)) (length (now (out .entry)))) ⌝ }
+    ensures output { λ _. ⌜ now (out .exit)
+        ≡ writeOutput (writeFile form picture (now (screen .entry)) (length (now (out .entry)))) (now (out .entry)) ⌝ }
 {
     writer::write(form, picture, screen, out)
 }

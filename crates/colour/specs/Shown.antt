@@ -1,10 +1,10 @@
--- The colour that a register shows (document 01, "Three resolutions", "Order of judging": colour). Assumes nothing: these are definitions.
+-- The colour that a register shows (document 01, "Three resolutions", "Order of judging": colour).
 use Prim.Native.Nat.{ℕ}
 use mathlib.Core.Bool.{cond}
 use mathlib.Core.List.{List}
 use lib.ListN.{getD}
 use lib.Dec.{leb, eqb}
-use Rattle.outcome.specs.Outcome.{Outcome, accepted, refused, refuseIf}
+use Rattle.outcome.specs.Outcome.{Outcome, accepted, refused, none, refuseIf}
 use Rattle.outcome.specs.Refusal.{outOfRange}
 use Rattle.resolution.specs.declared.Resolution.{Resolution}
 use Rattle.resolution.specs.declared.Resolution.the-variants.{Low, Medium, High}
@@ -21,19 +21,20 @@ black = record { red = 0; green = 0; blue = 0 }
 
 -- the colour of a register: at high resolution 0 is white and 1 black, whatever the palette holds
 unfoldable pub registerColour : Resolution → List ℕ → ℕ → Rgb
-registerColour Low palette v = wordColour (getD palette v 0)
-registerColour Medium palette v = wordColour (getD palette v 0)
-registerColour High palette v = cond (eqb v 0) white black
+registerColour Low palette register = wordColour (getD palette register 0)
+registerColour Medium palette register = wordColour (getD palette register 0)
+registerColour High palette register = cond (eqb register 0) white black
 
 -- a register judged at a known resolution
 unfoldable pub judgeRegister : List ℕ → ℕ → Resolution → Outcome Rgb
-judgeRegister palette v r = refuseIf (leb (registersOf r) v) outOfRange (accepted (registerColour r palette v))
+judgeRegister palette register r =
+    refuseIf (leb (registersOf r) register) outOfRange (accepted (registerColour r palette register))
 
 -- colour: the resolution's number is judged, then the register
 unfoldable pub shown : ℕ → List ℕ → ℕ → Outcome Rgb
-shown number palette v = withResolution number (judgeRegister palette v)
+shown resolution palette register = withResolution resolution (judgeRegister palette register)
 
--- a refusal gives its number, its place, and 0 in all else
+-- a refusal gives 0 in all else
 abbrev pub colourAnswer : Outcome Rgb → ColourAnswer
-colourAnswer (accepted c) = record { number = 0; place = 0; red = c .red; green = c .green; blue = c .blue }
-colourAnswer (refused number place) = record { number = number; place = place; red = 0; green = 0; blue = 0 }
+colourAnswer (accepted c) = record { refusal = none; red = c .red; green = c .green; blue = c .blue }
+colourAnswer (refused why) = record { refusal = why; red = 0; green = 0; blue = 0 }

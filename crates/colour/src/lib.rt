@@ -5,30 +5,56 @@ ghost use Prim.Native.Nat.{_<_};
 ghost use lib.ListN.{getD};
 ghost use lib.Dec.{eqb};
 ghost use Rattle.outcome.specs.Outcome.{accepted, refused};
-ghost use Rattle.colour.specs.Palette.{level, field, wordColour};
+ghost use Rattle.colour.specs.Palette.{stretch, field, wordColour};
 ghost use Rattle.colour.specs.Shown.{white, black, judgeRegister, shown, colourAnswer};
+use outcome::OUT_OF_RANGE;
+use outcome::Refusal;
+use outcome::UNKNOWN_RESOLUTION;
 use resolution::Chosen;
 use resolution::Resolution;
 
-// The answer of a colour: red, green and blue, 0 to 255. A refusal has its number, place 0, and 0 in all else.
+// The answer of a colour: red, green and blue, 0 to 255; all 0 of a refusal.
 #[repr(C)]
 pub struct ColourAnswer {
-    pub number: u8,
-    pub place: usize,
+    pub refusal: Refusal,
     pub red: u8,
     pub green: u8,
     pub blue: u8,
 }
 
+// The answer of an accepted colour.
+fn colour_done(red: u8, green: u8, blue: u8) -> ColourAnswer
+    ensures { λ a. ⌜ a ≡ colourAnswer (accepted (record { red = red; green = green; blue = blue })) ⌝ }
+{
+    ColourAnswer {
+        refusal: outcome::none(),
+        red,
+        green,
+        blue,
+    }
+}
+
+// The answer of a refused colour.
+fn colour_refused(refusal: Refusal) -> ColourAnswer
+    ensures { λ a. ⌜ a ≡ colourAnswer (refused refusal) ⌝ }
+{
+    ColourAnswer {
+        refusal,
+        red: 0,
+        green: 0,
+        blue: 0,
+    }
+}
+
 // Level v stretched to 0 to 255 and rounded down.
-fn level(v: u16) -> u8
+fn stretch(v: u16) -> u8
     requires { ⌜ v < 8 ⌝ }
-    ensures { λ l. ⌜ l ≡ level v ⌝ }
+    ensures { λ r. ⌜ r ≡ stretch v ⌝ }
 {
     (255 * v / 7) as u8
 }
 
-// The three bits of a palette word from bit n up.
+// The level that a palette word holds in its three bits from bit n up.
 fn field(word: u16, n: u16) -> u16
     requires { ⌜ n < 16 ⌝ }
     ensures { λ v. ⌜ (v ≡ field word n) × (v < 8) ⌝ }
@@ -40,13 +66,11 @@ fn field(word: u16, n: u16) -> u16
 fn word_colour(word: u16) -> ColourAnswer
     ensures { λ a. ⌜ a ≡ colourAnswer (accepted (wordColour word)) ⌝ }
 {
-    ColourAnswer {
-        number: 0,
-        place: 0,
-        red: level(field(word, 8)),
-        green: level(field(word, 4)),
-        blue: level(field(word, 0)),
-    }
+    colour_done(
+        stretch(field(word, 8)),
+        stretch(field(word, 4)),
+        stretch(field(word, 0)),
+    )
 }
 
 // The colour of a palette's register.
@@ -62,34 +86,15 @@ fn monochrome(register: u8) -> ColourAnswer
     ensures { λ a. ⌜ a ≡ colourAnswer (accepted (cond (eqb register 0) white black)) ⌝ }
 {
     let shade: u8 = if register == 0 { 255 } else { 0 };
-    ColourAnswer {
-        number: 0,
-        place: 0,
-        red: shade,
-        green: shade,
-        blue: shade,
-    }
-}
-
-// A refusal: 0 in all but the number.
-fn refusal(number: u8) -> ColourAnswer
-    ensures { λ a. ⌜ a ≡ colourAnswer (refused number 0) ⌝ }
-{
-    ColourAnswer {
-        number,
-        place: 0,
-        red: 0,
-        green: 0,
-        blue: 0,
-    }
+    colour_done(shade, shade, shade)
 }
 
 // The colour of a register at a resolution.
-fn known_colour(r: Resolution, palette: [u16; 16], register: u8) -> ColourAnswer
+fn colour_at(r: Resolution, palette: [u16; 16], register: u8) -> ColourAnswer
     ensures { λ a. ⌜ a ≡ colourAnswer (judgeRegister palette register r) ⌝ }
 {
     if register >= r.registers() {
-        return refusal(outcome::OUT_OF_RANGE);
+        return colour_refused(outcome::refuse(OUT_OF_RANGE));
     }
     match r {
         Resolution::Low => palette_colour(palette, register as usize),
@@ -103,7 +108,7 @@ pub fn colour(resolution: u16, palette: [u16; 16], register: u8) -> ColourAnswer
     ensures { λ a. ⌜ a ≡ colourAnswer (shown resolution palette register) ⌝ }
 {
     match Resolution::from_number(resolution) {
-        Chosen::Known(r) => known_colour(r, palette, register),
-        Chosen::Unknown => refusal(outcome::UNKNOWN_RESOLUTION),
+        Chosen::Known(r) => colour_at(r, palette, register),
+        Chosen::Unknown => colour_refused(outcome::refuse(UNKNOWN_RESOLUTION)),
     }
 }

@@ -1,5 +1,5 @@
--- The examples of document 01 that are marked P hold: one test, which antt computes over the table, and one law at each entry. Assumes
--- nothing.
+-- The examples of document 01 that are marked P hold: one test, which antt computes over the table, and one law at each
+-- entry.
 use mathlib.Core.Path.{_≡_, refl, ap₂, subst}
 use mathlib.Core.Bool.{Bool, true, false, _&&_}
 use mathlib.Core.List.{List, [], _∷_, flatten}
@@ -8,7 +8,7 @@ use native.Mathlib.Nat.{le-of-suc-le-suc, not-suc-le-zero}
 use lib.ListN.{length, getD}
 use lib.Dec.{T, leb, eqb, leb→le, eqb→eq}
 use Rattle.lists.specs.Sum.{sum}
-use Rattle.outcome.specs.Outcome.{Outcome, accepted, refused}
+use Rattle.outcome.specs.Outcome.{Outcome, accepted, refused, refusal}
 use Rattle.words.specs.Word.{wordAt, wordBytes, wordsBytes}
 use Rattle.packbits.specs.Records.{control, recordAt}
 use Rattle.packbits.specs.Row.{Row, done}
@@ -19,8 +19,9 @@ use Rattle.pack.specs.Least.{least, leastRecords, scan}
 use Rattle.pack.specs.Least as packing
 use Rattle.pack.proofs.Valid.{least-is-least}
 use Rattle.resolution.specs.declared.Resolution.the-variants.{Low}
-use Rattle.screen.specs.Registers.{groupOffset, wordOffset, pixelBit, register}
-use Rattle.colour.specs.Palette.{Rgb, level, field, wordColour}
+use Rattle.raster.specs.Offsets.{groupOffset, wordOffset}
+use Rattle.lines.specs.Registers.{pixelBit, register}
+use Rattle.colour.specs.Palette.{Rgb, stretch, field, wordColour}
 use Rattle.demands.specs.Examples.{Example, rowPacked, rowUnpacked, coloured, firstRegister, Holds, table}
 
 -- ---- tests of equality
@@ -45,31 +46,38 @@ same-list (x ∷ xs) (y ∷ ys) t =
 
 abbrev sameOutcome : Outcome Row → Outcome Row → Bool
 sameOutcome (accepted r) (accepted s) = same (r .bytes ∷ r .records ∷ r .made) (s .bytes ∷ s .records ∷ s .made)
-sameOutcome (accepted r) (refused m p) = false
-sameOutcome (refused n o) (accepted s) = false
-sameOutcome (refused n o) (refused m p) = same (n ∷ o ∷ []) (m ∷ p ∷ [])
+sameOutcome (accepted r) (refused w) = false
+sameOutcome (refused v) (accepted s) = false
+sameOutcome (refused v) (refused w) = same (v .number ∷ v .place ∷ []) (w .number ∷ w .place ∷ [])
 
 same-outcome : (a b : Outcome Row) → T (sameOutcome a b) → a ≡ b
 same-outcome (accepted r) (accepted s) t =
-    row (r .bytes) (s .bytes) (r .records) (s .records) (r .made) (s .made) (same-list (r .bytes ∷ r .records ∷ r .made) (s .bytes ∷ s .records ∷ s .made) t)
+    row (r .bytes) (s .bytes) (r .records) (s .records) (r .made) (s .made)
+    (same-list (r .bytes ∷ r .records ∷ r .made) (s .bytes ∷ s .records ∷ s .made) t)
   where
     row : (u v n m : ℕ) (l k : List ℕ) → (u ∷ n ∷ l) ≡ (v ∷ m ∷ k) → done u n l ≡ done v m k
     row u v n m l k e = cc
-same-outcome (accepted r) (refused m p) t = absurd t
-same-outcome (refused n o) (accepted s) t = absurd t
-same-outcome (refused n o) (refused m p) t =
-    let e : (n ∷ o ∷ []) ≡ (m ∷ p ∷ []) = same-list (n ∷ o ∷ []) (m ∷ p ∷ []) t in
-    cc
+same-outcome (accepted r) (refused w) t = absurd t
+same-outcome (refused v) (accepted s) t = absurd t
+same-outcome (refused v) (refused w) t =
+    why (v .number) (v .place) (w .number) (w .place)
+    (same-list (v .number ∷ v .place ∷ []) (w .number ∷ w .place ∷ []) t)
+  where
+    why : (n o m p : ℕ) → (n ∷ o ∷ []) ≡ (m ∷ p ∷ [])
+        → _≡_ {A = Outcome Row} (refused (refusal n o)) (refused (refusal m p))
+    why n o m p e = cc
 
 -- ---- the test of an example, and what it tells
 
 abbrev levels : Rgb → List ℕ
 levels c = c .red ∷ c .green ∷ c .blue ∷ []
 
-same-colour : (c : Rgb) (red green blue : ℕ) → levels c ≡ (red ∷ green ∷ blue ∷ []) → c ≡ record { red = red; green = green; blue = blue }
+same-colour : (c : Rgb) (red green blue : ℕ) → levels c ≡ (red ∷ green ∷ blue ∷ [])
+    → c ≡ record { red = red; green = green; blue = blue }
 same-colour c red green blue e = go (c .red) (c .green) (c .blue) e
   where
-    go : (r g b : ℕ) → (r ∷ g ∷ b ∷ []) ≡ (red ∷ green ∷ blue ∷ []) → _≡_ {A = Rgb} (record { red = r; green = g; blue = b }) (record { red = red; green = green; blue = blue })
+    go : (r g b : ℕ) → (r ∷ g ∷ b ∷ []) ≡ (red ∷ green ∷ blue ∷ [])
+        → _≡_ {A = Rgb} (record { red = r; green = g; blue = b }) (record { red = red; green = green; blue = blue })
     go r g b f = cc
 
 unfoldable test : Example → Bool
@@ -101,7 +109,7 @@ at (e ∷ es) t zero h d = test-holds e (both (test e) (every es) t .0)
 at (e ∷ es) t (suc k) h d = at es (both (test e) (every es) t .1) k (le-of-suc-le-suc h) d
 
 all : T (every table)
-unfolding every test scan packing.step unpackRow outcomeOf progress progressWithin unpacking.step recordAt control wordColour field level register wordsBytes wordBytes wordAt groupOffset wordOffset pixelBit sum flatten
+unfolding every test scan packing.prepend unpackRow outcomeOf progress progressWithin unpacking.step recordAt control wordColour field stretch register wordsBytes wordBytes wordAt groupOffset wordOffset pixelBit sum flatten
 all = tt
 
 -- "The twelve marked P (bytes in hex) form a single table, proved once as a whole against the definitions."

@@ -1,8 +1,6 @@
 pub mod Acceptance
-pub mod ByteStrings
 pub mod Examples
 pub mod LeastBodies
 pub mod Refusals
 pub mod Registers
 pub mod RoundTrips
-pub mod Screens

@@ -1,11 +1,13 @@
--- Demand 1: "Bad input gets the refusal number that document 01 gives for it, and then no byte of any lent area has changed." Which number
--- it is, the contracts' definitions say; here, for each public operation, what any refusal leaves and gives. Assumes nothing.
+-- Demand 1: "Bad input gets the refusal number that document 01 gives for it, and then no byte of any lent area has
+-- changed." Which number it is, the contracts' definitions say; here, for each public operation, what any refusal
+-- leaves and gives.
 use mathlib.Core.Path.{refl}
 use mathlib.Core.List.{List}
 use Prim.Native.Nat.{ℕ}
 use lib.ListN.{length}
 use Rattle.lists.specs.Over.{over}
 use Rattle.outcome.specs.Outcome.{Outcome, accepted, refused}
+use Rattle.outcome.proofs.Outcome.{kept}
 use Rattle.packbits.specs.Row.{Row}
 use Rattle.packbits.specs.Unpack.{unpackRow}
 use Rattle.pack.specs.Pack.{packRow}
@@ -18,46 +20,45 @@ use Rattle.pond.specs.declared.Legend.{Legend}
 use Rattle.pond.specs.declared.PondCounts.{PondCounts}
 use Rattle.pond.specs.Reading.{pondReading}
 use Rattle.picture.specs.declared.Picture.{Picture}
-use Rattle.reader.specs.Reading.{Reading, readFile}
-use Rattle.writer.specs.Write.{Writing, writeFile}
+use Rattle.picture.specs.Reading.{Reading}
+use Rattle.picture.specs.Writing.{Writing}
+use Rattle.reader.specs.Reading.{readFile}
+use Rattle.writer.specs.Writing.{writeFile}
 use Rattle.demands.specs.Refusals.{Kept, RowRefusal, TallyRefusal, ColourRefusal, PondRefusal, ReadRefusal, WriteRefusal}
 
 -- ---- any outcome
 
-kept : {A B : Type 0} (o : Outcome A) (gives : A → B) (area : B) → Kept o gives area
-kept (accepted a) gives area h = absurd (h refl)
-kept (refused number place) gives area h = refl
-
 row-refusal : (o : Outcome Row) (out : List ℕ) → RowRefusal o out
 row-refusal (accepted r) out h = absurd (h refl)
-row-refusal (refused number place) out h = (refl, refl, refl)
+row-refusal (refused why) out h = (refl, refl, refl)
 
 tally-refusal : (o : Outcome (List ℕ)) → TallyRefusal o
 tally-refusal (accepted c) h = absurd (h refl)
-tally-refusal (refused number place) h = refl
+tally-refusal (refused why) h = refl
 
 colour-refusal : (o : Outcome Rgb) → ColourRefusal o
 colour-refusal (accepted c) h = absurd (h refl)
-colour-refusal (refused number place) h = (refl, refl, refl)
+colour-refusal (refused why) h = (refl, refl, refl)
 
 pond-refusal : (o : Outcome PondCounts) → PondRefusal o
 pond-refusal (accepted p) h = absurd (h refl)
-pond-refusal (refused number place) h = (refl, refl, refl)
+pond-refusal (refused why) h = (refl, refl, refl)
 
 read-refusal : (o : Outcome Reading) (area : List ℕ) → ReadRefusal o area
 read-refusal (accepted q) area h = absurd (h refl)
-read-refusal (refused number place) area h = (refl, refl, refl, refl)
+read-refusal (refused why) area h = (refl, refl, refl, refl)
 
 write-refusal : (o : Outcome Writing) (out : List ℕ) → WriteRefusal o out
 write-refusal (accepted w) out h = absurd (h refl)
-write-refusal (refused number place) out h = (refl, refl, refl, refl)
+write-refusal (refused why) out h = (refl, refl, refl, refl)
 
 -- ---- each public operation
 
 pub read-refused : (kind : ℕ) (file area : List ℕ) → ReadRefusal (readFile kind file (length area)) area
 read-refused kind file area = read-refusal (readFile kind file (length area)) area
 
-pub write-refused : (form : ℕ) (p : Picture) (screen out : List ℕ) → WriteRefusal (writeFile form p screen (length out)) out
+pub write-refused : (form : ℕ) (p : Picture) (screen out : List ℕ)
+    → WriteRefusal (writeFile form p screen (length out)) out
 write-refused form p screen out = write-refusal (writeFile form p screen (length out)) out
 
 pub pack-refused : (row out : List ℕ) → RowRefusal (packRow row (length out)) out
@@ -66,10 +67,12 @@ pack-refused row out = row-refusal (packRow row (length out)) out
 pub unpack-refused : (packed : List ℕ) (width : ℕ) (out : List ℕ) → RowRefusal (unpackRow packed width (length out)) out
 unpack-refused packed width out = row-refusal (unpackRow packed width (length out)) out
 
-pub line-out-refused : (screen : List ℕ) (number y : ℕ) (out : List ℕ) → Kept (lineOut screen number y (length out)) (λ l. over l out) out
+pub line-out-refused : (screen : List ℕ) (number y : ℕ) (out : List ℕ)
+    → Kept (lineOut screen number y (length out)) (λ l. over l out) out
 line-out-refused screen number y out = kept (lineOut screen number y (length out)) (λ l. over l out) out
 
-pub line-in-refused : (screen : List ℕ) (number y : ℕ) (line : List ℕ) → Kept (lineIn screen number y line) (λ s. s) screen
+pub line-in-refused : (screen : List ℕ) (number y : ℕ) (line : List ℕ)
+    → Kept (lineIn screen number y line) (λ s. s) screen
 line-in-refused screen number y line = kept (lineIn screen number y line) (λ s. s) screen
 
 pub colour-refused : (number : ℕ) (palette : List ℕ) (register : ℕ) → ColourRefusal (shown number palette register)
@@ -78,5 +81,6 @@ colour-refused number palette register = colour-refusal (shown number palette re
 pub tally-refused : (screen : List ℕ) (number : ℕ) (a : Rectangle) → TallyRefusal (tallied screen number a)
 tally-refused screen number a = tally-refusal (tallied screen number a)
 
-pub pond-refused : (screen : List ℕ) (number : ℕ) (a : Rectangle) (class floor : ℕ) (l : Legend) → PondRefusal (pondReading screen number a class floor l)
+pub pond-refused : (screen : List ℕ) (number : ℕ) (a : Rectangle) (class floor : ℕ) (l : Legend)
+    → PondRefusal (pondReading screen number a class floor l)
 pond-refused screen number a class floor l = pond-refusal (pondReading screen number a class floor l)

@@ -1,15 +1,15 @@
-// Runs document 01's examples that are not proved, one function each, and writes what comes of them after a short label. The blank
-// file's summary is run by crates/summary.
+// Runs document 01's examples that are not proved, one function each, and writes what comes of them after a short
+// label. The blank file's summary is run by crates/summary.
 ghost use Prim.Native.Nat.{_+_, _≤_};
 ghost use lib.ListN.{length};
 ghost use mathlib.Core.Path.{_≡_};
+ghost use Rattle.pack.specs.Pack.{maxBody};
 use libc::STDOUT_FILENO;
-use picture::Picture;
-use picture::Table;
+use picture::FILE_BYTES;
 use report::SUMMARY_BYTES;
 use resolution::Resolution;
 use resolution::SCREEN_BYTES;
-use writer::FILE_BYTES;
+use writer::FORM_PACKED;
 
 // Writes a label and the summary of a file.
 fn show(label: &[u8], file: &[u8]) {
@@ -21,12 +21,15 @@ fn show(label: &[u8], file: &[u8]) {
     io::write_all(STDOUT_FILENO, &text[..end]);
 }
 
+// The plane rows of a low screen.
+const LOW_ROWS: usize = 800;
+
 // The records of a blank low screen, 800 times D9 00, over zeros from an offset on.
 fn put_blank_rows(file: &mut [u8], at: usize)
     requires { ⌜ at + 1600 ≤ length (now file) ⌝ }
 {
     let mut n: usize = 0;
-    while n < 800 {
+    while n < LOW_ROWS {
         file[at + n * 2] = 0xD9;
         n += 1;
     }
@@ -64,12 +67,12 @@ fn crossing_record() {
     show(b"first data byte D8 with one byte after it", &file);
 }
 
-// Byte c of a row that begins with so many equal bytes.
+// Byte c of a row that begins with `equal` equal bytes.
 fn row_byte(equal: usize, c: usize) -> u8 {
     if c < equal { 7 } else { (c % 2) as u8 }
 }
 
-// A row of so many equal bytes, and then bytes that differ from their neighbours.
+// A row of `equal` equal bytes, and then bytes that differ from their neighbours.
 fn row_of(equal: usize) -> [u8; 40]
     ensures { λ r. ⌜ 40 ≡ length r ⌝ }
 {
@@ -82,51 +85,39 @@ fn row_of(equal: usize) -> [u8; 40]
     row
 }
 
-// A picture with nothing but zeros, at low resolution.
-fn blank_picture() -> Picture {
-    let palette = [0u16; 16];
-    let words = [0u16; 4];
-    let tail = [
-        Table { words },
-        Table { words },
-        Table { words },
-        Table { words },
-    ];
-    Picture {
-        resolution: 0,
-        palette,
-        tailed: false,
-        tail,
-    }
-}
-
-// The length of a row's least body, which is at most 129.
-fn row_len(row: &[u8]) -> usize
-    ensures { λ r. ⌜ r ≤ 129 ⌝ }
+// The length of a row's least body.
+fn row_least(row: &[u8]) -> usize
+    ensures { λ r. ⌜ r ≤ maxBody ⌝ }
 {
-    pack::packed_len(row)
+    pack::least_len(row)
 }
 
-// A low screen whose first row has so many equal bytes at its front and whose others have three: its least body's length, and what
-// writing it as form 3 gives.
-fn rows_of_three(label: &[u8], first: usize) {
-    let mut screen = [0u8; SCREEN_BYTES];
+// The rows of a low screen: the first begins with `first` equal bytes, and the others with three.
+fn put_rows(screen: &mut [u8], first: usize) {
+    let low = Resolution::Low.raster();
     let row = row_of(3);
     let mut n: usize = 0;
-    while n < 800 {
-        screen::put_row(&mut screen, Resolution::Low, n, &row);
+    while n < LOW_ROWS {
+        raster::put_row(screen, low, n, &row);
         n += 1;
     }
     let front = row_of(first);
-    screen::put_row(&mut screen, Resolution::Low, 0, &front);
+    raster::put_row(screen, low, 0, &front);
+}
+
+// Writes the length of such a screen's least body, and what writing it as form 3 gives.
+fn rows_of_three(label: &[u8], first: usize) {
+    let mut screen = [0u8; SCREEN_BYTES];
+    put_rows(&mut screen, first);
+    let picture = picture::without_tail(0, [0u16; 16]);
     let mut out = [0u8; FILE_BYTES];
-    let answer = writer::write(writer::PACKED, blank_picture(), &screen, &mut out);
-    let least = row_len(&front) + 799 * row_len(&row);
+    let answer = writer::write(FORM_PACKED, picture, &screen, &mut out);
+    let least = row_least(&row_of(first)) + (LOW_ROWS - 1) * row_least(&row_of(3));
     io::write_all(STDOUT_FILENO, label);
     io::write_all(STDOUT_FILENO, b": least body ");
     io::print_decimal(STDOUT_FILENO, least as u64);
     io::write_all(STDOUT_FILENO, b", number ");
-    io::print_decimal(STDOUT_FILENO, answer.number as u64);
+    io::print_decimal(STDOUT_FILENO, answer.refusal.number as u64);
     io::write_all(STDOUT_FILENO, b", body ");
     io::print_decimal(STDOUT_FILENO, answer.body as u64);
     io::write_all(STDOUT_FILENO, b"\n");

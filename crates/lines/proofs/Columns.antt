@@ -1,4 +1,4 @@
--- Laws of byte columns: where they lie, and the registers that their bytes make. Assumes nothing.
+-- Laws of byte columns: where they lie, and the registers that their bytes make.
 use mathlib.Core.Path.{_≡_, refl, sym, ap, _∙_}
 use mathlib.Core.List.{List}
 use Prim.Native.Nat.{ℕ, zero, suc, _+_, _-_, _*_, _/_, _%_, _^_, _<_}
@@ -15,11 +15,12 @@ use Rattle.lists.proofs.Sum.{sum-ext}
 use Rattle.lists.proofs.Tabulate.{tabulate-ext}
 use Rattle.resolution.specs.declared.Resolution.{Resolution}
 use Rattle.resolution.specs.declared.Resolution.the-variants.{Low, Medium, High}
-use Rattle.resolution.specs.Shapes.{screenBytes, widthOf, heightOf, planesOf, rowBytesOf, lineBytesOf}
+use Rattle.resolution.specs.Shapes.{screenBytes, widthOf, heightOf, planesOf, rowBytesOf, lineBytesOf, rasterOf}
 use Rattle.resolution.proofs.Shapes.{rowBytes-width}
 use Rattle.words.specs.Word.{wordBytes}
-use Rattle.screen.specs.Registers.{groupOffset, wordOffset, register, scanLine, wordOf}
-use Rattle.screen.proofs.Registers.{register-byte}
+use Rattle.raster.specs.Offsets.{groupOffset, wordOffset}
+use Rattle.lines.specs.Registers.{register, scanLine, wordOf}
+use Rattle.lines.proofs.Registers.{register-byte}
 use Rattle.lines.specs.Columns.{planeBytes, columnRegister, columnsLine, planeByte}
 
 -- ---- offsets
@@ -36,7 +37,7 @@ column-within Medium y k h l = omega arith
 column-within High y k h l = omega arith
 
 -- plane p's byte stands p words further on
-plane-offset : (r : Resolution) (y h p : ℕ) → wordOffset r y (h / 2) p + h % 2 ≡ columnOffset r y h + p * 2
+plane-offset : (r : Resolution) (y h p : ℕ) → wordOffset (rasterOf r) y (h / 2) p + h % 2 ≡ columnOffset r y h + p * 2
 unfolding wordOffset groupOffset
 plane-offset Low y h p = omega arith
 plane-offset Medium y h p = omega arith
@@ -46,7 +47,8 @@ plane-offset High y h p = omega arith
 
 -- a column's pixel, by the planes that are there
 columnRegister-sum : (s : List ℕ) (r : Resolution) (at x : ℕ)
-    → columnRegister (planeBytes s at (planesOf r)) x ≡ sum (planesOf r) (λ p. getD s (at + p * 2) 0 / 2 ^ (7 - x % 8) % 2 * 2 ^ p)
+    → columnRegister (planeBytes s at (planesOf r)) x
+    ≡ sum (planesOf r) (λ p. getD s (at + p * 2) 0 / 2 ^ (7 - x % 8) % 2 * 2 ^ p)
 unfolding columnRegister sum
 columnRegister-sum s Low at x = rw (add-zero at) (omega arith)
 columnRegister-sum s Medium at x = rw (add-zero at) (omega (arith, zero-div (2 ^ (7 - x % 8))))
@@ -59,13 +61,14 @@ columnRegister-register s r x y bytes =
     let h : ℕ = x / 8 in
     let k : ℕ = x % 8 in
     columnRegister-sum s r (columnOffset r y h) x
-    ∙ sum-ext (planesOf r) _ (λ p. getD s (wordOffset r y (h / 2) p + h % 2) 0 / 2 ^ (7 - k) % 2 * 2 ^ p)
+    ∙ sum-ext (planesOf r) _ (λ p. getD s (wordOffset (rasterOf r) y (h / 2) p + h % 2) 0 / 2 ^ (7 - k) % 2 * 2 ^ p)
     (λ p hp. ap (λ (o : ℕ). getD s o 0 / 2 ^ (7 - k) % 2 * 2 ^ p) (sym (plane-offset r y h p)))
     ∙ sym (register-byte s r h k y bytes (omega arith))
     ∙ ap (λ (n : ℕ). register s r n y) (div-add-mod' x 8)
 
 -- the columns of a scan line are the scan line
-pub columnsLine-scanLine : (s : List ℕ) (r : Resolution) (y : ℕ) → Bytes s → columnsLine s (y * lineBytesOf r) (planesOf r) (rowBytesOf r) ≡ scanLine s r y
+pub columnsLine-scanLine : (s : List ℕ) (r : Resolution) (y : ℕ) → Bytes s
+    → columnsLine s (y * lineBytesOf r) (planesOf r) (rowBytesOf r) ≡ scanLine s r y
 unfolding columnsLine scanLine
 columnsLine-scanLine s r y bytes =
     let f : ℕ → ℕ = λ x. columnRegister (planeBytes s (columnOffset r y (x / 8)) (planesOf r)) x in
@@ -84,7 +87,8 @@ unfolding fromBits
 fromBits-first f = refl
 
 -- byte h of a word that is made of digits
-word-byte : (f : ℕ → ℕ) → ((k : ℕ) → f k < 2) → (h : ℕ) → h < 2 → getD (wordBytes (fromBits 16 f)) h 0 ≡ fromBits 8 (λ k. f (h * 8 + k))
+word-byte : (f : ℕ → ℕ) → ((k : ℕ) → f k < 2) → (h : ℕ) → h < 2
+    → getD (wordBytes (fromBits 16 f)) h 0 ≡ fromBits 8 (λ k. f (h * 8 + k))
 unfolding wordBytes
 word-byte f b zero l =
     ap (λ (w : ℕ). w / 256) (fromBits-halves f)
@@ -96,6 +100,8 @@ word-byte f b (suc zero) l =
 word-byte f b (suc (suc h)) l = absurd (omega arith)
 
 -- it is byte h of the word that group g of the registers makes
-pub planeByte-word : (line : List ℕ) (g p h : ℕ) → h < 2 → planeByte line (g * 16 + h * 8) p ≡ getD (wordBytes (wordOf line g p)) h 0
+pub planeByte-word : (line : List ℕ) (g p h : ℕ) → h < 2
+    → planeByte line (g * 16 + h * 8) p ≡ getD (wordBytes (wordOf line g p)) h 0
 unfolding planeByte wordOf
-planeByte-word line g p h l = simp add-assoc (sym (word-byte (λ k. getD line (g * 16 + k) 0 / 2 ^ p % 2) (λ k. omega arith) h l))
+planeByte-word line g p h l =
+    simp add-assoc (sym (word-byte (λ k. getD line (g * 16 + k) 0 / 2 ^ p % 2) (λ k. omega arith) h l))

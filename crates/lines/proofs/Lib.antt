@@ -1,2 +1,5 @@
 pub mod Columns
 pub mod Lines
+pub mod Places
+pub mod PlaneRegisters
+pub mod Registers

@@ -1,10 +1,9 @@
--- Laws of line out and line in: each undoes the other. Assumes nothing.
+-- Laws of line out and line in: each undoes the other.
 use mathlib.Core.Path.{_≡_, refl, sym, ap, ap₂, _∙_}
 use mathlib.Core.Bool.{Bool, true, not}
-use mathlib.Core.Logic.{⊎-elim}
 use mathlib.Core.List.{List}
-use Prim.Native.Nat.{ℕ, zero, suc, _+_, _-_, _*_, _/_, _%_, _^_, _≤_, _<_}
-use native.Mathlib.Nat.{le-refl, add-zero, div-add-mod', mod-eq-of-lt, not-suc-le-zero, le-of-suc-le-suc, eq-or-lt-of-le}
+use Prim.Native.Nat.{ℕ, _+_, _-_, _*_, _/_, _%_, _^_, _≤_, _<_}
+use native.Mathlib.Nat.{add-zero, div-add-mod', mod-eq-of-lt}
 use native.Mathlib.Omega.{arith}
 use lib.Arith.{digits-div, digits-mod}
 use lib.Dec.{ltb, leb}
@@ -13,7 +12,7 @@ use borrow.Author.Tests.{ltb-true, ltb-false, leb-false, lt-ltb, lt-leb, le-ltb,
 use Rattle.lists.specs.Bytes.{Bytes}
 use Rattle.lists.specs.Over.{over, overAt}
 use Rattle.lists.specs.Tabulate.{tabulate}
-use Rattle.lists.proofs.Cond.{and-true}
+use Rattle.lists.proofs.All.{allFirst-each, each-allFirst}
 use Rattle.lists.proofs.Digits.{fromBits-ext, bit-fromBits, fromBits-bits, sum-digits, sum-digit}
 use Rattle.lists.proofs.Over.{length-over, getD-over-in, length-overAt, getD-overAt-in, overAt-ext}
 use Rattle.lists.proofs.Sum.{sum-ext}
@@ -23,36 +22,37 @@ use Rattle.words.proofs.Word.{wordAt-lt, wordBytes-wordAt}
 use Rattle.outcome.specs.Outcome.{Outcome, accepted}
 use Rattle.outcome.specs.Refusal.{areaTooShort, outOfRange}
 use Rattle.outcome.proofs.Outcome.{passed}
+use Rattle.raster.specs.Offsets.{groupOffset, wordOffset}
 use Rattle.resolution.specs.declared.Chosen.the-variants.{Known}
 use Rattle.resolution.specs.declared.Resolution.{Resolution}
 use Rattle.resolution.specs.declared.Resolution.the-variants.{Low, Medium, High}
 use Rattle.resolution.specs.Choice.{chosen}
-use Rattle.resolution.specs.Shapes.{screenBytes, widthOf, heightOf, planesOf, groupsOf, lineBytesOf, registersOf}
+use Rattle.resolution.specs.Shapes.{screenBytes, widthOf, heightOf, planesOf, groupsOf}
+use Rattle.resolution.specs.Shapes.{lineBytesOf, registersOf, rasterOf}
 use Rattle.resolution.proofs.Choice.{judgeScreen-fits}
-use Rattle.screen.specs.Registers.{groupOffset, wordOffset, pixelBit, register, scanLine, wordOf, lineBytes, withLine}
-use Rattle.screen.proofs.Places.{line-within, pixel-group}
-use Rattle.screen.proofs.Registers.{register-lt, length-scanLine, getD-scanLine}
-use Rattle.lines.specs.Lines.{allBelow, judgeLineAt, lineOutAt, lineOut, lineIn}
+use Rattle.lines.specs.Registers.{pixelBit, register, scanLine, wordOf, lineByte, scanLineBytes, withLine}
+use Rattle.lines.specs.Lines.{registersFit, judgeLineAt, lineOutAt, lineOut, lineIn}
+use Rattle.lines.proofs.Places.{line-within, pixel-group}
+use Rattle.lines.proofs.Registers.{register-lt, length-scanLine, getD-scanLine}
 
 -- ---- the bytes of a scan line
 
--- byte i of the scan line that registers make
-abbrev lineByte : Resolution → List ℕ → ℕ → ℕ
-lineByte r line i = getD (wordBytes (wordOf line (i / 2 / planesOf r) (i / 2 % planesOf r))) (i % 2) 0
-
 -- the scan line's bytes are its words', group by group and plane by plane
-word-offset : (r : Resolution) (y g p h : ℕ) → wordOffset r y g p + h ≡ y * lineBytesOf r + ((g * planesOf r + p) * 2 + h)
+word-offset : (r : Resolution) (y g p h : ℕ)
+    → wordOffset (rasterOf r) y g p + h ≡ y * lineBytesOf r + ((g * planesOf r + p) * 2 + h)
 unfolding wordOffset groupOffset
 word-offset Low y g p h = omega arith
 word-offset Medium y g p h = omega arith
 word-offset High y g p h = omega arith
 
-word-in-line : (r : Resolution) (g p h : ℕ) → g < groupsOf r → p < planesOf r → h < 2 → (g * planesOf r + p) * 2 + h < lineBytesOf r
+word-in-line : (r : Resolution) (g p h : ℕ) → g < groupsOf r → p < planesOf r → h < 2
+    → (g * planesOf r + p) * 2 + h < lineBytesOf r
 word-in-line Low g p h a b c = omega arith
 word-in-line Medium g p h a b c = omega arith
 word-in-line High g p h a b c = omega arith
 
-word-group : (r : Resolution) (i : ℕ) → i < lineBytesOf r → (i / 2 / planesOf r < groupsOf r) × (i / 2 % planesOf r < planesOf r)
+word-group : (r : Resolution) (i : ℕ) → i < lineBytesOf r
+    → (i / 2 / planesOf r < groupsOf r) × (i / 2 % planesOf r < planesOf r)
 word-group Low i h = omega arith
 word-group Medium i h = omega arith
 word-group High i h = omega arith
@@ -62,25 +62,27 @@ group-pixel Low g k h l = omega arith
 group-pixel Medium g k h l = omega arith
 group-pixel High g k h l = omega arith
 
-length-lineBytes : (r : Resolution) (line : List ℕ) → length (lineBytes r line) ≡ lineBytesOf r
-unfolding lineBytes
-length-lineBytes r line = length-tabulate (lineBytesOf r) (lineByte r line)
+length-scanLineBytes : (r : Resolution) (line : List ℕ) → length (scanLineBytes r line) ≡ lineBytesOf r
+unfolding scanLineBytes
+length-scanLineBytes r line = length-tabulate (lineBytesOf r) (lineByte r line)
 
 line-room : (s : List ℕ) (r : Resolution) (y : ℕ) (line : List ℕ) → screenBytes ≤ length s → y < heightOf r
-    → y * lineBytesOf r + length (lineBytes r line) ≤ length s
-line-room s r y line long hy = omega (arith, line-within r y hy, length-lineBytes r line)
+    → y * lineBytesOf r + length (scanLineBytes r line) ≤ length s
+line-room s r y line long hy = omega (arith, line-within r y hy, length-scanLineBytes r line)
 
 length-withLine : (s : List ℕ) (r : Resolution) (y : ℕ) (line : List ℕ) → screenBytes ≤ length s → y < heightOf r
     → length (withLine s r y line) ≡ length s
 unfolding withLine
-length-withLine s r y line long hy = length-overAt (y * lineBytesOf r) (lineBytes r line) s (line-room s r y line long hy)
+length-withLine s r y line long hy =
+    length-overAt (y * lineBytesOf r) (scanLineBytes r line) s (line-room s r y line long hy)
 
 -- ---- line out after line in
 
-module _ (s : List ℕ) (r : Resolution) (y : ℕ) (line : List ℕ) (long : screenBytes ≤ length s) (hy : y < heightOf r) where
+module _ (s : List ℕ) (r : Resolution) (y : ℕ) (line : List ℕ) (long : screenBytes ≤ length s)
+    (hy : y < heightOf r) where
   byte-in : (g p h : ℕ) → g < groupsOf r → p < planesOf r → h < 2
-      → getD (withLine s r y line) (wordOffset r y g p + h) 0 ≡ getD (wordBytes (wordOf line g p)) h 0
-  unfolding withLine lineBytes
+      → getD (withLine s r y line) (wordOffset (rasterOf r) y g p + h) 0 ≡ getD (wordBytes (wordOf line g p)) h 0
+  unfolding withLine scanLineBytes
   byte-in g p h hg hp hh =
       let P : ℕ = planesOf r in
       let n : ℕ = lineBytesOf r in
@@ -91,21 +93,24 @@ module _ (s : List ℕ) (r : Resolution) (y : ℕ) (line : List ℕ) (long : scr
       let f : i / 2 % P ≡ p = ap (λ (m : ℕ). m % P) w ∙ digits-mod g hp in
       let t : List ℕ = tabulate n (lineByte r line) in
       ap (λ (o : ℕ). getD (overAt (y * n) t s) o 0) (word-offset r y g p h)
-      ∙ getD-overAt-in (y * n) t s (line-room s r y line long hy) i 0 (omega (arith, length-tabulate n (lineByte r line)))
+      ∙ getD-overAt-in (y * n) t s (line-room s r y line long hy) i 0
+      (omega (arith, length-tabulate n (lineByte r line)))
       ∙ getD-tabulate n (lineByte r line) i 0 l
       ∙ ap₂ (λ (a b : ℕ). getD (wordBytes (wordOf line a b)) (i % 2) 0) e f
       ∙ ap (λ (m : ℕ). getD (wordBytes (wordOf line g p)) m 0) (digits-mod (g * P + p) hh)
 
-  word-in : (g p : ℕ) → g < groupsOf r → p < planesOf r → wordAt (withLine s r y line) (wordOffset r y g p) ≡ wordOf line g p
+  word-in : (g p : ℕ) → g < groupsOf r → p < planesOf r
+      → wordAt (withLine s r y line) (wordOffset (rasterOf r) y g p) ≡ wordOf line g p
   unfolding wordAt wordBytes
   word-in g p hg hp =
       let t : List ℕ = withLine s r y line in
-      let o : ℕ = wordOffset r y g p in
+      let o : ℕ = wordOffset (rasterOf r) y g p in
       ap (λ (m : ℕ). getD t m 0 * 256 + getD t (o + 1) 0) (sym (add-zero o))
       ∙ ap₂ (λ (a b : ℕ). a * 256 + b) (byte-in g p 0 hg hp (omega arith)) (byte-in g p 1 hg hp (omega arith))
       ∙ div-add-mod' (wordOf line g p) 256
 
-  register-in : (x : ℕ) → x < widthOf r → getD line x 0 < registersOf r → register (withLine s r y line) r x y ≡ getD line x 0
+  register-in : (x : ℕ) → x < widthOf r → getD line x 0 < registersOf r
+      → register (withLine s r y line) r x y ≡ getD line x 0
   unfolding register pixelBit wordOf
   register-in x hx hv =
       let g : ℕ = x / 16 in
@@ -113,25 +118,22 @@ module _ (s : List ℕ) (r : Resolution) (y : ℕ) (line : List ℕ) (long : scr
       sum-ext (planesOf r) _ (λ p. getD line x 0 / 2 ^ p % 2 * 2 ^ p)
       (λ p hp.
       ap (λ (w : ℕ). w / 2 ^ (15 - k) % 2 * 2 ^ p) (word-in g p (pixel-group r x hx) hp)
-      ∙ ap (λ (m : ℕ). m * 2 ^ p) (bit-fromBits 16 (λ k. getD line (g * 16 + k) 0 / 2 ^ p % 2) (λ k. omega arith) k (omega arith))
+      ∙ ap (λ (m : ℕ). m * 2 ^ p)
+      (bit-fromBits 16 (λ k. getD line (g * 16 + k) 0 / 2 ^ p % 2) (λ k. omega arith) k (omega arith))
       ∙ ap (λ (m : ℕ). getD line m 0 / 2 ^ p % 2 * 2 ^ p) (div-add-mod' x 16))
       ∙ sum-digits (planesOf r) (getD line x 0)
       ∙ mod-eq-of-lt hv
 
-allBelow-lt : (n m : ℕ) (l : List ℕ) → allBelow n m l ≡ true → (k : ℕ) → k < n → getD l k 0 < m
-unfolding allBelow
-allBelow-lt zero m l e k h = absurd (not-suc-le-zero h)
-allBelow-lt (suc n) m l e k h =
-    let p = and-true (ltb (getD l n 0) m) (allBelow n m l) e in
-    ⊎-elim (λ q. rw q (ltb-true (getD l n 0) m (p .0))) (λ q. allBelow-lt n m l (p .1) k q) (eq-or-lt-of-le (le-of-suc-le-suc h))
+-- each of a line's first registers is one that the planes can name
+abbrev EachFits : Resolution → List ℕ → Type 0
+EachFits r line = (x : ℕ) → x < widthOf r → getD line x 0 < registersOf r
 
 -- the registers that line in was given
-scanLine-withLine : (s : List ℕ) (r : Resolution) (y : ℕ) (line : List ℕ) → screenBytes ≤ length s → y < heightOf r → widthOf r ≤ length line
-    → allBelow (widthOf r) (registersOf r) line ≡ true → scanLine (withLine s r y line) r y ≡ take (widthOf r) line
+scanLine-withLine : (s : List ℕ) (r : Resolution) (y : ℕ) (line : List ℕ) → screenBytes ≤ length s → y < heightOf r
+    → widthOf r ≤ length line → EachFits r line → scanLine (withLine s r y line) r y ≡ take (widthOf r) line
 unfolding scanLine
-scanLine-withLine s r y line long hy hw fit =
-    tabulate-ext (widthOf r) _ (λ x. getD line x 0)
-    (λ x hx. register-in s r y line long hy x hx (allBelow-lt (widthOf r) (registersOf r) line fit x hx))
+scanLine-withLine s r y line long hy hw each =
+    tabulate-ext (widthOf r) _ (λ x. getD line x 0) (λ x h. register-in s r y line long hy x h (each x h))
     ∙ tabulate-take (widthOf r) line 0 hw
 
 -- ---- line in after line out
@@ -139,22 +141,23 @@ scanLine-withLine s r y line long hy hw fit =
 module _ (s : List ℕ) (r : Resolution) (y : ℕ) (bytes : Bytes s) where
   -- plane p's word from the registers of a line that has the scan line's first
   word-out : (line : List ℕ) → ((x : ℕ) → x < widthOf r → getD line x 0 ≡ register s r x y)
-      → (g p : ℕ) → g < groupsOf r → p < planesOf r → wordOf line g p ≡ wordAt s (wordOffset r y g p)
+      → (g p : ℕ) → g < groupsOf r → p < planesOf r → wordOf line g p ≡ wordAt s (wordOffset (rasterOf r) y g p)
   unfolding wordOf register pixelBit
   word-out line e g p hg hp =
-      let w : ℕ = wordAt s (wordOffset r y g p) in
+      let w : ℕ = wordAt s (wordOffset (rasterOf r) y g p) in
+      let bit : ℕ → ℕ → ℕ = λ x q. pixelBit (wordAt s (wordOffset (rasterOf r) y (x / 16) q)) (x % 16) in
       fromBits-ext 16 _ (λ k. w / 2 ^ (15 - k) % 2)
       (λ k hk.
       ap (λ (m : ℕ). m / 2 ^ p % 2) (e (g * 16 + k) (group-pixel r g k hg hk))
-      ∙ sum-digit (planesOf r) (λ q. pixelBit (wordAt s (wordOffset r y ((g * 16 + k) / 16) q)) ((g * 16 + k) % 16)) (λ q. omega arith) p hp
-      ∙ ap₂ (λ (a b : ℕ). pixelBit (wordAt s (wordOffset r y a p)) b) (digits-div g hk) (digits-mod g hk))
+      ∙ sum-digit (planesOf r) (bit (g * 16 + k)) (λ q. omega arith) p hp
+      ∙ ap₂ (λ (a b : ℕ). pixelBit (wordAt s (wordOffset (rasterOf r) y a p)) b) (digits-div g hk) (digits-mod g hk))
       ∙ fromBits-bits 16 w
-      ∙ mod-eq-of-lt (wordAt-lt s bytes (wordOffset r y g p))
+      ∙ mod-eq-of-lt (wordAt-lt s bytes (wordOffset (rasterOf r) y g p))
 
   -- nothing changes
-  withLine-scanLine : (line : List ℕ) → ((x : ℕ) → x < widthOf r → getD line x 0 ≡ register s r x y) → screenBytes ≤ length s → y < heightOf r
-      → withLine s r y line ≡ s
-  unfolding withLine lineBytes
+  withLine-scanLine : (line : List ℕ) → ((x : ℕ) → x < widthOf r → getD line x 0 ≡ register s r x y)
+      → screenBytes ≤ length s → y < heightOf r → withLine s r y line ≡ s
+  unfolding withLine scanLineBytes
   withLine-scanLine line e long hy =
       let n : ℕ = lineBytesOf r in
       let P : ℕ = planesOf r in
@@ -168,20 +171,16 @@ module _ (s : List ℕ) (r : Resolution) (y : ℕ) (bytes : Bytes s) where
       let f : (g * P + p) * 2 + i % 2 ≡ i = omega (arith, div-add-mod' (i / 2) P) in
       sym
       (ap (λ (w : ℕ). getD (wordBytes w) (i % 2) 0) (word-out line e g p (d .0) (d .1))
-      ∙ wordBytes-wordAt s bytes (wordOffset r y g p) (i % 2) (omega arith)
+      ∙ wordBytes-wordAt s bytes (wordOffset (rasterOf r) y g p) (i % 2) (omega arith)
       ∙ ap (λ (o : ℕ). getD s o 0) (word-offset r y g p (i % 2))
       ∙ ap (λ (m : ℕ). getD s (y * n + m) 0) f))
       (λ o h. refl))
 
-lt-allBelow : (n m : ℕ) (l : List ℕ) → ((k : ℕ) → k < n → getD l k 0 < m) → allBelow n m l ≡ true
-unfolding allBelow
-lt-allBelow zero m l h = refl
-lt-allBelow (suc n) m l h = rw (lt-ltb (getD l n 0) m (h n (le-refl (suc n)))) (lt-allBelow n m l (λ k b. h k (omega arith)))
-
 -- ---- outcomes
 
 -- an accepted line lies within the screen and has room
-judgeLineAt-fits : {A : Type 0} (r : Resolution) (y room : ℕ) (further : Outcome A) (a : A) → judgeLineAt r y room further ≡ accepted a
+judgeLineAt-fits : {A : Type 0} (r : Resolution) (y room : ℕ) (further : Outcome A) (a : A)
+    → judgeLineAt r y room further ≡ accepted a
     → (y < heightOf r) × (widthOf r ≤ room) × (further ≡ accepted a)
 judgeLineAt-fits r y room further a e =
     let p = passed (leb (heightOf r) y) outOfRange _ a e in
@@ -189,34 +188,44 @@ judgeLineAt-fits r y room further a e =
     (leb-false (heightOf r) y (p .0), ltb-false room (widthOf r) (q .0), q .1)
 
 module _ (s : List ℕ) (number y : ℕ) (r : Resolution) (known : chosen number ≡ Known r) where
-  pub out-accepted : (room : ℕ) → screenBytes ≤ length s → y < heightOf r → widthOf r ≤ room → lineOut s number y room ≡ accepted (scanLine s r y)
+  out-accepted : (room : ℕ) → screenBytes ≤ length s → y < heightOf r → widthOf r ≤ room
+      → lineOut s number y room ≡ accepted (scanLine s r y)
   unfolding lineOut
-  out-accepted room long hy hw = rw known (simp (le-ltb (length s) screenBytes long, lt-leb (heightOf r) y hy, le-ltb room (widthOf r) hw))
+  out-accepted room long hy hw =
+      rw known (simp (le-ltb (length s) screenBytes long, lt-leb (heightOf r) y hy, le-ltb room (widthOf r) hw))
 
-  in-accepted : (line : List ℕ) → screenBytes ≤ length s → y < heightOf r → widthOf r ≤ length line → allBelow (widthOf r) (registersOf r) line ≡ true
-      → lineIn s number y line ≡ accepted (withLine s r y line)
+  in-accepted : (line : List ℕ) → screenBytes ≤ length s → y < heightOf r → widthOf r ≤ length line
+      → EachFits r line → lineIn s number y line ≡ accepted (withLine s r y line)
   unfolding lineIn
-  in-accepted line long hy hw fit =
-      rw known (simp (le-ltb (length s) screenBytes long, lt-leb (heightOf r) y hy, le-ltb (length line) (widthOf r) hw, fit))
+  in-accepted line long hy hw each =
+      let room = le-ltb (length line) (widthOf r) hw in
+      let below : ℕ → Bool = λ v. ltb v (registersOf r) in
+      let fit : registersFit r line ≡ true =
+      each-allFirst below line (widthOf r) (λ x h. lt-ltb (getD line x 0) (registersOf r) (each x h)) in
+      rw known (simp (le-ltb (length s) screenBytes long, lt-leb (heightOf r) y hy, room, fit))
 
 -- ---- the two theorems
 
 -- line out of the screen that an accepted line in left gives its registers back
-pub out-after-in : (s line after : List ℕ) (number y room : ℕ) (r : Resolution) → chosen number ≡ Known r → widthOf r ≤ room
-    → lineIn s number y line ≡ accepted after → lineOut after number y room ≡ accepted (take (widthOf r) line)
+pub out-after-in : (s line after : List ℕ) (number y room : ℕ) (r : Resolution) → chosen number ≡ Known r
+    → widthOf r ≤ room → lineIn s number y line ≡ accepted after
+    → lineOut after number y room ≡ accepted (take (widthOf r) line)
 unfolding lineIn
 out-after-in s line after number y room r known hw e =
-    let fit : Bool = allBelow (widthOf r) (registersOf r) line in
+    let below : ℕ → Bool = λ v. ltb v (registersOf r) in
     let t : List ℕ = withLine s r y line in
     let p = passed (ltb (length s) screenBytes) areaTooShort _ after e in
     let long : screenBytes ≤ length s = ltb-false (length s) screenBytes (p .0) in
     let j = judgeLineAt-fits r y (length line) _ after (rw known at (p .1)) in
-    let q = passed (not fit) outOfRange (accepted t) after (j .2) in
+    let q = passed (not (registersFit r line)) outOfRange (accepted t) after (j .2) in
+    let fit = not-false (registersFit r line) (q .0) in
+    let each : EachFits r line = λ x h.
+    ltb-true (getD line x 0) (registersOf r) (allFirst-each below line (widthOf r) fit x h) in
     let same : accepted t ≡ accepted after = q .1 in
     let is : t ≡ after = cc in
     ap (λ (u : List ℕ). lineOut u number y room) (sym is)
     ∙ out-accepted t number y r known room (omega (arith, length-withLine s r y line long (j .0))) (j .0) hw
-    ∙ ap accepted (scanLine-withLine s r y line long (j .0) (j .1) (not-false fit (q .0)))
+    ∙ ap accepted (scanLine-withLine s r y line long (j .0) (j .1) each)
 
 -- line in of what an accepted line out left is accepted and changes nothing
 pub in-after-out : (s l out : List ℕ) (number y : ℕ) → Bytes s → lineOut s number y (length out) ≡ accepted l
@@ -231,6 +240,7 @@ in-after-out s l out number y bytes e =
     let len : length l ≡ widthOf r = ap length (sym is) ∙ length-scanLine s r y in
     let at : (x : ℕ) → x < widthOf r → getD (over l out) x 0 ≡ register s r x y = λ x h.
     getD-over-in l out x 0 (omega arith) ∙ ap (λ (t : List ℕ). getD t x 0) (sym is) ∙ getD-scanLine s r x y h in
-    in-accepted s number y r known (over l out) long (j .0) (omega (arith, j .1, length-over l out (omega (arith, j .1))))
-    (lt-allBelow (widthOf r) (registersOf r) (over l out) (λ x h. rw (at x h) (register-lt s r x y)))
+    in-accepted s number y r known (over l out) long (j .0)
+    (omega (arith, j .1, length-over l out (omega (arith, j .1))))
+    (λ x h. rw (at x h) (register-lt s r x y))
     ∙ ap accepted (withLine-scanLine s r y bytes (over l out) at long (j .0)))

@@ -1,6 +1,6 @@
 -- Byte columns: column h of a scan line has one byte of each plane, and these hold its eight pixels h * 8 to h * 8 + 7.
--- Their registers are those of screen/specs/Registers.antt: proofs/Columns.antt, `columnRegister-register`. No public contract cites
--- it. Assumes nothing: these are definitions.
+-- Their registers are those of Registers.antt (proofs/Columns.antt, `columnRegister-register`).
+-- Only contracts of private functions cite this file.
 use Prim.Native.Nat.{ℕ, _+_, _*_, _-_, _/_, _%_, _^_}
 use mathlib.Core.Bool.{cond}
 use mathlib.Core.List.{List}
@@ -25,9 +25,10 @@ byteBit b x = b / 2 ^ (7 - x % 8) % 2
 
 -- the register of pixel x of a scan line, from the bytes of its column: plane p adds 2^p
 unfoldable pub columnRegister : PlaneBytes → ℕ → ℕ
-columnRegister b x = byteBit (b .first) x + byteBit (b .second) x * 2 + byteBit (b .third) x * 4 + byteBit (b .fourth) x * 8
+columnRegister b x =
+    byteBit (b .first) x + byteBit (b .second) x * 2 + byteBit (b .third) x * 4 + byteBit (b .fourth) x * 8
 
--- the registers of so many columns of a scan line that begins at an offset
+-- the registers of the first `columns` columns of a scan line that begins at an offset
 unfoldable pub columnsLine : List ℕ → ℕ → ℕ → ℕ → List ℕ
 columnsLine s start planes columns =
     tabulate (columns * 8) (λ x. columnRegister (planeBytes s (start + x / 8 / 2 * (planes * 2) + x / 8 % 2) planes) x)

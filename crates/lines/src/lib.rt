@@ -3,17 +3,18 @@ ghost use mathlib.Core.Path.{_≡_};
 ghost use Prim.Native.Nat.{ℕ, _+_, _-_, _*_, _/_, _%_, _<_, _≤_};
 ghost use mathlib.Core.Bool.{true, cond};
 ghost use lib.ListN.{length, getD};
+ghost use lib.Dec.{ltb};
+ghost use Rattle.lists.specs.All.{allFirst};
 ghost use Rattle.lists.specs.Over.{over, overAt};
 ghost use Rattle.lists.specs.Tabulate.{tabulate};
-ghost use Rattle.outcome.specs.Outcome.{answer, later};
-ghost use Rattle.words.specs.Word.{wordBytes};
-ghost use Rattle.resolution.specs.Shapes.{widthOf, heightOf, planesOf, lineBytesOf, screenBytes};
-ghost use Rattle.screen.specs.Registers.{scanLine, wordOf, withLine};
+ghost use Rattle.outcome.specs.Outcome.{refusalOf, later};
+ghost use Rattle.resolution.specs.Shapes.{widthOf, heightOf, lineBytesOf, screenBytes};
 ghost use Rattle.lines.specs.Columns.{planeBytes, columnRegister, columnsLine, planeByte};
-ghost use Rattle.lines.specs.Lines.{allBelow, lineOutAt, lineInAt, lineOut, lineIn};
+ghost use Rattle.lines.specs.Lines.{lineOutAt, lineInAt, lineOut, lineIn};
+ghost use Rattle.lines.specs.Registers.{scanLine, lineByte, withLine};
 use outcome::AREA_TOO_SHORT;
-use outcome::Answer;
 use outcome::OUT_OF_RANGE;
+use outcome::Refusal;
 use outcome::UNKNOWN_RESOLUTION;
 use resolution::Chosen;
 use resolution::Resolution;
@@ -71,11 +72,13 @@ fn column_planes(screen: &[u8], at: usize, planes: usize) -> PlaneBytes
     }
 }
 
-// The registers of so many columns of a scan line that begins at offset start, from the left, into out.
+// The registers of the first columns of a scan line that begins at offset start, from the left, into out.
 fn copy_columns(screen: &[u8], start: usize, planes: usize, columns: usize, out: &mut [u8])
-    requires { ⌜ (screenBytes ≤ length (now screen)) × (planes ≤ 4) × (columns ≤ 80) × (columns * 8 ≤ length (now out)) ⌝ }
+    requires { ⌜ (screenBytes ≤ length (now screen)) × (planes ≤ 4)
+        × (columns ≤ 80) × (columns * 8 ≤ length (now out)) ⌝ }
     requires { ⌜ ((h : ℕ) → h < columns → start + h / 2 * (planes * 2) + h % 2 + (planes - 1) * 2 < screenBytes) ⌝ }
-    ensures { λ _. ⌜ now (out .exit) ≡ over (columnsLine (now (screen .entry)) start planes columns) (now (out .entry)) ⌝ }
+    ensures { λ _. ⌜ now (out .exit) ≡ over (columnsLine (now (screen .entry)) start planes columns)
+        (now (out .entry)) ⌝ }
 {
     let mut h: usize = 0;
     while h < columns {
@@ -86,8 +89,8 @@ fn copy_columns(screen: &[u8], start: usize, planes: usize, columns: usize, out:
     }
 }
 
-// The registers of a scan line, from the left, into out. What the shape table says is repeated as constants of each resolution, so that
-// the compiler computes with constants.
+// The registers of a scan line, from the left, into out. What the shape table says is repeated as constants of each
+// resolution, so that the compiler computes with constants.
 fn fill_line(screen: &[u8], r: Resolution, line: usize, out: &mut [u8])
     requires { ⌜ (screenBytes ≤ length (now screen)) × (line < heightOf r) × (widthOf r ≤ length (now out)) ⌝ }
     ensures { λ _. ⌜ now (out .exit) ≡ over (scanLine (now (screen .entry)) r line) (now (out .entry)) ⌝ }
@@ -99,8 +102,8 @@ fn fill_line(screen: &[u8], r: Resolution, line: usize, out: &mut [u8])
     }
 }
 
-// The registers of a scan line, from the left, into out, by way of an array of its own: the compiler then knows that writing a register
-// changes no byte of the screen, which makes it faster.
+// The registers of a scan line, from the left, into out, by way of an array of its own: the compiler then knows that
+// writing a register changes no byte of the screen, which makes it faster.
 fn copy_line(screen: &[u8], r: Resolution, line: usize, out: &mut [u8])
     requires { ⌜ (screenBytes ≤ length (now screen)) × (line < heightOf r) × (widthOf r ≤ length (now out)) ⌝ }
     ensures { λ _. ⌜ now (out .exit) ≡ over (scanLine (now (screen .entry)) r line) (now (out .entry)) ⌝ }
@@ -112,54 +115,41 @@ fn copy_line(screen: &[u8], r: Resolution, line: usize, out: &mut [u8])
 }
 
 // Line out at a resolution.
-fn line_out_at(screen: &[u8], r: Resolution, line: usize, out: &mut [u8]) -> Answer
+fn line_out_at(screen: &[u8], r: Resolution, line: usize, out: &mut [u8]) -> Refusal
     requires { ⌜ screenBytes ≤ length (now screen) ⌝ }
-    ensures { λ a. ⌜ a ≡ answer (lineOutAt (now (screen .entry)) r line (length (now (out .entry)))) ⌝ }
-    ensures { λ _. ⌜ now (out .exit) ≡ later (lineOutAt (now (screen .entry)) r line (length (now (out .entry)))) (λ l. over l (now (out .entry))) (now (out .entry)) ⌝ }
+    ensures { λ a. ⌜ a ≡ refusalOf (lineOutAt (now (screen .entry)) r line (length (now (out .entry)))) ⌝ }
+    ensures { λ _. ⌜ now (out .exit) ≡ later (lineOutAt (now (screen .entry)) r line (length (now (out .entry))))
+        (λ l. over l (now (out .entry))) (now (out .entry)) ⌝ }
 {
     if r.height() <= line {
-        return Answer {
-            number: OUT_OF_RANGE,
-            place: 0,
-        };
+        return outcome::refuse(OUT_OF_RANGE);
     }
     if out.len() < r.width() {
-        return Answer {
-            number: AREA_TOO_SHORT,
-            place: 0,
-        };
+        return outcome::refuse(AREA_TOO_SHORT);
     }
     copy_line(screen, r, line, out);
-    Answer {
-        number: 0,
-        place: 0,
-    }
+    outcome::none()
 }
 
 // Line out: the registers of a scan line into out, one byte a pixel.
-pub fn line_out(screen: &[u8], resolution: u16, line: usize, out: &mut [u8]) -> Answer
-    ensures { λ a. ⌜ a ≡ answer (lineOut (now (screen .entry)) resolution line (length (now (out .entry)))) ⌝ }
-    ensures { λ _. ⌜ now (out .exit) ≡ later (lineOut (now (screen .entry)) resolution line (length (now (out .entry)))) (λ l. over l (now (out .entry))) (now (out .entry)) ⌝ }
+pub fn line_out(screen: &[u8], resolution: u16, line: usize, out: &mut [u8]) -> Refusal
+    ensures { λ a. ⌜ a ≡ refusalOf (lineOut (now (screen .entry)) resolution line (length (now (out .entry)))) ⌝ }
+    ensures { λ _. ⌜ now (out .exit) ≡ later (lineOut (now (screen .entry)) resolution line (length (now (out .entry))))
+        (λ l. over l (now (out .entry))) (now (out .entry)) ⌝ }
 {
     if screen.len() < SCREEN_BYTES {
-        return Answer {
-            number: AREA_TOO_SHORT,
-            place: 0,
-        };
+        return outcome::refuse(AREA_TOO_SHORT);
     }
     match Resolution::from_number(resolution) {
         Chosen::Known(r) => line_out_at(screen, r, line, out),
-        Chosen::Unknown => Answer {
-            number: UNKNOWN_RESOLUTION,
-            place: 0,
-        },
+        Chosen::Unknown => outcome::refuse(UNKNOWN_RESOLUTION),
     }
 }
 
 // Whether each of the first n registers is below limit.
 fn all_below(registers: &[u8], n: usize, limit: u8) -> bool
     requires { ⌜ n ≤ length (now registers) ⌝ }
-    ensures { λ v. ⌜ v ≡ allBelow n limit (now (registers .entry)) ⌝ }
+    ensures { λ v. ⌜ v ≡ allFirst n (λ x. ltb x limit) (now (registers .entry)) ⌝ }
 {
     let mut fit = true;
     let mut i: usize = 0;
@@ -186,11 +176,11 @@ fn plane_byte(registers: &[u8], at: usize, p: usize) -> u8
     byte
 }
 
-// Byte i of the scan line that the registers make. The planes are constants of each resolution, so that the compiler divides by
-// constants.
+// Byte i of the scan line that the registers make. The planes are constants of each resolution, so that the compiler
+// divides by constants.
 fn line_byte(registers: &[u8], r: Resolution, i: usize) -> u8
     requires { ⌜ (i < 160) × (i < lineBytesOf r) × (widthOf r ≤ length (now registers)) ⌝ }
-    ensures { λ v. ⌜ v ≡ getD (wordBytes (wordOf (now (registers .entry)) (i / 2 / planesOf r) (i / 2 % planesOf r))) (i % 2) 0 ⌝ }
+    ensures { λ v. ⌜ v ≡ lineByte r (now (registers .entry)) i ⌝ }
 {
     let word = i / 2;
     let half = i % 2 * 8;
@@ -216,53 +206,37 @@ fn put_line(screen: &mut [u8], r: Resolution, line: usize, registers: &[u8])
 }
 
 // Line in at a resolution.
-fn line_in_at(screen: &mut [u8], r: Resolution, line: usize, registers: &[u8]) -> Answer
+fn line_in_at(screen: &mut [u8], r: Resolution, line: usize, registers: &[u8]) -> Refusal
     requires { ⌜ screenBytes ≤ length (now screen) ⌝ }
-    ensures { λ a. ⌜ a ≡ answer (lineInAt (now (screen .entry)) r line (now (registers .entry))) ⌝ }
-    ensures { λ _. ⌜ now (screen .exit) ≡ later (lineInAt (now (screen .entry)) r line (now (registers .entry))) (λ s. s) (now (screen .entry)) ⌝ }
+    ensures { λ a. ⌜ a ≡ refusalOf (lineInAt (now (screen .entry)) r line (now (registers .entry))) ⌝ }
+    ensures { λ _. ⌜ now (screen .exit) ≡ later (lineInAt (now (screen .entry)) r line (now (registers .entry)))
+        (λ s. s) (now (screen .entry)) ⌝ }
 {
     if r.height() <= line {
-        return Answer {
-            number: OUT_OF_RANGE,
-            place: 0,
-        };
+        return outcome::refuse(OUT_OF_RANGE);
     }
     if registers.len() < r.width() {
-        return Answer {
-            number: AREA_TOO_SHORT,
-            place: 0,
-        };
+        return outcome::refuse(AREA_TOO_SHORT);
     }
     let fit = all_below(registers, r.width(), r.registers());
     if !fit {
-        return Answer {
-            number: OUT_OF_RANGE,
-            place: 0,
-        };
+        return outcome::refuse(OUT_OF_RANGE);
     }
     put_line(screen, r, line, registers);
-    Answer {
-        number: 0,
-        place: 0,
-    }
+    outcome::none()
 }
 
 // Line in: a scan line of the screen from registers, one byte a pixel.
-pub fn line_in(screen: &mut [u8], resolution: u16, line: usize, registers: &[u8]) -> Answer
-    ensures { λ a. ⌜ a ≡ answer (lineIn (now (screen .entry)) resolution line (now (registers .entry))) ⌝ }
-    ensures { λ _. ⌜ now (screen .exit) ≡ later (lineIn (now (screen .entry)) resolution line (now (registers .entry))) (λ s. s) (now (screen .entry)) ⌝ }
+pub fn line_in(screen: &mut [u8], resolution: u16, line: usize, registers: &[u8]) -> Refusal
+    ensures { λ a. ⌜ a ≡ refusalOf (lineIn (now (screen .entry)) resolution line (now (registers .entry))) ⌝ }
+    ensures { λ _. ⌜ now (screen .exit) ≡ later (lineIn (now (screen .entry)) resolution line (now (registers .entry)))
+        (λ s. s) (now (screen .entry)) ⌝ }
 {
     if screen.len() < SCREEN_BYTES {
-        return Answer {
-            number: AREA_TOO_SHORT,
-            place: 0,
-        };
+        return outcome::refuse(AREA_TOO_SHORT);
     }
     match Resolution::from_number(resolution) {
         Chosen::Known(r) => line_in_at(screen, r, line, registers),
-        Chosen::Unknown => Answer {
-            number: UNKNOWN_RESOLUTION,
-            place: 0,
-        },
+        Chosen::Unknown => outcome::refuse(UNKNOWN_RESOLUTION),
     }
 }

@@ -1,4 +1,4 @@
--- Laws of lists of bytes. Assumes nothing.
+-- Laws of lists of bytes.
 use mathlib.Core.List.{List, [], _∷_, _++_}
 use Prim.Native.Nat.{ℕ, zero, suc, _+_, _<_}
 use native.Mathlib.Omega.{arith}

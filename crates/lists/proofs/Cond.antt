@@ -1,4 +1,4 @@
--- A choice by a test: what holds on both sides of the test holds of what is chosen; and two tests that both hold. Assumes nothing.
+-- A choice by a test: what holds on both sides of the test holds of what is chosen; and two tests that both hold.
 use mathlib.Core.Path.{_≡_, refl}
 use mathlib.Core.Bool.{Bool, true, false, cond, _&&_}
 use Prim.Native.Nat.{ℕ, _≤_, _<_}

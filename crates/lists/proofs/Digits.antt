@@ -1,4 +1,4 @@
--- Laws of binary digits: a number's digits, and the number that digits make. Assumes nothing.
+-- Laws of binary digits: a number's digits, and the number that digits make.
 use mathlib.Core.Path.{_≡_, refl, sym, ap, _∙_}
 use mathlib.Core.Logic.{_⊎_, inl, inr}
 use Prim.Native.Nat.{ℕ, zero, suc, _+_, _-_, _*_, _/_, _%_, _^_, _<_}
@@ -23,12 +23,14 @@ fromBits-lt zero f b = omega arith
 fromBits-lt (suc n) f b = omega (arith, fromBits-lt n f b, b n, pow-suc 2 n)
 
 -- digit k of n, counted from the top
-pub bit-fromBits : (n : ℕ) (f : ℕ → ℕ) → ((k : ℕ) → f k < 2) → (k : ℕ) → k < n → fromBits n f / 2 ^ (n - 1 - k) % 2 ≡ f k
+pub bit-fromBits : (n : ℕ) (f : ℕ → ℕ) → ((k : ℕ) → f k < 2) → (k : ℕ) → k < n
+    → fromBits n f / 2 ^ (n - 1 - k) % 2 ≡ f k
 unfolding fromBits
 bit-fromBits zero f b k h = absurd (not-suc-le-zero h)
 bit-fromBits (suc n) f b k h = go (bit-fromBits n f b k) (eq-or-lt-of-le (le-of-suc-le-suc h))
   where
-    go : (k < n → fromBits n f / 2 ^ (n - 1 - k) % 2 ≡ f k) → (k ≡ n) ⊎ (k < n) → fromBits (suc n) f / 2 ^ (suc n - 1 - k) % 2 ≡ f k
+    go : (k < n → fromBits n f / 2 ^ (n - 1 - k) % 2 ≡ f k) → (k ≡ n) ⊎ (k < n)
+        → fromBits (suc n) f / 2 ^ (suc n - 1 - k) % 2 ≡ f k
     go ih (inl e) =
         let z : suc n - 1 - k ≡ 0 = omega arith in
         ap (λ (j : ℕ). (fromBits n f * 2 + f n) / 2 ^ j % 2) z ∙ omega (arith, b n) ∙ ap f (sym e)
@@ -79,7 +81,8 @@ unfolding sum
 sum-digit zero d b p h = absurd (not-suc-le-zero h)
 sum-digit (suc n) d b p h = go (sum-digit n d b p) (eq-or-lt-of-le (le-of-suc-le-suc h))
   where
-    go : (p < n → sum n (λ p. d p * 2 ^ p) / 2 ^ p % 2 ≡ d p) → (p ≡ n) ⊎ (p < n) → sum (suc n) (λ p. d p * 2 ^ p) / 2 ^ p % 2 ≡ d p
+    go : (p < n → sum n (λ p. d p * 2 ^ p) / 2 ^ p % 2 ≡ d p) → (p ≡ n) ⊎ (p < n)
+        → sum (suc n) (λ p. d p * 2 ^ p) / 2 ^ p % 2 ≡ d p
     go ih (inl e) =
         let S : ℕ = sum n (λ p. d p * 2 ^ p) in
         ap (λ (j : ℕ). (S + d n * 2 ^ n) / 2 ^ j % 2) e

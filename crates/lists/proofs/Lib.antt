@@ -1,3 +1,4 @@
+pub mod All
 pub mod Bytes
 pub mod Cond
 pub mod Digits

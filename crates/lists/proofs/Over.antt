@@ -1,4 +1,4 @@
--- Laws of `over` and `overAt`, and of the loops that write them, one element or one piece a turn. Assumes nothing.
+-- Laws of `over` and `overAt`, and of the loops that write them, one element or one piece a turn.
 use mathlib.Core.Path.{_≡_, refl, sym, ap, _∙_}
 use mathlib.Core.List.{List, _++_, append-assoc, append-nil}
 use Prim.Native.Nat.{ℕ, _+_, _-_, _≤_, _<_}
@@ -41,7 +41,8 @@ module _ {A : Type 0} where
       ∙ ap (λ (t : List A). take at d ++ (take k s ++ t)) (drop-drop k at d)
       ∙ sym (append-assoc (take at d) (take k s) (drop (at + k) d))
 
-  pub overAt-turn : (at : ℕ) (s d out : List A) (k : ℕ) (v z : A) → k < length s → at + k < length d → out ≡ overAt at (take k s) d → v ≡ getD s k z
+  pub overAt-turn : (at : ℕ) (s d out : List A) (k : ℕ) (v z : A) → k < length s → at + k < length d
+      → out ≡ overAt at (take k s) d → v ≡ getD s k z
       → set out (at + k) v ≡ overAt at (take (k + 1) s) d
   overAt-turn at s d out k v z hs hd is e =
       ap (λ (t : List A). set t (at + k) v) (is ∙ overAt-paste at s d k (omega arith))
@@ -50,7 +51,8 @@ module _ {A : Type 0} where
       ∙ ap (paste d at s) (sym (add-one k))
       ∙ sym (overAt-paste at s d (k + 1) (omega arith))
 
-  pub overAt-done : (at : ℕ) (s d out : List A) (k : ℕ) → length s ≤ k → out ≡ overAt at (take k s) d → out ≡ overAt at s d
+  pub overAt-done : (at : ℕ) (s d out : List A) (k : ℕ) → length s ≤ k → out ≡ overAt at (take k s) d
+      → out ≡ overAt at s d
   overAt-done at s d out k h is = is ∙ ap (λ (t : List A). overAt at t d) (take-all k s h)
 
   module _ (at : ℕ) (s d : List A) (room : at + length s ≤ length d) where
@@ -65,11 +67,13 @@ module _ {A : Type 0} where
         omega (arith, length-append (take at d) (over s (drop at d)), front, length-over s (drop at d) rest-room, length-drop at d)
 
     pub getD-overAt-before : (o : ℕ) (z : A) → o < at → getD (overAt at s d) o z ≡ getD d o z
-    getD-overAt-before o z h = List·getD-append (take at d) (over s (drop at d)) z o (omega (arith, front)) ∙ getD-take at d o z h
+    getD-overAt-before o z h =
+        List·getD-append (take at d) (over s (drop at d)) z o (omega (arith, front)) ∙ getD-take at d o z h
 
     behind : (k : ℕ) (z : A) → getD (overAt at s d) (at + k) z ≡ getD (over s (drop at d)) k z
     behind k z =
-        ap (λ (n : ℕ). getD (overAt at s d) (n + k) z) (sym front) ∙ getD-append-add (take at d) (over s (drop at d)) k z
+        ap (λ (n : ℕ). getD (overAt at s d) (n + k) z) (sym front)
+        ∙ getD-append-add (take at d) (over s (drop at d)) k z
 
     pub getD-overAt-in : (k : ℕ) (z : A) → k < length s → getD (overAt at s d) (at + k) z ≡ getD s k z
     getD-overAt-in k z h = behind k z ∙ getD-over-in s (drop at d) k z h
@@ -94,10 +98,21 @@ module _ {A : Type 0} where
       ∙ sym (append-assoc a b (drop (length a + length b) d))
       ∙ ap (λ (k : ℕ). (a ++ b) ++ drop k d) (sym (length-append a b))
 
+  -- a over the front of d, where b stands from the end of a on
+  pub over-before : (d a b : List A) (n : ℕ) → length a ≡ n → n ≤ length d → over a (overAt n b d) ≡ over (a ++ b) d
+  over-before d a b n l h =
+      let both : n + length b ≡ length (a ++ b) = omega (arith, length-append a b) in
+      ap (λ (u : List A). a ++ u) (drop-at (take n d) (over b (drop n d)) (length a) (length-take-le n d h ∙ sym l))
+      ∙ ap (λ (u : List A). a ++ (b ++ u)) (drop-drop (length b) n d)
+      ∙ sym (append-assoc a b (drop (n + length b) d))
+      ∙ ap (λ (k : ℕ). (a ++ b) ++ drop k d) both
+
   -- ---- the same loop over the front
 
-  -- a turn of the loop that writes s: its store takes k elements to k + 1. Before the first turn `over (take 0 s) d` is d.
-  pub over-turn : (s d out : List A) (k : ℕ) (v z : A) → k < length s → k < length d → out ≡ over (take k s) d → v ≡ getD s k z
+  -- a turn of the loop that writes s: its store takes k elements to k + 1. Before the first turn `over (take 0 s) d` is
+  -- d.
+  pub over-turn : (s d out : List A) (k : ℕ) (v z : A) → k < length s → k < length d → out ≡ over (take k s) d
+      → v ≡ getD s k z
       → set out k v ≡ over (take (k + 1) s) d
   over-turn s d out k v z hs hd is e =
       let same : k ≡ 0 + k = omega arith in
@@ -112,18 +127,23 @@ module _ {A : Type 0} where
   over-one s d v z one h e = over-done s d (set d 0 v) 1 (omega arith) (over-turn s d d 0 v z (omega arith) h refl e)
 
   -- the same loop where s is given by a rule, and its end where s takes up the whole list
-  pub tabulate-turn : (n : ℕ) (f : ℕ → A) (d out : List A) (k : ℕ) (v : A) → k < n → k < length d → out ≡ over (take k (tabulate n f)) d → v ≡ f k
+  pub tabulate-turn : (n : ℕ) (f : ℕ → A) (d out : List A) (k : ℕ) (v : A) → k < n → k < length d
+      → out ≡ over (take k (tabulate n f)) d → v ≡ f k
       → set out k v ≡ over (take (k + 1) (tabulate n f)) d
   tabulate-turn n f d out k v hn hd is e =
-      over-turn (tabulate n f) d out k v v (omega (arith, length-tabulate n f)) hd is (e ∙ sym (getD-tabulate n f k v hn))
+      over-turn (tabulate n f) d out k v v (omega (arith, length-tabulate n f)) hd is
+      (e ∙ sym (getD-tabulate n f k v hn))
 
-  pub tabulate-done : (n : ℕ) (f : ℕ → A) (d out : List A) (k : ℕ) → n ≤ k → length d ≤ n → out ≡ over (take k (tabulate n f)) d → out ≡ tabulate n f
+  pub tabulate-done : (n : ℕ) (f : ℕ → A) (d out : List A) (k : ℕ) → n ≤ k → length d ≤ n
+      → out ≡ over (take k (tabulate n f)) d → out ≡ tabulate n f
   tabulate-done n f d out k hk hd is =
-      over-done (tabulate n f) d out k (omega (arith, length-tabulate n f)) is ∙ over-whole (tabulate n f) d (omega (arith, length-tabulate n f))
+      over-done (tabulate n f) d out k (omega (arith, length-tabulate n f)) is
+      ∙ over-whole (tabulate n f) d (omega (arith, length-tabulate n f))
 
   -- ---- a turn that writes a piece of s, where `over-turn` writes one element
 
-  over-piece : (s d out t : List A) (k : ℕ) → k + length t ≤ length s → out ≡ over (take k s) d → t ≡ take (length t) (drop k s)
+  over-piece : (s d out t : List A) (k : ℕ) → k + length t ≤ length s → out ≡ over (take k s) d
+      → t ≡ take (length t) (drop k s)
       → overAt k t out ≡ over (take (k + length t) s) d
   over-piece s d out t k h is e =
       ap (overAt k t) is
@@ -131,7 +151,8 @@ module _ {A : Type 0} where
       ∙ ap (λ (u : List A). over u d) (ap (λ (u : List A). take k s ++ u) e ∙ sym (take-add k (length t) s))
 
   -- the same of a list given by a rule
-  pub tabulate-piece : (n m : ℕ) (f w : ℕ → A) (d out : List A) (k : ℕ) → k + m ≤ n → out ≡ over (take k (tabulate n f)) d
+  pub tabulate-piece : (n m : ℕ) (f w : ℕ → A) (d out : List A) (k : ℕ) → k + m ≤ n
+      → out ≡ over (take k (tabulate n f)) d
       → ((i : ℕ) → i < m → w i ≡ f (k + i)) → overAt k (tabulate m w) out ≡ over (take (k + m) (tabulate n f)) d
   tabulate-piece n m f w d out k h is e =
       let s : List A = tabulate n f in
@@ -149,7 +170,8 @@ module _ {A : Type 0} where
 -- ---- a list that has f 0, f 1, .. from an offset on, and is d elsewhere
 
 pub overAt-ext : (at n : ℕ) (f : ℕ → ℕ) (d e : List ℕ) → at + n ≤ length d → length e ≡ length d
-    → ((o : ℕ) → o < at → getD e o 0 ≡ getD d o 0) → ((k : ℕ) → k < n → getD e (at + k) 0 ≡ f k) → ((o : ℕ) → at + n ≤ o → getD e o 0 ≡ getD d o 0)
+    → ((o : ℕ) → o < at → getD e o 0 ≡ getD d o 0) → ((k : ℕ) → k < n → getD e (at + k) 0 ≡ f k)
+    → ((o : ℕ) → at + n ≤ o → getD e o 0 ≡ getD d o 0)
     → e ≡ overAt at (tabulate n f) d
 overAt-ext at n f d e room len before mid past =
     ext-getD 0 e (overAt at t d) (len ∙ sym (length-overAt at t d fit)) (λ o h. go o (decLt o at) (decLt o (at + n)))

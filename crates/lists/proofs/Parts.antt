@@ -1,10 +1,10 @@
--- Parts of a slice, as `&s[a..]` and `&s[a..e]` lend them. Assumes nothing.
+-- Parts of a slice, as `&s[a..]` and `&s[a..e]` lend them.
 use Prim.Native.Nat.{ℕ, _+_, _-_, _≤_}
 use native.Mathlib.Omega.{arith}
 use mathlib.Core.Path.{_≡_, ap, _∙_}
 use mathlib.Core.List.{List, _++_, append-nil}
 use borrow.Rule.Slice.PartMut.{putMid, post-is}
-use lib.ListN.{length, take, drop, length-append, length-drop}
+use lib.ListN.{length, take, drop, length-append, length-drop, take-append-drop}
 use lib.Seq.{take-all, take-length, drop-length}
 use Rattle.lists.specs.Over.{over, overAt}
 use Rattle.lists.proofs.Over.{over-more}
@@ -20,14 +20,25 @@ module _ {A : Type 0} where
       ap (λ (l : List A). take a s ++ (t ++ l)) (post-is a (length s) s h ∙ drop-length s)
       ∙ ap (λ (l : List A). take a s ++ l) (append-nil t)
 
-  -- the same where the part begins at the end of a, which stands over the front of d, and was given back with b over its front
-  pub over-append : (d a b o t : List A) (n : ℕ) → o ≡ over a d → length a ≡ n → t ≡ over b (take (length o - n) (drop n o))
+  -- the same where that part was given back with b over its front
+  pub over-put : (o t b : List A) (n : ℕ) → n ≤ length o → t ≡ over b (take (length o - n) (drop n o))
+      → putMid n (length o - n) o t ≡ overAt n b o
+  over-put o t b n h e = tail-put o t n h ∙ ap (λ (u : List A). take n o ++ u) (e ∙ ap (over b) (tail-part o n))
+
+  -- and where it begins at the end of a, which stands over the front of d
+  pub over-append : (d a b o t : List A) (n : ℕ) → o ≡ over a d → length a ≡ n
+      → t ≡ over b (take (length o - n) (drop n o))
       → putMid n (length o - n) o t ≡ over (a ++ b) d
   over-append d a b o t n is l e =
-      tail-put o t n (omega (arith, ap length is, length-append a (drop (length a) d)))
-      ∙ ap (λ (u : List A). take n o ++ u) (e ∙ ap (over b) (tail-part o n))
+      over-put o t b n (omega (arith, ap length is, length-append a (drop (length a) d))) e
       ∙ ap (overAt n b) is
       ∙ over-more d a b n l
+
+  -- a part that was given back as it was
+  pub kept-put : (o t : List A) (n : ℕ) → n ≤ length o → t ≡ take (length o - n) (drop n o)
+      → putMid n (length o - n) o t ≡ o
+  kept-put o t n h e =
+      tail-put o t n h ∙ ap (λ (u : List A). take n o ++ u) (e ∙ tail-part o n) ∙ take-append-drop n o
 
   -- what the kit's `bytes::copy` leaves
   pub copied-over : (s d : List A) → take (length s) s ++ drop (length s) d ≡ over s d

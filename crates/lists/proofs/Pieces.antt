@@ -1,13 +1,14 @@
--- A string that is written piece by piece to the front of an output, each piece to the part from its present end on. Assumes nothing.
-use Prim.Native.Nat.{ℕ, _+_, _-_, _≤_, _<_}
+-- A string that is written piece by piece to the front of an output, each piece to the part from its present end on.
+use Prim.Native.Nat.{ℕ, _+_, _-_, _≤_}
 use native.Mathlib.Omega.{arith}
 use mathlib.Core.Path.{_≡_, refl, sym, ap, ap₂, _∙_, subst}
-use mathlib.Core.List.{List, [], _∷_, _++_, append-assoc, append-nil}
-use lib.ListN.{length, take, drop, set, length-append, length-drop, take-append-drop}
-use lib.Seq.{length-take-le, take-at, drop-at, drop-drop, getD-at}
+use mathlib.Core.List.{List, [], _++_, append-assoc, append-nil}
+use lib.ListN.{length, take, drop, length-append, length-drop, take-append-drop}
+use lib.Seq.{length-take-le, take-at, drop-at, drop-drop}
 use borrow.Rule.Slice.PartMut.{putMid}
-use Rattle.lists.specs.Over.{over}
-use Rattle.lists.proofs.Over.{length-over, over-turn, over-done}
+use Rattle.lists.specs.Over.{over, overAt}
+use Rattle.lists.specs.Written.{Written}
+use Rattle.lists.proofs.Over.{length-over, over-before}
 use Rattle.lists.proofs.Parts.{tail-part, tail-put, over-append, copied-over}
 
 -- o bytes of out are written, the string `rest` of the string `whole` is still to come, and out₀ is what out was
@@ -16,11 +17,6 @@ pub record PartlyWritten (whole rest out₀ out : List ℕ) (o : ℕ) : Type 0 w
   pub kept : length out ≡ length out₀
   pub bytes : take o out ++ rest ≡ whole
   pub untouched : drop o out ≡ drop o out₀
-
--- all of the string is written
-pub record Written (whole out₀ out : List ℕ) (o : ℕ) : Type 0 where
-  pub bytes : o ≡ length whole
-  pub all : out ≡ over whole out₀
 
 pub writing-start : (whole out : List ℕ) → PartlyWritten whole whole out out 0
 writing-start whole out = record { room = omega arith; kept = refl; bytes = refl; untouched = refl }
@@ -88,12 +84,19 @@ module _ {whole out₀ out : List ℕ} {o : ℕ} (piece rest : List ℕ) (fits :
 -- ---- a string written whole, and a further one after it
 
 -- what the kit's `bytes::copy` wrote
-pub written-copied : (s d out : List ℕ) (n : ℕ) → n ≡ length s → out ≡ take (length s) s ++ drop (length s) d → Written s d out n
+pub written-copied : (s d out : List ℕ) (n : ℕ) → n ≡ length s → out ≡ take (length s) s ++ drop (length s) d
+    → Written s d out n
 written-copied s d out n h is = record { bytes = h; all = is ∙ copied-over s d }
 
 -- the same string under another name
 pub written-as : {a d out : List ℕ} {o : ℕ} (b : List ℕ) → a ≡ b → Written a d out o → Written b d out o
 written-as {d = d} {out = out} {o = o} b e w = subst (λ (t : List ℕ). Written t d out o) e w
+
+-- a before b, which was written first, from an offset on
+pub written-before : {a out : List ℕ} {o : ℕ} (b d : List ℕ) → o ≤ length d → Written a (overAt o b d) out o
+    → Written (a ++ b) d out (o + length b)
+written-before {a} {out} {o} b d h w =
+    record { bytes = omega (arith, w .bytes, length-append a b); all = w .all ∙ over-before d a b o (sym (w .bytes)) h }
 
 module _ {a d out : List ℕ} {o : ℕ} (w : Written a d out o) where
   pub length-written : length a ≤ length d → length out ≡ length d
@@ -105,17 +108,6 @@ module _ {a d out : List ℕ} {o : ℕ} (w : Written a d out o) where
   written-more b last n h e =
       record { bytes = omega (arith, w .bytes, length-append a b); all = over-append d a b out last o (w .all) (sym (w .bytes)) e }
 
-  -- one byte after a
-  pub written-byte : (x : ℕ) → length a < length d → Written (a ++ x ∷ []) d (set out o x) (o + 1)
-  written-byte x h =
-      let s : List ℕ = a ++ x ∷ [] in
-      let more : length s ≡ length a + 1 = length-append a (x ∷ []) in
-      record {
-        bytes = omega (arith, w .bytes, more);
-        all =
-            ap (λ (k : ℕ). set out k x) (w .bytes)
-            ∙ over-done s d (set out (length a) x) (length a + 1) (omega (arith, more))
-            (over-turn s d out (length a) x 0 (omega (arith, more)) h
-            (w .all ∙ ap (λ (l : List ℕ). over l d) (sym (take-at a (x ∷ []) (length a) refl)))
-            (sym (getD-at a x [] 0 (length a) refl)));
-      }
+  pub written-then : {b last : List ℕ} {n : ℕ} → Written b (take (length out - o) (drop o out)) last n
+      → Written (a ++ b) d (putMid o (length out - o) out last) (o + n)
+  written-then {b} {last} {n} v = written-more b last n (v .bytes) (v .all)

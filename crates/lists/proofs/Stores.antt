@@ -1,4 +1,4 @@
--- Laws of `stores`. Assumes nothing.
+-- Laws of `stores`.
 use mathlib.Core.Path.{_≡_, refl, sym, ap, _∙_}
 use mathlib.Core.List.{List}
 use mathlib.Core.Logic.{_⊎_, inl, inr}
@@ -11,7 +11,8 @@ use lib.Seq.{getD-set-same, getD-set-other}
 use Rattle.lists.specs.Stores.{stores}
 
 -- a turn of the loop that stores
-pub stores-turn : (n : ℕ) (at v : ℕ → ℕ) (d out : List ℕ) (i x : ℕ) → out ≡ stores n at v d → i ≡ at n → x ≡ v n → set out i x ≡ stores (n + 1) at v d
+pub stores-turn : (n : ℕ) (at v : ℕ → ℕ) (d out : List ℕ) (i x : ℕ) → out ≡ stores n at v d → i ≡ at n → x ≡ v n
+    → set out i x ≡ stores (n + 1) at v d
 unfolding stores
 stores-turn n at v d out i x is e f = rw (is, e, f, add-one)
 
@@ -20,34 +21,33 @@ unfolding stores
 length-stores zero at v d = refl
 length-stores (suc n) at v d = length-set (stores n at v d) (at n) (v n) ∙ length-stores n at v d
 
--- values that agree below n make the same stores
-pub stores-ext : (n : ℕ) (at v w : ℕ → ℕ) (d : List ℕ) → ((k : ℕ) → k < n → v k ≡ w k) → stores n at v d ≡ stores n at w d
-unfolding stores
-stores-ext zero at v w d e = refl
-stores-ext (suc n) at v w d e =
-    ap (λ (l : List ℕ). set l (at n) (v n)) (stores-ext n at v w d (λ k h. e k (omega arith)))
-    ∙ ap (λ (x : ℕ). set (stores n at w d) (at n) x) (e n (le-refl (suc n)))
-
 -- a place that no store reaches
-pub getD-stores-other : (n : ℕ) (at v : ℕ → ℕ) (d : List ℕ) (o : ℕ) → ((k : ℕ) → k < n → o ≡ at k → ⊥) → getD (stores n at v d) o 0 ≡ getD d o 0
+pub getD-stores-other : (n : ℕ) (at v : ℕ → ℕ) (d : List ℕ) (o : ℕ) → ((k : ℕ) → k < n → o ≡ at k → ⊥)
+    → getD (stores n at v d) o 0 ≡ getD d o 0
 unfolding stores
 getD-stores-other zero at v d o h = refl
 getD-stores-other (suc n) at v d o h =
-    getD-set-other (stores n at v d) (at n) o (v n) 0 (h n (le-refl (suc n))) ∙ getD-stores-other n at v d o (λ k l. h k (omega arith))
+    getD-set-other (stores n at v d) (at n) o (v n) 0 (h n (le-refl (suc n)))
+    ∙ getD-stores-other n at v d o (λ k l. h k (omega arith))
 
 -- a place that a store reaches, where `back` tells the places apart
-pub getD-stores-at : (n : ℕ) (at v back : ℕ → ℕ) (d : List ℕ) → ((k : ℕ) → k < n → at k < length d) → ((k : ℕ) → k < n → back (at k) ≡ k)
+pub getD-stores-at : (n : ℕ) (at v back : ℕ → ℕ) (d : List ℕ) → ((k : ℕ) → k < n → at k < length d)
+    → ((k : ℕ) → k < n → back (at k) ≡ k)
     → (k : ℕ) → k < n → getD (stores n at v d) (at k) 0 ≡ v k
 unfolding stores
 getD-stores-at zero at v back d within e k h = absurd (not-suc-le-zero h)
 getD-stores-at (suc n) at v back d within e k h =
-    go (getD-stores-at n at v back d (λ j m. within j (omega arith)) (λ j m. e j (omega arith)) k) (eq-or-lt-of-le (le-of-suc-le-suc h))
+    go (getD-stores-at n at v back d (λ j m. within j (omega arith)) (λ j m. e j (omega arith)) k)
+    (eq-or-lt-of-le (le-of-suc-le-suc h))
   where
-    go : (k < n → getD (stores n at v d) (at k) 0 ≡ v k) → (k ≡ n) ⊎ (k < n) → getD (stores (suc n) at v d) (at k) 0 ≡ v k
+    go : (k < n → getD (stores n at v d) (at k) 0 ≡ v k) → (k ≡ n) ⊎ (k < n)
+        → getD (stores (suc n) at v d) (at k) 0 ≡ v k
     go ih (inl q) =
         ap (λ (j : ℕ). getD (set (stores n at v d) (at n) (v n)) (at j) 0) q
-        ∙ getD-set-same (stores n at v d) (at n) (v n) 0 (omega (arith, within n (le-refl (suc n)), length-stores n at v d))
+        ∙ getD-set-same (stores n at v d) (at n) (v n) 0
+        (omega (arith, within n (le-refl (suc n)), length-stores n at v d))
         ∙ ap v (sym q)
     go ih (inr l) =
-        getD-set-other (stores n at v d) (at n) (at k) (v n) 0 (λ q. omega (arith, ap back q, e k h, e n (le-refl (suc n)), l))
+        getD-set-other (stores n at v d) (at n) (at k) (v n) 0
+        (λ q. omega (arith, ap back q, e k h, e n (le-refl (suc n)), l))
         ∙ ih l

@@ -1,7 +1,7 @@
--- Laws of `sum`. Assumes nothing.
-use mathlib.Core.Path.{_≡_, refl, ap, _∙_}
+-- Laws of `sum`.
+use mathlib.Core.Path.{_≡_, refl, sym, ap, _∙_}
 use Prim.Native.Nat.{ℕ, zero, suc, _+_, _*_, _≤_, _<_}
-use native.Mathlib.Nat.{suc-mul, mul-add, mul-zero, le-refl}
+use native.Mathlib.Nat.{add-zero, add-suc, suc-mul, mul-add, mul-zero, le-refl}
 use native.Mathlib.Omega.{arith}
 use Rattle.lists.specs.Sum.{sum}
 
@@ -14,6 +14,12 @@ pub sum-le : (n b : ℕ) (f : ℕ → ℕ) → ((k : ℕ) → f k ≤ b) → sum
 unfolding sum
 sum-le zero b f h = omega arith
 sum-le (suc n) b f h = omega (arith, suc-mul n b, sum-le n b f h, h n)
+
+-- the first n, and the m after them
+pub sum-split : (n m : ℕ) (f : ℕ → ℕ) → sum (n + m) f ≡ sum n f + sum m (λ k. f (n + k))
+unfolding sum
+sum-split n zero f = ap (λ (i : ℕ). sum i f) (add-zero n) ∙ sym (add-zero (sum n f))
+sum-split n (suc m) f = ap (λ (i : ℕ). sum i f) (add-suc n m) ∙ omega (arith, sum-split n m f)
 
 pub sum-const : (n b : ℕ) → sum n (λ k. b) ≡ n * b
 unfolding sum
@@ -35,4 +41,5 @@ pub sum-swap : (n m : ℕ) (f : ℕ → ℕ → ℕ) → sum n (λ i. sum m (λ 
 unfolding sum
 sum-swap zero m f = omega (arith, sum-const m 0)
 sum-swap (suc n) m f =
-    ap (λ (k : ℕ). k + sum m (λ j. f n j)) (sum-swap n m f) ∙ omega (arith, sum-add m (λ j. sum n (λ i. f i j)) (λ j. f n j))
+    ap (λ (k : ℕ). k + sum m (λ j. f n j)) (sum-swap n m f)
+    ∙ omega (arith, sum-add m (λ j. sum n (λ i. f i j)) (λ j. f n j))

@@ -1,4 +1,4 @@
--- Laws of `tabulate`. Assumes nothing.
+-- Laws of `tabulate`.
 use mathlib.Core.Path.{_≡_, refl, ap, _∙_}
 use mathlib.Core.List.{List, [], _∷_}
 use Prim.Native.Nat.{ℕ, zero, suc, _≤_, _<_, suc-le-suc, zero-le}
@@ -25,7 +25,8 @@ module _ {A : Type 0} where
   tabulate-ext zero f g e = refl
   tabulate-ext (suc n) f g e =
       ap (λ (x : A). x ∷ tabulate n (λ k. f (suc k))) (e 0 (zero-lt-suc n))
-      ∙ ap (λ (l : List A). g 0 ∷ l) (tabulate-ext n (λ k. f (suc k)) (λ k. g (suc k)) (λ k h. e (suc k) (suc-le-suc h)))
+      ∙ ap (λ (l : List A). g 0 ∷ l)
+      (tabulate-ext n (λ k. f (suc k)) (λ k. g (suc k)) (λ k h. e (suc k) (suc-le-suc h)))
 
   -- the front of a list is made of its first elements
   pub tabulate-take : (n : ℕ) (l : List A) (d : A) → n ≤ length l → tabulate n (λ k. getD l k d) ≡ take n l
@@ -39,7 +40,8 @@ module _ {A : Type 0} where
   tabulate-getD l d = tabulate-take (length l) l d (le-refl (length l)) ∙ take-length l
 
   -- what holds of every value of the rule, and of d, holds of every element
-  pub tabulate-all : (P : A → Type 0) (n : ℕ) (f : ℕ → A) (d : A) → P d → ((k : ℕ) → P (f k)) → (k : ℕ) → P (getD (tabulate n f) k d)
+  pub tabulate-all : (P : A → Type 0) (n : ℕ) (f : ℕ → A) (d : A) → P d → ((k : ℕ) → P (f k)) → (k : ℕ)
+      → P (getD (tabulate n f) k d)
   unfolding tabulate
   tabulate-all P zero f d e h k = e
   tabulate-all P (suc n) f d e h zero = h 0

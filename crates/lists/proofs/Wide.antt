@@ -1,4 +1,4 @@
--- Laws of rows of one width. Assumes nothing.
+-- Laws of rows of one width.
 use mathlib.Core.Path.{_≡_}
 use Prim.Native.Nat.{ℕ, zero, suc, _<_}
 use native.Mathlib.Omega.{arith}
@@ -7,7 +7,8 @@ use lib.ListN.{length, getD, drop}
 use Rattle.lists.specs.Tabulate.{tabulate}
 use Rattle.lists.specs.Wide.{Wide}
 
-pub wide-at : (width : ℕ) (rows : List (List ℕ)) → Wide width rows → (k : ℕ) → k < length rows → length (getD rows k []) ≡ width
+pub wide-at : (width : ℕ) (rows : List (List ℕ)) → Wide width rows → (k : ℕ) → k < length rows
+    → length (getD rows k []) ≡ width
 wide-at width [] w k h = absurd (omega arith)
 wide-at width (row ∷ rows) w zero h = w .0
 wide-at width (row ∷ rows) w (suc k) h = wide-at width rows (w .1) k (omega arith)

@@ -1,4 +1,4 @@
--- Lists of bytes. Assumes nothing: these are definitions.
+-- Lists of bytes.
 use Prim.Native.Nat.{ℕ, _<_}
 use mathlib.Core.List.{List}
 use lib.ListN.{getD}

@@ -1,4 +1,4 @@
--- Binary digits. Assumes nothing: these are definitions.
+-- Binary digits.
 use Prim.Native.Nat.{ℕ, zero, suc, _+_, _*_}
 
 -- the number whose n binary digits are f 0, .., f (n - 1), the first one highest

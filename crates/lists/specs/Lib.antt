@@ -1,3 +1,4 @@
+pub mod All
 pub mod Bytes
 pub mod Digits
 pub mod Over
@@ -5,3 +6,4 @@ pub mod Stores
 pub mod Sum
 pub mod Tabulate
 pub mod Wide
+pub mod Written

@@ -1,4 +1,4 @@
--- One list written over another. Assumes nothing: these are definitions.
+-- One list written over another.
 use Prim.Native.Nat.{ℕ}
 use mathlib.Core.List.{List, _++_}
 use lib.ListN.{length, take, drop}

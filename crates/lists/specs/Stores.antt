@@ -1,4 +1,4 @@
--- A list after stores at scattered places. Assumes nothing: these are definitions.
+-- A list after stores at scattered places.
 use Prim.Native.Nat.{ℕ, zero, suc}
 use mathlib.Core.List.{List}
 use lib.ListN.{set}

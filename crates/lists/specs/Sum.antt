@@ -1,4 +1,4 @@
--- Sums. Assumes nothing: these are definitions.
+-- Sums.
 use Prim.Native.Nat.{ℕ, zero, suc, _+_}
 
 -- f 0 + f 1 + .. + f (n - 1)

@@ -1,4 +1,4 @@
--- A list given by a rule. Assumes nothing: these are definitions.
+-- A list given by a rule.
 use Prim.Native.Nat.{ℕ, zero, suc}
 use mathlib.Core.List.{List, [], _∷_}
 

@@ -1,4 +1,4 @@
--- Rows of one width. Assumes nothing: these are definitions.
+-- Rows of one width.
 use mathlib.Core.Path.{_≡_}
 use mathlib.Core.List.{List, [], _∷_}
 use Prim.Native.Nat.{ℕ}

@@ -1,4 +1,4 @@
--- Refusal numbers (document 01, "Numbers given back"). 0 is an acceptance. Assumes nothing: these are definitions.
+-- Refusal numbers (document 01, "Numbers given back"). 0 is an acceptance.
 use Prim.Native.Nat.{ℕ}
 
 -- a lent area too short

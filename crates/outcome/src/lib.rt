@@ -1,4 +1,6 @@
-// Refusal numbers, and the answer of an operation that reports no value. Definitions: specs/.
+// Refusals: their numbers, and the value that every answer carries. Definitions: specs/.
+ghost use mathlib.Core.Path.{_≡_};
+ghost use Rattle.outcome.specs.Outcome.{none, refusal};
 
 // A lent area is too short.
 pub const AREA_TOO_SHORT: u8 = 1;
@@ -30,9 +32,30 @@ pub const NO_PACKED_BODY: u8 = 9;
 // A number is out of range.
 pub const OUT_OF_RANGE: u8 = 10;
 
-// The answer of an operation that reports no value: 0 and 0 where it is accepted, else the refusal's number and place.
+// Why an input is refused: a number and a place. Both are 0 where it is accepted.
 #[repr(C)]
-pub struct Answer {
+pub struct Refusal {
     pub number: u8,
     pub place: usize,
+}
+
+// An acceptance.
+pub fn none() -> Refusal
+    ensures { λ r. ⌜ r ≡ none ⌝ }
+{
+    refuse_at(0, 0)
+}
+
+// Refused with a number at a place.
+pub fn refuse_at(number: u8, place: usize) -> Refusal
+    ensures { λ r. ⌜ r ≡ refusal number place ⌝ }
+{
+    Refusal { number, place }
+}
+
+// Refused with a number that has no place.
+pub fn refuse(number: u8) -> Refusal
+    ensures { λ r. ⌜ r ≡ refusal number 0 ⌝ }
+{
+    refuse_at(number, 0)
 }

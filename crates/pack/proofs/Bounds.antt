@@ -1,4 +1,4 @@
--- The least body's length: at most one more than the row's, and exactly that where no two neighbours are equal. Assumes nothing.
+-- The least body's length: at most one more than the row's, and exactly that where no two neighbours are equal.
 use Prim.Native.Nat.{ℕ, zero, suc, _+_, _≤_}
 use native.Mathlib.Omega.{arith}
 use native.Mathlib.Numerals.{add-one}
@@ -50,11 +50,12 @@ separate-sizes x (y ∷ t) d =
     opening-cases x (scan (y ∷ t)) (λ o. size (o .rest) ≡ suc (suc (length t)))
     (λ e. absurd (omega arith))
     (λ e. ap suc (ih .0)) in
-    let r : size (scan (x ∷ y ∷ t) .run .after) ≡ suc (suc (length t)) =
-    run-cases x (scan (y ∷ t)) (λ r. size (r .after) ≡ suc (suc (length t)))
+    let r : size (scan (x ∷ y ∷ t) .run .beyond) ≡ suc (suc (length t)) =
+    run-cases x (scan (y ∷ t)) (λ r. size (r .beyond) ≡ suc (suc (length t)))
     (λ e. absurd (d .0 (e ∙ run-byte y t)))
     (λ e. ih .1) in
-    (o, best-cases x (scan (y ∷ t)) (λ b. size b ≡ suc (suc (suc (length t)))) (λ h. ap suc o) (λ h. absurd (omega arith)))
+    let all = suc (suc (suc (length t))) in
+    (o, best-cases x (scan (y ∷ t)) (λ b. size b ≡ all) (λ h. ap suc o) (λ h. absurd (omega arith)))
 
 pub separate-length : (row : List ℕ) → 1 ≤ length row → Separate row → length (least row) ≡ length row + 1
 separate-length [] h d = absurd (omega arith)

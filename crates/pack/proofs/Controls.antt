@@ -1,4 +1,4 @@
--- Laws of control bytes: what each says, how its record is written, and the record that a least body begins with. Assumes nothing.
+-- Laws of control bytes: what each says, how its record is written, and the record that a least body begins with.
 use Prim.Native.Nat.{ℕ, suc, _+_, _-_, _≤_, _<_}
 use native.Mathlib.Omega.{arith}
 use native.Mathlib.Nat.{eq-or-lt-of-le}
@@ -43,14 +43,16 @@ record-length c row h = omega (arith, length-take-le (shownBy c) row h)
 pub literal-room : (c n : ℕ) (row out : List ℕ) → n ≤ length row → n < length out
     → length (take n row) ≤ length (take (length (set out 0 c) - 1) (drop 1 (set out 0 c)))
 literal-room c n row out h l =
-    rw (tail-part (set out 0 c) 1) (omega (arith, length-take-le n row h, length-drop 1 (set out 0 c), length-set out 0 c))
+    rw (tail-part (set out 0 c) 1)
+    (omega (arith, length-take-le n row h, length-drop 1 (set out 0 c), length-set out 0 c))
 
 pub literal-written : (c n : ℕ) (row out last : List ℕ) → 1 ≤ length out
     → last ≡ over (take n row) (take (length (set out 0 c) - 1) (drop 1 (set out 0 c)))
     → putMid 1 (length (set out 0 c) - 1) (set out 0 c) last ≡ over (c ∷ take n row) out
 literal-written c n row [] last l e = absurd (omega arith)
 literal-written c n row (a ∷ out) last l e =
-    tail-put (c ∷ out) last 1 (omega arith) ∙ ap (λ (t : List ℕ). c ∷ t) (e ∙ ap (over (take n row)) (tail-part (c ∷ out) 1))
+    tail-put (c ∷ out) last 1 (omega arith)
+    ∙ ap (λ (t : List ℕ). c ∷ t) (e ∙ ap (over (take n row)) (tail-part (c ∷ out) 1))
 
 -- a repeat
 pub repeat-written : (c : ℕ) (row out : List ℕ) → 1 ≤ length row → 2 ≤ length out
@@ -71,7 +73,8 @@ pub record Leads (c : ℕ) (s : List ℕ) (b : Body) : Type 0 where
   pub bytes : b .bytes ≡ recordOf c s ++ least (drop (takenBy c) s)
   pub records : b .records ≡ suc (leastRecords (drop (takenBy c) s))
 
-leads-first : (x : ℕ) (t : List ℕ) (b : Body) → suc (length t) ≤ 128 → FirstRecord x t b → Leads (getD (b .bytes) 0 0) (x ∷ t) b
+leads-first : (x : ℕ) (t : List ℕ) (b : Body) → suc (length t) ≤ 128 → FirstRecord x t b
+    → Leads (getD (b .bytes) 0 0) (x ∷ t) b
 leads-first x t b h (a-literal k l) =
     let n : takenBy k ≡ suc k = taken-literal k (omega arith) ∙ add-one k in
     let m : shownBy k ≡ suc k = shown-literal k (omega arith) ∙ add-one k in
@@ -105,6 +108,9 @@ pub controls-more : (row controls : List ℕ) (i v : ℕ) → i < length control
     → ControlsFrom row controls (suc i) → ControlsFrom row (set controls i v) i
 controls-more row controls i v h e f j l m =
     ⊎-elim
-    (λ q. ap (λ (k : ℕ). getD (set controls i v) k 0) (sym q) ∙ getD-set-same controls i v 0 h ∙ e ∙ ap (λ (k : ℕ). getD (least (drop k row)) 0 0) q)
+    (λ q. ap (λ (k : ℕ). getD (set controls i v) k 0) (sym q)
+    ∙ getD-set-same controls i v 0 h
+    ∙ e
+    ∙ ap (λ (k : ℕ). getD (least (drop k row)) 0 0) q)
     (λ q. getD-set-other controls i j v 0 (omega arith) ∙ f j q m)
     (eq-or-lt-of-le l)

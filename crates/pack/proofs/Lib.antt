@@ -2,6 +2,7 @@ pub mod Bounds
 pub mod Controls
 pub mod Emission
 pub mod Least
+pub mod LeastRows
 pub mod Lengths
 pub mod Optimal
 pub mod Order

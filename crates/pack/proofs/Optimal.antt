@@ -1,4 +1,4 @@
--- `least row` is preferred to every body that unpacks to the row. Assumes nothing.
+-- `least row` is preferred to every body that unpacks to the row.
 use Prim.Native.Nat.{ℕ, zero, suc, _-_, _≤_, _<_, suc-le-suc}
 use native.Mathlib.Omega.{arith}
 use native.Mathlib.Nat.{eq-or-lt-of-le}
@@ -8,19 +8,26 @@ use mathlib.Core.List.{List, [], _∷_, _++_}
 use lib.ListN.{length, replicate, length-append}
 use Rattle.packbits.specs.Unpacks.{Unpacks, full, literal, repeat, nothing}
 use Rattle.pack.specs.IsLeast.{Preferred}
-use Rattle.pack.specs.Least.{size, Run, Suffix, literalBody, repeatBody, step, scan, least}
+use Rattle.pack.specs.Least.{size, Run, Suffix, literalBody, repeatBody, prepend, scan, least}
 use Rattle.pack.proofs.Order.{preferred-refl, preferred-length, preferred-trans, preferred-cons, preferred-append, preferred-control, preferred-longer}
-use Rattle.pack.proofs.Least.{opening-cases, run-cases, best-cases, run-byte, no-run, more-bound, count-bound, after≤best}
+use Rattle.pack.proofs.Least.{opening-cases, run-cases, best-cases, run-byte, no-run, more-bound, count-bound, beyond≤best}
 
 -- ---- what a step makes is preferred to both kinds of first record
 
 module _ (x : ℕ) (s : Suffix) where
-  best-literal : Preferred (step x s .best .bytes) (literalBody (step x s .opening) .bytes)
-  best-literal = best-cases x s (λ b. Preferred (b .bytes) (literalBody (step x s .opening) .bytes)) (λ h. preferred-refl _) (λ h. inl (omega arith))
+  best-literal : Preferred (prepend x s .best .bytes) (literalBody (prepend x s .opening) .bytes)
+  best-literal =
+      best-cases x s (λ b. Preferred (b .bytes) (literalBody (prepend x s .opening) .bytes))
+      (λ h. preferred-refl _)
+      (λ h. inl (omega arith))
 
   -- where the literal's control byte is the smaller one
-  best-repeat : step x s .opening .more < 257 - step x s .run .count → Preferred (step x s .best .bytes) (repeatBody (step x s .run) .bytes)
-  best-repeat l = best-cases x s (λ b. Preferred (b .bytes) (repeatBody (step x s .run) .bytes)) (λ h. preferred-control l h) (λ h. preferred-refl _)
+  best-repeat : prepend x s .opening .more < 257 - prepend x s .run .count
+      → Preferred (prepend x s .best .bytes) (repeatBody (prepend x s .run) .bytes)
+  best-repeat l =
+      best-cases x s (λ b. Preferred (b .bytes) (repeatBody (prepend x s .run) .bytes))
+      (λ h. preferred-control l h)
+      (λ h. preferred-refl _)
 
 -- ---- a first literal of any length does not come before the one that `scan` opens
 
@@ -32,11 +39,13 @@ literal-first x [] r =
     (λ e. preferred-refl _)
     (λ e. inl (omega arith))
 literal-first x (y ∷ ys) r =
-    opening-cases x (scan (y ∷ (ys ++ r))) (λ o. Preferred (literalBody o .bytes) (suc (length ys) ∷ x ∷ y ∷ (ys ++ least r)))
+    opening-cases x (scan (y ∷ (ys ++ r)))
+    (λ o. Preferred (literalBody o .bytes) (suc (length ys) ∷ x ∷ y ∷ (ys ++ least r)))
     (λ e. preferred-control (omega arith) (omega (arith, preferred-length (literal-first y ys r))))
     (λ e. preferred-longer x (literal-first y ys r))
 
-least-literal : (x : ℕ) (xs r b : List ℕ) → Preferred (least r) b → Preferred (least (x ∷ (xs ++ r))) (length xs ∷ x ∷ (xs ++ b))
+least-literal : (x : ℕ) (xs r b : List ℕ) → Preferred (least r) b
+    → Preferred (least (x ∷ (xs ++ r))) (length xs ∷ x ∷ (xs ++ b))
 unfolding scan
 least-literal x xs r b p =
     preferred-trans (best-literal x (scan (xs ++ r)))
@@ -46,14 +55,14 @@ least-literal x xs r b p =
 
 record Reaches (k : ℕ) (r : List ℕ) (run : Run) : Type 0 where
   longest : suc k ≤ run .count
-  shortest : size (run .after) ≤ size (scan r .best)
-  exact : suc k ≡ run .count → run .after ≡ scan r .best
+  shortest : size (run .beyond) ≤ size (scan r .best)
+  exact : suc k ≡ run .count → run .beyond ≡ scan r .best
 
 run-reaches : (k x : ℕ) (r : List ℕ) → Reaches k r (scan (x ∷ (replicate k x ++ r)) .run)
 unfolding scan
 run-reaches zero x r =
     run-cases x (scan r) (Reaches 0 r)
-    (λ e. record { longest = omega arith; shortest = after≤best r; exact = λ q. no-run r (omega arith) })
+    (λ e. record { longest = omega arith; shortest = beyond≤best r; exact = λ q. no-run r (omega arith) })
     (λ e. record { longest = omega arith; shortest = omega arith; exact = λ q. refl })
 run-reaches (suc k) x r =
     let ih : Reaches k r (scan (x ∷ (replicate k x ++ r)) .run) = run-reaches k x r in
@@ -76,8 +85,9 @@ least-repeat : (k x : ℕ) (r b : List ℕ) → length (replicate (suc k) x ++ r
     → Preferred (least (replicate (suc k) x ++ r)) ((257 - suc k) ∷ x ∷ b)
 unfolding scan
 least-repeat k x r b h l p =
-    preferred-trans (best-repeat x (scan (replicate k x ++ r)) (omega (arith, more-bound x (replicate k x ++ r), count-bound (x ∷ (replicate k x ++ r)))))
-    (preferred-trans (repeat-first k x r _ l (run-byte x (replicate k x ++ r)) (run-reaches k x r))
+    let s : List ℕ = replicate k x ++ r in
+    preferred-trans (best-repeat x (scan s) (omega (arith, more-bound x s, count-bound (x ∷ s))))
+    (preferred-trans (repeat-first k x r _ l (run-byte x s) (run-reaches k x r))
     (preferred-cons (257 - suc k) (preferred-cons x p)))
 
 -- ---- so no body comes before the least one
@@ -94,6 +104,7 @@ least-first h (repeat {x = c} {byte = x} {body = b} {row = r} l u d) =
     let k : ℕ = 256 - c in
     let e : suc k ≡ 257 - c = omega arith in
     let f : 257 - suc k ≡ c = omega arith in
+    let p = least-first (omega (arith, length-append (replicate (257 - c) x) r)) d in
     subst₂ (λ (n m : ℕ). Preferred (least (replicate n x ++ r)) (m ∷ x ∷ b)) e f
-    (least-repeat k x r b (subst (λ (n : ℕ). length (replicate n x ++ r) ≤ 128) (sym e) h) (omega arith) (least-first (omega (arith, length-append (replicate (257 - c) x) r)) d))
+    (least-repeat k x r b (subst (λ (n : ℕ). length (replicate n x ++ r) ≤ 128) (sym e) h) (omega arith) p)
 least-first h (nothing d) = inl (omega (arith, preferred-length (least-first h d)))

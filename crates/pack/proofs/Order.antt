@@ -1,4 +1,4 @@
--- Laws of the order of bodies, shorter first and then by the dictionary. Assumes nothing.
+-- Laws of the order of bodies, shorter first and then by the dictionary.
 use Prim.Native.Nat.{ℕ, suc, _≤_, _<_, suc-le-suc}
 use native.Mathlib.Omega.{arith}
 use native.Mathlib.Nat.{lt-trans, eq-or-lt-of-le}
@@ -44,11 +44,13 @@ pub preferred-control : {x y : ℕ} {a b : List ℕ} → x < y → length a ≤ 
 preferred-control h l = ⊎-elim (λ e. inr (ap suc e, less h)) (λ k. inl (omega arith)) (eq-or-lt-of-le l)
 
 -- two literals lengthened by the same byte
-dictionary-longer : (x : ℕ) {c d : ℕ} {a b : List ℕ} → Dictionary (c ∷ a) (d ∷ b) → Dictionary (suc c ∷ x ∷ a) (suc d ∷ x ∷ b)
+dictionary-longer : (x : ℕ) {c d : ℕ} {a b : List ℕ} → Dictionary (c ∷ a) (d ∷ b)
+    → Dictionary (suc c ∷ x ∷ a) (suc d ∷ x ∷ b)
 dictionary-longer x (less h) = less (suc-le-suc h)
 dictionary-longer x (same p) = same (same p)
 
-pub preferred-longer : (x : ℕ) {c d : ℕ} {a b : List ℕ} → Preferred (c ∷ a) (d ∷ b) → Preferred (suc c ∷ x ∷ a) (suc d ∷ x ∷ b)
+pub preferred-longer : (x : ℕ) {c d : ℕ} {a b : List ℕ} → Preferred (c ∷ a) (d ∷ b)
+    → Preferred (suc c ∷ x ∷ a) (suc d ∷ x ∷ b)
 preferred-longer x (inl h) = inl (omega arith)
 preferred-longer x (inr p) = inr (ap suc (p .0), dictionary-longer x (p .1))
 

@@ -1,4 +1,4 @@
--- A row of at most 128 bytes has one least body. Assumes nothing.
+-- A row of at most 128 bytes has one least body.
 use Prim.Native.Nat.{ℕ, _≤_}
 use mathlib.Core.Path.{_≡_, refl, ap}
 use mathlib.Core.List.{List, [], _++_}
@@ -10,7 +10,8 @@ use Rattle.pack.proofs.Order.{preferred-antisym}
 use Rattle.pack.proofs.Valid.{least-is-least}
 
 -- the writer's body is the only one that `IsLeast` allows
-pub least-unique : {row b : List ℕ} {n : ℕ} → length row ≤ 128 → IsLeast row b n → (b ≡ least row) × (n ≡ leastRecords row)
+pub least-unique : {row b : List ℕ} {n : ℕ} → length row ≤ 128 → IsLeast row b n
+    → (b ≡ least row) × (n ≡ leastRecords row)
 least-unique {row} {b} {n} h q =
     let p = least-is-least row h in
     let e : b ≡ least row = preferred-antisym (q .first (p .unpacks)) (p .first (q .unpacks)) in

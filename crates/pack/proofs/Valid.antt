@@ -1,4 +1,4 @@
--- `least row` is one record and then the least body of what the record leaves; so it unpacks to the row, and is least. Assumes nothing.
+-- `least row` is one record and then the least body of what the record leaves; so it unpacks to the row, and is least.
 use Prim.Native.Nat.{ℕ, zero, suc, _-_, _≤_, _<_, suc-le-suc}
 use native.Mathlib.Omega.{arith}
 use mathlib.Core.Path.{_≡_, refl, sym, ap, _∙_, subst}
@@ -36,47 +36,57 @@ record RunEnds (x : ℕ) (t : List ℕ) (r : Run) : Type 0 where
   count : r .count ≡ suc k
   within : k ≤ length t
   equal : take k t ≡ replicate k x
-  after : r .after ≡ scan (drop k t) .best
+  beyond : r .beyond ≡ scan (drop k t) .best
 
 run-ends : (x : ℕ) (t : List ℕ) → RunEnds x t (scan (x ∷ t) .run)
 unfolding scan
 run-ends x [] =
     run-cases x (scan []) (RunEnds x [])
-    (λ e. record { k = 0; count = refl; within = omega arith; equal = refl; after = refl })
-    (λ e. record { k = 0; count = refl; within = omega arith; equal = refl; after = refl })
+    (λ e. record { k = 0; count = refl; within = omega arith; equal = refl; beyond = refl })
+    (λ e. record { k = 0; count = refl; within = omega arith; equal = refl; beyond = refl })
 run-ends x (y ∷ t) =
     let ih : RunEnds y t (scan (y ∷ t) .run) = run-ends y t in
     run-cases x (scan (y ∷ t)) (RunEnds x (y ∷ t))
     (λ e.
     let q : x ≡ y = e ∙ run-byte y t in
-    record { k = suc (ih .k); count = ap suc (ih .count); within = suc-le-suc (ih .within); equal = rw q (ap (λ (l : List ℕ). y ∷ l) (ih .equal)); after = ih .after })
-    (λ e. record { k = 0; count = refl; within = omega arith; equal = refl; after = refl })
+    record {
+      k = suc (ih .k);
+      count = ap suc (ih .count);
+      within = suc-le-suc (ih .within);
+      equal = rw q (ap (λ (l : List ℕ). y ∷ l) (ih .equal));
+      beyond = ih .beyond;
+    })
+    (λ e. record { k = 0; count = refl; within = omega arith; equal = refl; beyond = refl })
 
 -- ---- the first record of the least body of x ∷ t: it stands for x and the k bytes after it
 
 pub data FirstRecord (x : ℕ) (t : List ℕ) : Body → Type 0 where
   a-literal : (k : ℕ) → k ≤ length t
-      → FirstRecord x t (record { bytes = k ∷ x ∷ (take k t ++ least (drop k t)); records = suc (leastRecords (drop k t)) })
+      → FirstRecord x t
+      (record { bytes = k ∷ x ∷ (take k t ++ least (drop k t)); records = suc (leastRecords (drop k t)) })
   a-repeat : (k : ℕ) → 1 ≤ k → k ≤ length t → take k t ≡ replicate k x
       → FirstRecord x t (record { bytes = (256 - k) ∷ x ∷ least (drop k t); records = suc (leastRecords (drop k t)) })
 
-from-literal : (x : ℕ) (t : List ℕ) (o : Opening) → o .more ≤ length t → OpeningEnds x t o → FirstRecord x t (literalBody o)
+from-literal : (x : ℕ) (t : List ℕ) (o : Opening) → o .more ≤ length t → OpeningEnds x t o
+    → FirstRecord x t (literalBody o)
 from-literal x t o l q = rw (q .bytes, q .records) (a-literal (o .more) l)
 
-from-repeat : (x : ℕ) (t : List ℕ) (r : Run) → r .byte ≡ x → 2 ≤ r .count → RunEnds x t r → FirstRecord x t (repeatBody r)
+from-repeat : (x : ℕ) (t : List ℕ) (r : Run) → r .byte ≡ x → 2 ≤ r .count → RunEnds x t r
+    → FirstRecord x t (repeatBody r)
 from-repeat x t r e l q =
     let c : 257 - r .count ≡ 256 - q .k = omega (arith, q .count) in
-    rw (c, e, q .after) (a-repeat (q .k) (omega (arith, q .count)) (q .within) (q .equal))
+    rw (c, e, q .beyond) (a-repeat (q .k) (omega (arith, q .count)) (q .within) (q .equal))
 
 -- a run of one byte is never written as a repeat
 opening≤ : (x : ℕ) (t : List ℕ) → size (scan (x ∷ t) .opening .rest) ≤ suc (size (scan t .best))
 unfolding scan
-opening≤ x t = opening-cases x (scan t) (λ o. size (o .rest) ≤ suc (size (scan t .best))) (λ e. omega arith) (λ e. omega arith)
+opening≤ x t =
+    opening-cases x (scan t) (λ o. size (o .rest) ≤ suc (size (scan t .best))) (λ e. omega arith) (λ e. omega arith)
 
-run-of-two : (x : ℕ) (t : List ℕ) (k count : ℕ) (after : Body) → count ≡ suc k → after ≡ scan (drop k t) .best
-    → suc (size after) < size (scan (x ∷ t) .opening .rest) → 2 ≤ count
-run-of-two x t zero count after p q h = absurd (omega (arith, opening≤ x t, ap size q))
-run-of-two x t (suc k) count after p q h = omega arith
+run-of-two : (x : ℕ) (t : List ℕ) (k count : ℕ) (beyond : Body) → count ≡ suc k → beyond ≡ scan (drop k t) .best
+    → suc (size beyond) < size (scan (x ∷ t) .opening .rest) → 2 ≤ count
+run-of-two x t zero count beyond p q h = absurd (omega (arith, opening≤ x t, ap size q))
+run-of-two x t (suc k) count beyond p q h = omega arith
 
 pub first-record : (x : ℕ) (t : List ℕ) → FirstRecord x t (scan (x ∷ t) .best)
 unfolding scan
@@ -84,7 +94,7 @@ first-record x t =
     let q : RunEnds x t (scan (x ∷ t) .run) = run-ends x t in
     best-cases x (scan t) (FirstRecord x t)
     (λ h. from-literal x t (scan (x ∷ t) .opening) (more-bound x t) (opening-ends x t))
-    (λ h. from-repeat x t (scan (x ∷ t) .run) (run-byte x t) (run-of-two x t (q .k) _ _ (q .count) (q .after) h) q)
+    (λ h. from-repeat x t (scan (x ∷ t) .run) (run-byte x t) (run-of-two x t (q .k) _ _ (q .count) (q .beyond) h) q)
 
 -- ---- that record, and what follows it, unpack to the row
 
@@ -98,7 +108,9 @@ unpacks-first x t b h (a-literal k l) ih =
 unpacks-first x t b h (a-repeat k one l e) ih =
     let n : 257 - (256 - k) ≡ suc k = omega arith in
     subst (λ (r : List ℕ). Unpacks ((256 - k) ∷ x ∷ least (drop k t)) r (suc (leastRecords (drop k t))))
-    (ap (λ (m : ℕ). replicate m x ++ drop k t) n ∙ ap (λ (r : List ℕ). x ∷ (r ++ drop k t)) (sym e) ∙ ap (λ (r : List ℕ). x ∷ r) (take-append-drop k t))
+    (ap (λ (m : ℕ). replicate m x ++ drop k t) n
+    ∙ ap (λ (r : List ℕ). x ∷ (r ++ drop k t)) (sym e)
+    ∙ ap (λ (r : List ℕ). x ∷ r) (take-append-drop k t))
     (repeat (omega arith) (omega arith) (ih k))
 
 unpacks-below : (f : ℕ) (s : List ℕ) → length s ≤ f → length s ≤ 128 → Unpacks (least s) s (leastRecords s)

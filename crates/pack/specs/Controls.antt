@@ -1,5 +1,5 @@
--- One record as it is written, by its control byte, and the control bytes of all suffixes of a row. No public contract cites it.
--- Assumes nothing: these are definitions.
+-- One record as it is written, by its control byte, and the control bytes of all suffixes of a row. No public contract
+-- cites it.
 use Prim.Native.Nat.{ℕ, _+_, _-_, _≤_, _<_}
 use mathlib.Core.Path.{_≡_}
 use mathlib.Core.Bool.{cond}

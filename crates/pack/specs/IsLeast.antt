@@ -1,5 +1,5 @@
--- The least body of a row: the shortest byte string that unpacks to it, and among equally short ones the first in dictionary order
--- (document 01, "Packed rows": the writer's row). Assumes nothing: these are definitions.
+-- The least body of a row: the shortest byte string that unpacks to it, and among equally short ones the first in
+-- dictionary order (document 01, "Packed rows": the writer's row).
 use Prim.Native.Nat.{ℕ, _<_}
 use mathlib.Core.Path.{_≡_}
 use mathlib.Core.Logic.{_⊎_}
@@ -17,7 +17,7 @@ pub data Dictionary : List ℕ → List ℕ → Type 0 where
 abbrev pub Preferred : List ℕ → List ℕ → Type 0
 Preferred a b = (length a < length b) ⊎ ((length a ≡ length b) × Dictionary a b)
 
--- body unpacks to the row, with so many records, and is preferred to every byte string that does
+-- body unpacks to the row, with `records` records, and is preferred to every byte string that does
 pub record IsLeast (row body : List ℕ) (records : ℕ) : Type 0 where
   pub unpacks : Unpacks body row records
   pub first : {b : List ℕ} {n : ℕ} → Unpacks b row n → Preferred body b

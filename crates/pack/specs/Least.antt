@@ -1,5 +1,5 @@
--- The least body, computed from the row's right end, one step for each byte. That it is least: proofs/Valid.antt, `least-is-least`.
--- Assumes nothing: these are definitions.
+-- The least body, computed from the row's right end, one step for each byte. That it is least: proofs/Valid.antt,
+-- `least-is-least`.
 use Prim.Native.Nat.{ℕ, suc, _-_}
 use mathlib.Core.Bool.{cond}
 use mathlib.Core.List.{List, [], _∷_}
@@ -31,7 +31,7 @@ pub record Opening : Type 0 where
 pub record Run : Type 0 where
   pub byte : ℕ
   pub count : ℕ
-  pub after : Body
+  pub beyond : Body
 
 -- what is known of a suffix: its least body, its best opening literal, its first run
 pub record Suffix : Type 0 where
@@ -50,25 +50,31 @@ openingOf x s =
 abbrev pub runOf : ℕ → Suffix → Run
 runOf x s =
     cond (eqb x (s .run .byte))
-    (record { byte = x; count = suc (s .run .count); after = s .run .after })
-    (record { byte = x; count = 1; after = s .best })
+    (record { byte = x; count = suc (s .run .count); beyond = s .run .beyond })
+    (record { byte = x; count = 1; beyond = s .best })
 
 abbrev pub literalBody : Opening → Body
 literalBody o = record { bytes = o .more ∷ o .rest .bytes; records = suc (o .rest .records) }
 
 abbrev pub repeatBody : Run → Body
-repeatBody r = record { bytes = (257 - r .count) ∷ r .byte ∷ r .after .bytes; records = suc (r .after .records) }
+repeatBody r = record { bytes = (257 - r .count) ∷ r .byte ∷ r .beyond .bytes; records = suc (r .beyond .records) }
 
 -- the literal, or the repeat of the whole run where that is shorter
 abbrev pub bestOf : Opening → Run → Body
-bestOf o r = cond (leb (size (o .rest)) (suc (size (r .after)))) (literalBody o) (repeatBody r)
+bestOf o r = cond (leb (size (o .rest)) (suc (size (r .beyond)))) (literalBody o) (repeatBody r)
 
-unfoldable pub step : ℕ → Suffix → Suffix
-step x s = record { best = bestOf (openingOf x s) (runOf x s); opening = openingOf x s; run = runOf x s }
+-- one byte further left, x
+unfoldable pub prepend : ℕ → Suffix → Suffix
+prepend x s = record { best = bestOf (openingOf x s) (runOf x s); opening = openingOf x s; run = runOf x s }
 
 unfoldable pub scan : List ℕ → Suffix
-scan [] = record { best = empty; opening = record { more = 0; rest = empty }; run = record { byte = 0; count = 0; after = empty } }
-scan (x ∷ xs) = step x (scan xs)
+scan [] =
+    record {
+      best = empty;
+      opening = record { more = 0; rest = empty };
+      run = record { byte = 0; count = 0; beyond = empty };
+    }
+scan (x ∷ xs) = prepend x (scan xs)
 
 -- the least body of a row of at most 128 bytes, and its number of records
 abbrev pub least : List ℕ → List ℕ

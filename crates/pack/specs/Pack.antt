@@ -1,4 +1,4 @@
--- Row pack: what is given back and written (document 01, "Order of judging": row pack). Assumes nothing: these are definitions.
+-- Row pack: what is given back and written (document 01, "Order of judging": row pack).
 use Prim.Native.Nat.{ℕ}
 use mathlib.Core.Bool.{cond}
 use mathlib.Core.List.{List}
@@ -9,16 +9,20 @@ use Rattle.outcome.specs.Refusal.{areaTooShort, outOfRange}
 use Rattle.packbits.specs.Row.{Row, done, widthOutOfRange}
 use Rattle.pack.specs.Least.{least, leastRecords}
 
--- the row's least body into an output of so many bytes, which must have at least `needed`
+-- the longest body that packing makes of a row
+abbrev pub maxBody : ℕ
+maxBody = 129
+
+-- the row's least body into an output of `room` bytes, of which it must have `needed` at least
 unfoldable pub packWithin : ℕ → List ℕ → ℕ → Outcome Row
 packWithin needed row room =
     refuseIf (widthOutOfRange (length row)) outOfRange
     (refuseIf (ltb room needed) areaTooShort
     (done (length (least row)) (leastRecords row) (least row)))
 
--- row pack: the row is the whole input, and the output has 129 bytes at least
+-- row pack: the row is the whole input, and the output must have room for the longest body
 abbrev pub packRow : List ℕ → ℕ → Outcome Row
-packRow row room = packWithin 129 row room
+packRow row room = packWithin maxBody row room
 
 -- the same into an output that need have no more bytes than are written
 abbrev pub packInto : List ℕ → ℕ → Outcome Row

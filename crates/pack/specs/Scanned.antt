@@ -1,4 +1,4 @@
--- How far the scan of a row has come. No public contract cites it. Assumes nothing: these are definitions.
+-- How far the scan of a row has come. No public contract cites it.
 use Prim.Native.Nat.{ℕ, _≤_}
 use mathlib.Core.Path.{_≡_}
 use mathlib.Core.List.{List}

@@ -1,4 +1,4 @@
-// PackBits: one row of 1 to 128 bytes packed to its least body. Definitions: specs/.
+// One row of 1 to 128 bytes packed to its least body. Definitions, of rows end to end as well: specs/.
 ghost use mathlib.Core.Path.{_≡_};
 ghost use Prim.Native.Nat.{_+_, _≤_, _<_};
 ghost use mathlib.Core.List.{[]};
@@ -7,7 +7,7 @@ ghost use Rattle.lists.specs.Over.{over};
 ghost use Rattle.packbits.specs.Row.{rowAnswer, rowOutput};
 ghost use Rattle.pack.specs.Least.{least, leastRecords};
 ghost use Rattle.pack.specs.Controls.{recordOf, takenBy, shownBy, ControlsFrom};
-ghost use Rattle.pack.specs.Costs.{costsOf, Small, RepeatIfShorter, literalOf, repeatOf, costsWith, stepCosts};
+ghost use Rattle.pack.specs.Costs.{costsOf, Small, RepeatIfShorter, openLiteralOf, firstRunOf, costsWith, prependCosts};
 ghost use Rattle.pack.specs.Scanned.{Scanned};
 ghost use Rattle.pack.specs.Pack.{packRow, packInto, leastLen};
 use outcome::AREA_TOO_SHORT;
@@ -18,8 +18,8 @@ use packbits::RowAnswer;
 // The longest body that packing makes of a row.
 pub const MAX_BODY: usize = 129;
 
-// What is known of a suffix of the row: control is the control byte that its least body begins with, byte the byte of its first run, and
-// the others are lengths. The terms are those of specs/Least.antt.
+// What is known of a suffix of the row: control is the control byte that its least body begins with, byte the byte of
+// its first run, and the others are lengths. The terms are those of specs/Least.antt.
 struct Costs {
     best: usize,
     control: usize,
@@ -27,33 +27,33 @@ struct Costs {
     rest: usize,
     byte: u8,
     count: usize,
-    after: usize,
+    beyond: usize,
 }
 
 // A literal that is under way at the start of a suffix.
-struct Literal {
+struct OpenLiteral {
     more: usize,
     rest: usize,
 }
 
 // The run of equal bytes at the start of a suffix.
-struct Repeat {
+struct FirstRun {
     count: usize,
-    after: usize,
+    beyond: usize,
 }
 
 // The literal from one byte further left: it ends there, or goes on where that is shorter.
-fn literal_of(t: Costs) -> Literal
+fn open_literal_of(t: Costs) -> OpenLiteral
     requires { ⌜ Small t ⌝ }
-    ensures { λ r. ⌜ r ≡ literalOf t ⌝ }
+    ensures { λ r. ⌜ r ≡ openLiteralOf t ⌝ }
 {
     if t.best <= t.rest {
-        Literal {
+        OpenLiteral {
             more: 0,
             rest: t.best + 1,
         }
     } else {
-        Literal {
+        OpenLiteral {
             more: t.more + 1,
             rest: t.rest + 1,
         }
@@ -61,29 +61,29 @@ fn literal_of(t: Costs) -> Literal
 }
 
 // The run from one byte further left: the byte lengthens it or starts one.
-fn repeat_of(x: u8, t: Costs) -> Repeat
+fn first_run_of(x: u8, t: Costs) -> FirstRun
     requires { ⌜ Small t ⌝ }
-    ensures { λ r. ⌜ r ≡ repeatOf x t ⌝ }
+    ensures { λ r. ⌜ r ≡ firstRunOf x t ⌝ }
 {
     if x == t.byte {
-        Repeat {
+        FirstRun {
             count: t.count + 1,
-            after: t.after,
+            beyond: t.beyond,
         }
     } else {
-        Repeat {
+        FirstRun {
             count: 1,
-            after: t.best,
+            beyond: t.best,
         }
     }
 }
 
 // The shorter of the two, the literal where they are equally long.
-fn costs_with(x: u8, l: Literal, r: Repeat) -> Costs
-    requires { ⌜ (l .rest ≤ 1001) × (r .after ≤ 1001) × (r .count ≤ 256) ⌝ }
+fn costs_with(x: u8, l: OpenLiteral, r: FirstRun) -> Costs
+    requires { ⌜ (l .rest ≤ 1001) × (r .beyond ≤ 1001) × (r .count ≤ 256) ⌝ }
     ensures { λ c. ⌜ c ≡ costsWith x l r ⌝ }
 {
-    if l.rest <= r.after + 1 {
+    if l.rest <= r.beyond + 1 {
         Costs {
             best: l.rest + 1,
             control: l.more,
@@ -91,36 +91,36 @@ fn costs_with(x: u8, l: Literal, r: Repeat) -> Costs
             rest: l.rest,
             byte: x,
             count: r.count,
-            after: r.after,
+            beyond: r.beyond,
         }
     } else {
         Costs {
-            best: r.after + 2,
+            best: r.beyond + 2,
             control: 257 - r.count,
             more: l.more,
             rest: l.rest,
             byte: x,
             count: r.count,
-            after: r.after,
+            beyond: r.beyond,
         }
     }
 }
 
 // The suffix that begins one byte further left, with the byte x.
-fn step(x: u8, t: Costs) -> Costs
+fn prepend(x: u8, t: Costs) -> Costs
     requires { ⌜ Small t ⌝ }
-    ensures { λ r. ⌜ r ≡ stepCosts x t ⌝ }
+    ensures { λ r. ⌜ r ≡ prependCosts x t ⌝ }
 {
-    let l = literal_of(t);
-    let r = repeat_of(x, t);
+    let l = open_literal_of(t);
+    let r = first_run_of(x, t);
     costs_with(x, l, r)
 }
 
 // The same with the byte of the run, where the repeat is chosen: it stays so.
 fn lengthened(t: Costs) -> Costs
-    requires { ⌜ Small t × RepeatIfShorter t × (t .after + 1 < t .rest) ⌝ }
-    ensures { λ r. ⌜ r ≡ stepCosts (t .byte) t ⌝ }
-    ensures { λ r. ⌜ r .after + 1 < r .rest ⌝ }
+    requires { ⌜ Small t × RepeatIfShorter t × (t .beyond + 1 < t .rest) ⌝ }
+    ensures { λ r. ⌜ r ≡ prependCosts (t .byte) t ⌝ }
+    ensures { λ r. ⌜ r .beyond + 1 < r .rest ⌝ }
 {
     Costs {
         best: t.best,
@@ -129,7 +129,7 @@ fn lengthened(t: Costs) -> Costs
         rest: t.best + 1,
         byte: t.byte,
         count: t.count + 1,
-        after: t.after,
+        beyond: t.beyond,
     }
 }
 
@@ -144,7 +144,7 @@ fn costs_at_end() -> Costs
         rest: 0,
         byte: 0,
         count: 0,
-        after: 0,
+        beyond: 0,
     }
 }
 
@@ -160,7 +160,7 @@ fn scan_byte(row: &[u8], s: Scan, controls: &mut [u8; MAX_WIDTH]) -> Scan
     ensures { λ r. ⌜ (r .at < s .at) × Scanned (now (row .entry)) (now (controls .exit)) (r .at) (r .costs) ⌝ }
 {
     let at = s.at - 1;
-    let t = step(row[at], s.costs);
+    let t = prepend(row[at], s.costs);
     controls[at] = t.control as u8;
     Scan { at, costs: t }
 }
@@ -171,7 +171,7 @@ fn scan_run(row: &[u8], s: Scan, controls: &mut [u8; MAX_WIDTH]) -> Scan
     ensures { λ r. ⌜ (r .at ≤ s .at) × Scanned (now (row .entry)) (now (controls .exit)) (r .at) (r .costs) ⌝ }
 {
     let mut t = s.costs;
-    if t.rest <= t.after + 1 {
+    if t.rest <= t.beyond + 1 {
         return s;
     }
     let mut at = s.at;
@@ -183,8 +183,8 @@ fn scan_run(row: &[u8], s: Scan, controls: &mut [u8; MAX_WIDTH]) -> Scan
     Scan { at, costs: t }
 }
 
-// For each place of the row the control byte that the least body of the rest of the row begins with. Gives the length of the whole
-// row's least body.
+// For each place of the row the control byte that the least body of the rest of the row begins with. Gives the length
+// of the whole row's least body.
 fn plan_of(row: &[u8], controls: &mut [u8; MAX_WIDTH]) -> usize
     requires { ⌜ (length (now row) ≤ 128) × (length (now controls) ≡ 128) ⌝ }
     ensures { λ r. ⌜ r ≡ length (least (now (row .entry))) ⌝ }
@@ -264,7 +264,7 @@ fn emit(row: &[u8], controls: &[u8; MAX_WIDTH], out: &mut [u8]) -> usize
 }
 
 // The length of the row's least body; 0 of a row wider than 128.
-pub fn packed_len(row: &[u8]) -> usize
+pub fn least_len(row: &[u8]) -> usize
     ensures { λ r. ⌜ r ≡ leastLen (now (row .entry)) ⌝ }
 {
     if MAX_WIDTH < row.len() {
@@ -277,20 +277,20 @@ pub fn packed_len(row: &[u8]) -> usize
 // Packs the row to the front of out, which need have no more bytes than are written.
 pub fn pack_into(row: &[u8], out: &mut [u8]) -> RowAnswer
     ensures { λ r. ⌜ r ≡ rowAnswer (packInto (now (row .entry)) (length (now (out .entry)))) ⌝ }
-    ensures { λ r. ⌜ now (out .exit) ≡ rowOutput (packInto (now (row .entry)) (length (now (out .entry)))) (now (out .entry)) ⌝ }
+    ensures { λ r. ⌜ now (out .exit)
+        ≡ rowOutput (packInto (now (row .entry)) (length (now (out .entry)))) (now (out .entry)) ⌝ }
 {
     if packbits::width_out_of_range(row.len()) {
-        return packbits::row_refused(OUT_OF_RANGE);
+        return packbits::row_refused(outcome::refuse(OUT_OF_RANGE));
     }
     let mut controls = [0u8; MAX_WIDTH];
     let bytes = plan_of(row, &mut controls);
     if out.len() < bytes {
-        return packbits::row_refused(AREA_TOO_SHORT);
+        return packbits::row_refused(outcome::refuse(AREA_TOO_SHORT));
     }
     let records = emit(row, &controls, out);
     RowAnswer {
-        number: 0,
-        place: 0,
+        refusal: outcome::none(),
         bytes,
         records,
     }
@@ -299,13 +299,14 @@ pub fn pack_into(row: &[u8], out: &mut [u8]) -> RowAnswer
 // Packs the row to the front of out. An output below 129 bytes is refused with 1.
 pub fn pack_row(row: &[u8], out: &mut [u8]) -> RowAnswer
     ensures { λ r. ⌜ r ≡ rowAnswer (packRow (now (row .entry)) (length (now (out .entry)))) ⌝ }
-    ensures { λ r. ⌜ now (out .exit) ≡ rowOutput (packRow (now (row .entry)) (length (now (out .entry)))) (now (out .entry)) ⌝ }
+    ensures { λ r. ⌜ now (out .exit)
+        ≡ rowOutput (packRow (now (row .entry)) (length (now (out .entry)))) (now (out .entry)) ⌝ }
 {
     if packbits::width_out_of_range(row.len()) {
-        return packbits::row_refused(OUT_OF_RANGE);
+        return packbits::row_refused(outcome::refuse(OUT_OF_RANGE));
     }
     if out.len() < MAX_BODY {
-        return packbits::row_refused(AREA_TOO_SHORT);
+        return packbits::row_refused(outcome::refuse(AREA_TOO_SHORT));
     }
     pack_into(row, out)
 }

@@ -1,5 +1,10 @@
 pub mod Exact
 pub mod Records
 pub mod Row
+pub mod RowsBounds
+pub mod RowsExact
+pub mod RowsLoop
+pub mod RowsSteps
 pub mod Unpack
 pub mod Unpacks
+pub mod UnpacksRows

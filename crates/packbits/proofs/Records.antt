@@ -1,4 +1,4 @@
--- Laws of records. Assumes nothing.
+-- Laws of records.
 use mathlib.Core.Path.{_≡_, refl, sym, ap, _∙_}
 use Prim.Native.Nat.{ℕ, suc, _+_, _-_, _≤_, _<_}
 use native.Mathlib.Omega.{arith}
@@ -40,7 +40,8 @@ module _ (r : Record) (left room : ℕ) where
 
 -- ---- the record at the front of a list
 
-pub whole-record : (x : ℕ) (rest : List ℕ) (room : ℕ) (r : Record) → r ≡ control x → rowLen r ≤ room → packedLen r ≤ length (x ∷ rest) → recordAt (x ∷ rest) room ≡ r
+pub whole-record : (x : ℕ) (rest : List ℕ) (room : ℕ) (r : Record) → r ≡ control x → rowLen r ≤ room
+    → packedLen r ≤ length (x ∷ rest) → recordAt (x ∷ rest) room ≡ r
 unfolding recordAt
 whole-record x rest room r is k l = rw (← is) (judged-whole r (suc (length rest)) room k l)
 
@@ -58,7 +59,8 @@ module _ (s : List ℕ) (at room : ℕ) where
   pub at-control : at < length s → recordAt (drop at s) room ≡ judged (control (getD s at 0)) (length s - at) room
   unfolding recordAt
   at-control h =
-      let long : suc (length (drop (suc at) s)) ≡ length s - at = sym (ap length (drop-cons s at 0 h)) ∙ length-drop at s in
+      let long : suc (length (drop (suc at) s)) ≡ length s - at =
+      sym (ap length (drop-cons s at 0 h)) ∙ length-drop at s in
       rw (drop-cons s at 0 h) (ap (λ (left : ℕ). judged (control (getD s at 0)) left room) long)
 
 -- ---- a whole record takes a byte of input at least and what there is at most, and makes as many bytes as it says, which fit
@@ -69,8 +71,10 @@ pub record Whole (r : Record) (input : List ℕ) (room : ℕ) : Type 0 where
   pub fits : rowLen r ≤ room
   pub makes : length (rowBytes r input) ≡ rowLen r
 
-whole-of : (r : Record) (x : ℕ) (rest : List ℕ) (room : ℕ) → fault r ≡ 0 → packedLen r ≤ suc (length rest) → rowLen r ≤ room → Whole r (x ∷ rest) room
-whole-of (Literal n) x rest room e h k = record { takes = omega arith; has = h; fits = k; makes = length-take-le n rest (omega arith) }
+whole-of : (r : Record) (x : ℕ) (rest : List ℕ) (room : ℕ) → fault r ≡ 0 → packedLen r ≤ suc (length rest)
+    → rowLen r ≤ room → Whole r (x ∷ rest) room
+whole-of (Literal n) x rest room e h k =
+    record { takes = omega arith; has = h; fits = k; makes = length-take-le n rest (omega arith) }
 whole-of (Repeat n) x rest room e h k = record { takes = omega arith; has = h; fits = k; makes = length-replicate n _ }
 whole-of Nothing x rest room e h k = record { takes = omega arith; has = h; fits = k; makes = refl }
 whole-of Truncated x rest room e h k = absurd (omega arith)
@@ -79,19 +83,23 @@ whole-of Crossing x rest room e h k = absurd (omega arith)
 pub is-whole : (input : List ℕ) (room : ℕ) → fault (recordAt input room) ≡ 0 → Whole (recordAt input room) input room
 unfolding recordAt
 is-whole [] room e = absurd (omega arith)
-is-whole (x ∷ rest) room e = go (ltb room (rowLen (control x))) (ltb (suc (length rest)) (packedLen (control x))) refl refl e
+is-whole (x ∷ rest) room e =
+    go (ltb room (rowLen (control x))) (ltb (suc (length rest)) (packedLen (control x))) refl refl e
   where
     go : (b d : Bool) → ltb room (rowLen (control x)) ≡ b → ltb (suc (length rest)) (packedLen (control x)) ≡ d
-        → fault (cond b Crossing (cond d Truncated (control x))) ≡ 0 → Whole (cond b Crossing (cond d Truncated (control x))) (x ∷ rest) room
+        → fault (cond b Crossing (cond d Truncated (control x))) ≡ 0
+        → Whole (cond b Crossing (cond d Truncated (control x))) (x ∷ rest) room
     go true d p q f = absurd (omega arith)
     go false true p q f = absurd (omega arith)
     go false false p q f = whole-of (control x) x rest room f (ltb-false _ _ q) (ltb-false _ _ p)
 
-pub whole-control : (x : ℕ) (rest : List ℕ) (room : ℕ) → fault (recordAt (x ∷ rest) room) ≡ 0 → recordAt (x ∷ rest) room ≡ control x
+pub whole-control : (x : ℕ) (rest : List ℕ) (room : ℕ) → fault (recordAt (x ∷ rest) room) ≡ 0
+    → recordAt (x ∷ rest) room ≡ control x
 unfolding recordAt
 whole-control x rest room = go (ltb room (rowLen (control x))) (ltb (suc (length rest)) (packedLen (control x)))
   where
-    go : (b d : Bool) → fault (cond b Crossing (cond d Truncated (control x))) ≡ 0 → cond b Crossing (cond d Truncated (control x)) ≡ control x
+    go : (b d : Bool) → fault (cond b Crossing (cond d Truncated (control x))) ≡ 0
+        → cond b Crossing (cond d Truncated (control x)) ≡ control x
     go true d f = absurd (omega arith)
     go false true f = absurd (omega arith)
     go false false f = refl
@@ -103,7 +111,8 @@ pub record WholeAt (r : Record) (file : List ℕ) (from room : ℕ) : Type 0 whe
   pub fits : rowLen r ≤ room
   pub makes : length (rowBytes r (drop from file)) ≡ rowLen r
 
-pub whole-at : (file : List ℕ) (from room : ℕ) (r : Record) → r ≡ recordAt (drop from file) room → fault r ≡ 0 → WholeAt r file from room
+pub whole-at : (file : List ℕ) (from room : ℕ) (r : Record) → r ≡ recordAt (drop from file) room → fault r ≡ 0
+    → WholeAt r file from room
 whole-at file from room r is e =
     let w : Whole r (drop from file) room = rw is (is-whole (drop from file) room (rw is at e)) in
     record { takes = w .takes; has = omega (arith, length-drop from file); fits = w .fits; makes = w .makes }

@@ -1,15 +1,11 @@
--- Laws of a row's width, and of what a row's outcome gives. Assumes nothing.
+-- Laws of a row's width.
 use Prim.Native.Nat.{ℕ, _≤_, _<_}
 use native.Mathlib.Omega.{arith}
 use mathlib.Core.Path.{_≡_, refl, _∙_}
 use mathlib.Core.Bool.{Bool, true, false, _||_}
-use mathlib.Core.List.{List}
 use lib.Dec.{ltb, eqb}
 use borrow.Author.Tests.{le-ltb, ne-eqb, eqb-false, ltb-false}
-use Rattle.outcome.specs.Outcome.{Outcome, accepted, refused}
-use Rattle.packbits.specs.Row.{Row, rowAnswer, rowOutput, widthOutOfRange}
-
--- ---- widths
+use Rattle.packbits.specs.Row.{widthOutOfRange}
 
 pub in-range : (width : ℕ) → widthOutOfRange width ≡ false → (0 < width) × (width ≤ 128)
 in-range width = go (eqb width 0) (ltb 128 width) refl refl
@@ -20,9 +16,3 @@ in-range width = go (eqb width 0) (ltb 128 width) refl refl
 
 pub of-range : (width : ℕ) → 0 < width → width ≤ 128 → widthOutOfRange width ≡ false
 of-range width some narrow = simp (ne-eqb width 0 (omega arith), le-ltb 128 width narrow)
-
--- ---- a refusal changes no byte of the output
-
-pub refused-keeps : (o : Outcome Row) (out : List ℕ) → (rowAnswer o .number ≡ 0 → ⊥) → rowOutput o out ≡ out
-refused-keeps (accepted r) out h = absurd (h refl)
-refused-keeps (refused number place) out h = refl

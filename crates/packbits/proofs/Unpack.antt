@@ -1,4 +1,4 @@
--- Laws of `progress` and `unpack`: equations, induction record by record, bounds. Assumes nothing.
+-- Laws of `progress` and `unpack`: equations, induction record by record, bounds.
 use mathlib.Core.Path.{_≡_, refl, sym, ap, _∙_, subst}
 use Prim.Native.Nat.{ℕ, zero, suc, _-_, _≤_, _<_}
 use native.Mathlib.Omega.{arith}
@@ -30,13 +30,15 @@ step-cong r input room next next′ e = go (eqb (fault r) 0) refl
     go false p = refl
 
 -- what a whole record leaves is shorter
-rest-shorter : (input : List ℕ) (room : ℕ) → fault (recordAt input room) ≡ 0 → length (drop (packedLen (recordAt input room)) input) < length input
+rest-shorter : (input : List ℕ) (room : ℕ) → fault (recordAt input room) ≡ 0
+    → length (drop (packedLen (recordAt input room)) input) < length input
 rest-shorter input room e =
     let w = is-whole input room e in
     omega (arith, length-drop (packedLen (recordAt input room)) input, w .takes, w .has)
 
 -- any bound that is large enough gives the same
-same-bound : (f g : ℕ) (input : List ℕ) (room : ℕ) → length input < f → length input < g → progressWithin f input room ≡ progressWithin g input room
+same-bound : (f g : ℕ) (input : List ℕ) (room : ℕ) → length input < f → length input < g
+    → progressWithin f input room ≡ progressWithin g input room
 unfolding progressWithin
 same-bound zero g input room hf hg = absurd (omega arith)
 same-bound (suc f) zero input room hf hg = absurd (omega arith)
@@ -49,7 +51,8 @@ pub progress-full : (input : List ℕ) → progress input 0 ≡ stopped 0
 unfolding progress progressWithin
 progress-full input = refl
 
-progress-step : (input : List ℕ) (room : ℕ) → 0 < room → progress input room ≡ step (recordAt input room) input room progress
+progress-step : (input : List ℕ) (room : ℕ) → 0 < room
+    → progress input room ≡ step (recordAt input room) input room progress
 unfolding progress progressWithin
 progress-step input zero h = absurd (omega arith)
 progress-step input (suc room) h =
@@ -57,7 +60,9 @@ progress-step input (suc room) h =
     (λ e. same-bound (length input) (suc (length (drop (packedLen (recordAt input (suc room))) input))) _ _ (rest-shorter input (suc room) e) (omega arith))
 
 module _ (input : List ℕ) (room : ℕ) (r : Record) (is : r ≡ recordAt input room) (h : 0 < room) where
-  pub progress-whole : fault r ≡ 0 → progress input room ≡ after (packedLen r) (rowBytes r input) (progress (drop (packedLen r) input) (room - rowLen r))
+  pub progress-whole : fault r ≡ 0
+      → progress input room
+      ≡ after (packedLen r) (rowBytes r input) (progress (drop (packedLen r) input) (room - rowLen r))
   unfolding step
   progress-whole e = progress-step input room h ∙ rw (← is) (simp (eq-eqb (fault r) 0 e))
 
@@ -75,7 +80,8 @@ by-fault {X} r yes-case no-case = go (eqb (fault r) 0) refl
     go true p = yes-case (eqb-true _ _ p)
     go false p = no-case (eqb-false _ _ p)
 
--- What holds of a full row, of a record at fault, and of a whole record before progress of which it holds, holds of `progress`.
+-- What holds of a full row, of a record at fault, and of a whole record before progress of which it holds, holds of
+-- `progress`.
 module _ (P : List ℕ → ℕ → Progress → Type 0) (at-full : (input : List ℕ) → P input 0 (stopped 0))
     (at-fault : (input : List ℕ) (room : ℕ) → (fault (recordAt input room) ≡ 0 → ⊥) → P input room (stopped (fault (recordAt input room))))
     (at-whole : (input : List ℕ) (room : ℕ) → 0 < room → fault (recordAt input room) ≡ 0 → (p : Progress) → P (drop (packedLen (recordAt input room)) input) (room - rowLen (recordAt input room)) p
@@ -101,7 +107,8 @@ pub record Bounded (input : List ℕ) (width : ℕ) (p : Progress) : Type 0 wher
   pub fits : length (p .made) ≤ width
   pub full : p .fault ≡ 0 → length (p .made) ≡ width
 
-bounded-after : (input : List ℕ) (room : ℕ) (r : Record) → Whole r input room → (p : Progress) → Bounded (drop (packedLen r) input) (room - rowLen r) p
+bounded-after : (input : List ℕ) (room : ℕ) (r : Record) → Whole r input room → (p : Progress)
+    → Bounded (drop (packedLen r) input) (room - rowLen r) p
     → Bounded input room (after (packedLen r) (rowBytes r input) p)
 bounded-after input room r w p b = record {
   used = omega (arith, length-drop (packedLen r) input, w .has, b .used);
@@ -116,13 +123,15 @@ bounded =
     (λ input room e. record { used = omega arith; counted = omega arith; fits = omega arith; full = λ f. absurd (e f) })
     (λ input room h e p b. bounded-after input room (recordAt input room) (is-whole input room e) p b)
 
--- the same of the outcome: an accepted row has the width that was asked; a refusal has a number, and a place in the input or at its end
+-- the same of the outcome: an accepted row has the width that was asked; a refusal has a number, and a place in the
+-- input or at its end
 abbrev pub RowBounded : List ℕ → ℕ → Outcome Row → Type 0
 RowBounded input width (accepted r) = (length (r .made) ≡ width) × (r .bytes ≤ length input) × (r .records ≤ r .bytes)
-RowBounded input width (refused number place) = (number ≡ 0 → ⊥) × (place ≤ length input)
+RowBounded input width (refused why) = (why .number ≡ 0 → ⊥) × (why .place ≤ length input)
 
 pub row-bounded : (input : List ℕ) (width : ℕ) → RowBounded input width (unpack input width)
 unfolding outcomeOf
 row-bounded input width =
     let b = bounded input width in
-    cond-eqb (RowBounded input width) (progress input width .fault) 0 (λ e. (b .full e, b .used, b .counted)) (λ e. (e, b .used))
+    cond-eqb (RowBounded input width) (progress input width .fault) 0 (λ e. (b .full e, b .used, b .counted))
+    (λ e. (e, b .used))

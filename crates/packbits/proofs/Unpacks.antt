@@ -1,4 +1,4 @@
--- Laws of the relation `Unpacks`. Assumes nothing.
+-- Laws of the relation `Unpacks`.
 use mathlib.Core.List.{List, _∷_, _++_}
 use Prim.Native.Nat.{ℕ, _-_}
 use native.Mathlib.Omega.{arith}
@@ -11,7 +11,8 @@ use Rattle.packbits.specs.Unpacks.{Unpacks, full, literal, repeat, nothi
 pub unpacks-bytes : {body row : List ℕ} {n : ℕ} → Unpacks body row n → Bytes row → Bytes body
 unpacks-bytes full b = b
 unpacks-bytes (literal {x} bytes {body} {row} h l u) b =
-    bytes-cons x (bytes ++ body) (omega arith) (bytes-append bytes body (bytes-front bytes row b) (unpacks-bytes u (bytes-behind bytes row b)))
+    bytes-cons x (bytes ++ body) (omega arith)
+    (bytes-append bytes body (bytes-front bytes row b) (unpacks-bytes u (bytes-behind bytes row b)))
 unpacks-bytes (repeat {x} {byte} {body} {row} h k u) b =
     bytes-cons x (byte ∷ body) k
     (bytes-cons byte body (bytes-repeated (257 - x) byte row (omega arith) b) (unpacks-bytes u (bytes-behind (replicate (257 - x) byte) row b)))

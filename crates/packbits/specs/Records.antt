@@ -1,5 +1,4 @@
 -- One PackBits record: what a control byte says, and the record at the front of an input (document 01, "Packed rows").
--- Assumes nothing: these are definitions.
 use Prim.Native.Nat.{ℕ, _+_, _-_}
 use mathlib.Core.Bool.{cond}
 use mathlib.Core.List.{List, [], _∷_}
@@ -9,8 +8,8 @@ use Rattle.outcome.specs.Refusal.{inputEnds, recordCrosses}
 use Rattle.packbits.specs.declared.Record.{Record}
 use Rattle.packbits.specs.declared.Record.the-variants.{Literal, Repeat, Nothing, Truncated, Crossing}
 
--- The record that control byte x begins. Signed, x is 0 to 127 for a literal of x + 1 bytes, -128 (unsigned 128) for nothing,
--- and -127 to -1 (unsigned 129 to 255) for a repeat, -x + 1 times (257 less the unsigned byte).
+-- The record that control byte x begins. Signed, x is 0 to 127 for a literal of x + 1 bytes, -128 (unsigned 128) for
+-- nothing, and -127 to -1 (unsigned 129 to 255) for a repeat, -x + 1 times (257 less the unsigned byte).
 unfoldable pub control : ℕ → Record
 control x = cond (ltb x 128) (Literal (x + 1)) (cond (eqb x 128) Nothing (Repeat (257 - x)))
 
@@ -46,8 +45,8 @@ fault Nothing = 0
 fault Truncated = inputEnds
 fault Crossing = recordCrosses
 
--- A record, or its fault, with so many bytes of input left, its control byte included, and so much room in the row. The row's end is
--- judged before missing input.
+-- A record, or its fault, with so many bytes of input left, its control byte included, and so much room in the row. The
+-- row's end is judged before missing input.
 abbrev pub judged : Record → ℕ → ℕ → Record
 judged r left room = cond (ltb room (rowLen r)) Crossing (cond (ltb left (packedLen r)) Truncated r)
 

@@ -1,11 +1,10 @@
 -- One row unpacked from the front of an input (document 01, "Packed rows", "Order of judging": row unpack).
--- Assumes nothing: these are definitions.
 use Prim.Native.Nat.{ℕ, zero, suc, _+_, _-_}
 use mathlib.Core.Bool.{cond}
 use mathlib.Core.List.{List, [], _++_}
 use lib.ListN.{length, drop}
 use lib.Dec.{ltb, eqb}
-use Rattle.outcome.specs.Outcome.{Outcome, refused, refuseIf, placed}
+use Rattle.outcome.specs.Outcome.{Outcome, refused, refusal, refuseIf, placed}
 use Rattle.outcome.specs.Refusal.{areaTooShort, inputEnds, outOfRange}
 use Rattle.packbits.specs.declared.Record.{Record}
 use Rattle.packbits.specs.Records.{packedLen, rowLen, rowBytes, fault, recordAt}
@@ -28,18 +27,22 @@ stopped number = record { bytes = 0; records = 0; made = []; fault = number }
 
 -- a whole record of so many packed bytes, which makes these bytes of the row, before further progress
 abbrev pub after : ℕ → List ℕ → Progress → Progress
-after bytes made p = record { bytes = bytes + p .bytes; records = suc (p .records); made = made ++ p .made; fault = p .fault }
+after bytes made p =
+    record { bytes = bytes + p .bytes; records = suc (p .records); made = made ++ p .made; fault = p .fault }
 
 -- A whole record, and then what `next` makes of the input and the room that it leaves; a record at fault stops.
 unfoldable pub step : Record → List ℕ → ℕ → (List ℕ → ℕ → Progress) → Progress
 step r input room next =
-    cond (eqb (fault r) 0) (after (packedLen r) (rowBytes r input) (next (drop (packedLen r) input) (room - rowLen r))) (stopped (fault r))
+    cond (eqb (fault r) 0) (after (packedLen r) (rowBytes r input) (next (drop (packedLen r) input) (room - rowLen r)))
+    (stopped (fault r))
 
--- A row is finished the moment it is full. Each record takes a byte at least, so one more than the input's length bounds the recursion.
+-- A row is finished the moment it is full. Each record takes a byte at least, so one more than the input's length
+-- bounds the recursion.
 unfoldable pub progressWithin : ℕ → List ℕ → ℕ → Progress
 progressWithin zero input room = stopped inputEnds
 progressWithin (suc bound) input zero = stopped 0
-progressWithin (suc bound) input (suc room) = step (recordAt input (suc room)) input (suc room) (λ i r. progressWithin bound i r)
+progressWithin (suc bound) input (suc room) =
+    step (recordAt input (suc room)) input (suc room) (λ i r. progressWithin bound i r)
 
 -- how far unpacking a row of so many bytes from the front of the input comes
 unfoldable pub progress : List ℕ → ℕ → Progress
@@ -47,7 +50,7 @@ progress input width = progressWithin (suc (length input)) input width
 
 -- a full row is accepted; a fault is refused, its place the number of packed bytes before it
 unfoldable pub outcomeOf : Progress → Outcome Row
-outcomeOf p = cond (eqb (p .fault) 0) (done (p .bytes) (p .records) (p .made)) (refused (p .fault) (p .bytes))
+outcomeOf p = cond (eqb (p .fault) 0) (done (p .bytes) (p .records) (p .made)) (refused (refusal (p .fault) (p .bytes)))
 
 -- a row of so many bytes, unpacked from the front of the input; places count from the input's start
 abbrev pub unpack : List ℕ → ℕ → Outcome Row

@@ -1,11 +1,11 @@
--- The relation "a byte string, however long, unpacks to a row" (document 01, "Packed rows"). Assumes nothing: these are definitions.
+-- The relation "a byte string, however long, unpacks to a row" (document 01, "Packed rows").
 use Prim.Native.Nat.{ℕ, suc, _+_, _-_, _<_}
 use mathlib.Core.Path.{_≡_}
 use mathlib.Core.List.{List, [], _∷_, _++_}
 use lib.ListN.{length, replicate}
 
--- `Unpacks body row n`: the n records of body fill row with exactly its bytes, none lacks bytes or crosses the row's end, and the record
--- that fills the row is the last.
+-- `Unpacks body row n`: the n records of body fill row with exactly its bytes, none lacks bytes or crosses the row's
+-- end, and the record that fills the row is the last.
 pub data Unpacks : List ℕ → List ℕ → ℕ → Type 0 where
   -- a full row takes no further record
   full : Unpacks [] [] 0

@@ -1,5 +1,5 @@
-// PackBits records: what a control byte says, and the record at an offset of a file. Definitions: specs/. Rows are unpacked in the
-// crate unpack and packed in the crate pack.
+// PackBits records: what a control byte says, and the record at an offset of a file. Definitions: specs/. Rows are
+// unpacked in the crate unpack and packed in the crate pack.
 ghost use mathlib.Core.Path.{_≡_};
 ghost use Prim.Native.Nat.{_<_};
 ghost use lib.ListN.{drop};
@@ -8,15 +8,16 @@ ghost use Rattle.packbits.specs.Records.{control, packedLen, rowLen, fau
 ghost use Rattle.packbits.specs.Row.{rowAnswer, widthOutOfRange};
 use outcome::INPUT_ENDS;
 use outcome::RECORD_CROSSES;
+use outcome::Refusal;
 
 // The widest row.
 pub const MAX_WIDTH: usize = 128;
 
-// What stands at a control byte, with so much room left in the row.
+// What stands at a control byte, with some room left in the row.
 pub enum Record {
-    // The next so many bytes as they stand.
+    // The next n bytes as they stand.
     Literal(u8),
-    // The next byte so many times.
+    // The next byte n times.
     Repeat(u8),
     // The control byte alone, which makes nothing.
     Nothing,
@@ -26,23 +27,20 @@ pub enum Record {
     Crossing,
 }
 
-// The answer of a row packed or unpacked: the packed bytes, written or used, and the records. A refusal has its number and place,
-// and 0 in all else.
+// The answer of a row packed or unpacked: the packed bytes, written or used, and the records; both 0 of a refusal.
 #[repr(C)]
 pub struct RowAnswer {
-    pub number: u8,
-    pub place: usize,
+    pub refusal: Refusal,
     pub bytes: usize,
     pub records: usize,
 }
 
-// The answer of a row refused with a number that has no place.
-pub fn row_refused(number: u8) -> RowAnswer
-    ensures { λ r. ⌜ r ≡ rowAnswer (refused number 0) ⌝ }
+// The answer of a refused row.
+pub fn row_refused(refusal: Refusal) -> RowAnswer
+    ensures { λ r. ⌜ r ≡ rowAnswer (refused refusal) ⌝ }
 {
     RowAnswer {
-        number,
-        place: 0,
+        refusal,
         bytes: 0,
         records: 0,
     }
@@ -94,8 +92,8 @@ pub fn fault_of(r: Record) -> u8
     }
 }
 
-// The record that a control byte begins, or its fault. So many bytes of input are left, the control byte included. The row's end is
-// judged before missing input.
+// The record that control byte x begins, or its fault; left counts the input's bytes from x on, x included. The row's
+// end is judged before missing input.
 fn record_of(x: u8, left: usize, room: usize) -> Record
     requires { ⌜ 0 < left ⌝ }
     ensures { λ r. ⌜ r ≡ judged (control x) left room ⌝ }

@@ -1,2 +1,4 @@
+pub mod Reading
 pub mod Tables
 pub mod Whole
+pub mod Writing

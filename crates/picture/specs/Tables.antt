@@ -1,7 +1,6 @@
--- The animation tail's four tables of four words, and a picture without anything (document 01, "The base order"). Assumes nothing: these
--- are definitions.
+-- A picture, and its animation tail's four tables of four words (document 01, "The base order").
 use Prim.Native.Nat.{ℕ, _+_, _*_}
-use mathlib.Core.Bool.{false}
+use mathlib.Core.Bool.{true, false}
 use mathlib.Core.List.{List, [], map, flatten}
 use lib.ListN.{getD, replicate}
 use Rattle.lists.specs.Tabulate.{tabulate}
@@ -28,6 +27,24 @@ tablesOf tables = tabulate 4 (λ i. getD tables i (record { words = [] }) .words
 unfoldable pub tablesBytes : List (List ℕ) → List ℕ
 tablesBytes tables = flatten (map wordsBytes tables)
 
+-- a tail from an offset of a file on
+abbrev pub tailAt : List ℕ → ℕ → List Table
+tailAt file at = held (tablesAt file at)
+
+-- the bytes of a tail
+abbrev pub tailBytes : List Table → List ℕ
+tailBytes tail = tablesBytes (tablesOf tail)
+
+-- a picture without a tail: its words are all zero
+abbrev pub withoutTail : ℕ → List ℕ → Picture
+withoutTail resolution palette =
+    record { resolution = resolution; palette = palette; «tail_present» = false; tail = held zeroTables }
+
+-- a picture with a tail
+abbrev pub withTail : ℕ → List ℕ → List Table → Picture
+withTail resolution palette tail =
+    record { resolution = resolution; palette = palette; «tail_present» = true; tail = tail }
+
 -- the picture of a refusal: zero in all
 abbrev pub noPicture : Picture
-noPicture = record { resolution = 0; palette = replicate 16 0; tailed = false; tail = held zeroTables }
+noPicture = withoutTail 0 (replicate 16 0)

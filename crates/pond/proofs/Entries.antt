@@ -1,4 +1,4 @@
--- Laws of a legend's entries: a register's pixels are sure, unsure or of another class. Assumes nothing.
+-- Laws of a legend's entries: a register's pixels are sure, unsure or of another class.
 use mathlib.Core.Path.{_≡_}
 use mathlib.Core.Bool.{Bool, true, false, cond}
 use mathlib.Core.List.{List}
@@ -11,11 +11,11 @@ use Rattle.lists.proofs.Sum.{sum-le}
 use Rattle.pond.specs.declared.Legend.{Legend}
 use Rattle.pond.specs.declared.PondCounts.{PondCounts}
 use Rattle.pond.specs.Entries.{classOf, confidenceOf, isSure, isUnsure, isOther}
-use Rattle.pond.specs.Reading.{entryCounts}
+use Rattle.pond.specs.Reading.{pixels, entryCounts}
 
 -- the three add up to the register's pixels
 pub entry-total : (l : Legend) (class floor v n : ℕ)
-    → entryCounts l class floor v n .sure + entryCounts l class floor v n .unsure + entryCounts l class floor v n .other ≡ n
+    → pixels (entryCounts l class floor v n) ≡ n
 unfolding entryCounts isSure isUnsure isOther
 entry-total l class floor v n = go (eqb (classOf l v) class) (leb floor (confidenceOf l v))
   where
@@ -30,7 +30,7 @@ pub entries-le : (l : Legend) (class floor : ℕ) (counts : List ℕ) (b n : ℕ
     × (sum n (λ v. entryCounts l class floor v (getD counts v 0) .unsure) ≤ n * b)
     × (sum n (λ v. entryCounts l class floor v (getD counts v 0) .other) ≤ n * b)
 entries-le l class floor counts b n h =
-    let t : (v : ℕ) → entry v .sure + entry v .unsure + entry v .other ≡ getD counts v 0 = λ v. entry-total l class floor v (getD counts v 0) in (
+    let t : (v : ℕ) → pixels (entry v) ≡ getD counts v 0 = λ v. entry-total l class floor v (getD counts v 0) in (
       sum-le n b (λ v. entry v .sure) (λ v. omega (arith, t v, h v)),
       sum-le n b (λ v. entry v .unsure) (λ v. omega (arith, t v, h v)),
       sum-le n b (λ v. entry v .other) (λ v. omega (arith, t v, h v)),

@@ -1,9 +1,9 @@
--- A legend's entries: sure, unsure or other (document 01, "pond reading"). Assumes nothing: these are definitions.
-use Prim.Native.Nat.{ℕ, zero, suc}
-use mathlib.Core.Bool.{Bool, true, cond, _&&_}
-use mathlib.Core.List.{List}
+-- A legend's entries: sure, unsure or other (document 01, "pond reading").
+use Prim.Native.Nat.{ℕ}
+use mathlib.Core.Bool.{Bool, cond}
 use lib.ListN.{getD}
 use lib.Dec.{leb, eqb}
+use Rattle.lists.specs.All.{allFirst}
 use Rattle.pond.specs.declared.Legend.{Legend}
 
 -- the class and the confidence of register v
@@ -13,10 +13,17 @@ classOf l v = getD (l .classes) v 0
 abbrev pub confidenceOf : Legend → ℕ → ℕ
 confidenceOf l v = getD (l .confidences) v 0
 
--- the first n confidences are at most 100
-unfoldable pub confidencesFit : List ℕ → ℕ → Bool
-confidencesFit confidences zero = true
-confidencesFit confidences (suc n) = leb (getD confidences n 0) 100 && confidencesFit confidences n
+-- the highest confidence
+abbrev pub maxConfidence : ℕ
+maxConfidence = 100
+
+-- a confidence of 0 to 100
+abbrev pub confidenceFits : ℕ → Bool
+confidenceFits confidence = leb confidence maxConfidence
+
+-- each confidence of a legend is one
+abbrev pub confidencesFit : Legend → Bool
+confidencesFit l = allFirst 16 confidenceFits (l .confidences)
 
 -- 1 for a register of the class, at or above the floor, else 0
 unfoldable pub isSure : Legend → ℕ → ℕ → ℕ → ℕ

@@ -3,11 +3,16 @@ ghost use mathlib.Core.Path.{_≡_};
 ghost use Prim.Native.Nat.{ℕ, _<_, _≤_};
 ghost use lib.ListN.{getD};
 ghost use Rattle.outcome.specs.Outcome.{refused};
+ghost use Rattle.tally.specs.Counts.{mostPixels};
 ghost use Rattle.pond.specs.Entries.{confidencesFit};
 ghost use Rattle.pond.specs.Reading.{entryCounts, pondFrom, pondReading, pondAnswer};
 use outcome::OUT_OF_RANGE;
+use outcome::Refusal;
 use tally::Rectangle;
 use tally::tally;
+
+// The highest confidence.
+pub const MAX_CONFIDENCE: u8 = 100;
 
 // What each of 16 registers stands for: a class, and a confidence of 0 to 100.
 #[repr(C)]
@@ -16,12 +21,10 @@ pub struct Legend {
     pub confidences: [u8; 16],
 }
 
-// The answer of a pond reading: how many pixels are sure, unsure and of another class. A refusal has its number, place 0, and 0 in
-// all else.
+// The answer of a pond reading: how many pixels are sure, unsure and of another class; all 0 of a refusal.
 #[repr(C)]
 pub struct PondAnswer {
-    pub number: u8,
-    pub place: usize,
+    pub refusal: Refusal,
     pub sure: u32,
     pub unsure: u32,
     pub other: u32,
@@ -36,13 +39,13 @@ pub struct PondCounts {
 
 // Whether each confidence of a legend is at most 100.
 fn confidences_fit(legend: Legend) -> bool
-    ensures { λ b. ⌜ b ≡ confidencesFit (legend .confidences) 16 ⌝ }
+    ensures { λ b. ⌜ b ≡ confidencesFit legend ⌝ }
 {
     let confidences = legend.confidences;
     let mut fit = true;
     let mut v: usize = 0;
     while v < 16 {
-        if confidences[v] > 100 {
+        if MAX_CONFIDENCE < confidences[v] {
             fit = false;
         }
         v += 1;
@@ -78,9 +81,9 @@ fn entry_counts(legend: Legend, v: usize, class: u8, floor: u8, count: u32) -> P
     }
 }
 
-// The pixels of all registers, counted by register. No count exceeds 256,000: 640 x 400, the pixels of the largest screen.
+// The pixels of all registers, counted by register. No count exceeds the pixels of the largest screen.
 fn pond_counts(counts: [u32; 16], legend: Legend, class: u8, floor: u8) -> PondCounts
-    requires { ⌜ ((v : ℕ) → getD counts v 0 ≤ 256000) ⌝ }
+    requires { ⌜ ((v : ℕ) → getD counts v 0 ≤ mostPixels) ⌝ }
     ensures { λ p. ⌜ p ≡ pondFrom counts class floor legend ⌝ }
 {
     let mut sure: u32 = 0;
@@ -102,45 +105,45 @@ fn pond_counts(counts: [u32; 16], legend: Legend, class: u8, floor: u8) -> PondC
 }
 
 // The answer of a refused pond reading.
-fn refused_pond(number: u8, place: usize) -> PondAnswer
-    ensures { λ p. ⌜ p ≡ pondAnswer (refused number place) ⌝ }
+fn pond_refused(refusal: Refusal) -> PondAnswer
+    ensures { λ p. ⌜ p ≡ pondAnswer (refused refusal) ⌝ }
 {
     PondAnswer {
-        number,
-        place,
+        refusal,
         sure: 0,
         unsure: 0,
         other: 0,
     }
 }
 
-// Pond reading: the pixels of a rectangle that are of a class, at or above a confidence floor and below it, and of another class.
+// Pond reading: the pixels of a rectangle that are of a class, at or above a confidence floor and below it, and of
+// another class.
 pub fn read_pond(
     screen: &[u8],
     resolution: u16,
-    area: Rectangle,
+    rectangle: Rectangle,
     class: u8,
     floor: u8,
     legend: Legend,
 ) -> PondAnswer
-    ensures { λ p. ⌜ p ≡ pondAnswer (pondReading (now (screen .entry)) resolution area class floor legend) ⌝ }
+    ensures { λ p. ⌜ p ≡ pondAnswer (pondReading (now (screen .entry)) resolution rectangle class floor legend) ⌝ }
 {
-    let tallied = tally(screen, resolution, area);
-    if tallied.number != 0 {
-        return refused_pond(tallied.number, tallied.place);
+    let tallied = tally(screen, resolution, rectangle);
+    let refusal = tallied.refusal;
+    if refusal.number != 0 {
+        return pond_refused(refusal);
     }
-    if 100 < floor {
-        return refused_pond(OUT_OF_RANGE, 0);
+    if MAX_CONFIDENCE < floor {
+        return pond_refused(outcome::refuse(OUT_OF_RANGE));
     }
     let fit = confidences_fit(legend);
     if !fit {
-        return refused_pond(OUT_OF_RANGE, 0);
+        return pond_refused(outcome::refuse(OUT_OF_RANGE));
     }
     let counts = tallied.counts;
     let pond = pond_counts(counts, legend, class, floor);
     PondAnswer {
-        number: 0,
-        place: 0,
+        refusal: outcome::none(),
         sure: pond.sure,
         unsure: pond.unsure,
         other: pond.other,

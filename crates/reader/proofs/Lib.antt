@@ -1,3 +1,1 @@
-pub mod BodyRows
-pub mod Reading
-pub mod WholeReading
+pub mod Choice

@@ -1,4 +1,4 @@
--- Laws of decimal numbers. Assumes nothing.
+-- Laws of decimal numbers.
 use mathlib.Core.Path.{_≡_}
 use mathlib.Core.List.{List, [], _∷_}
 use native.Mathlib.Decide.{decLe}
@@ -40,8 +40,10 @@ digits-last (suc k) (suc f) n h w =
     let big : 10 ^ suc k ≤ n = rw last at (w .2 (omega arith)) in
     let more : 10 ≤ n = omega (arith, pow-suc 10 k, one-le-pow k 10 (omega arith)) in
     let low : n % 10 < 10 = omega arith in
+    let fewer : Fewest 10 1 (n / 10) (suc k) =
+    (omega arith, omega (arith, w .1), λ _. rw less (omega (arith, pow-suc 10 k))) in
     let rest : digits 10 (suc k) (n / 10) ≡ lastDigits (suc f) (n / 10) =
-    digits-last k f (n / 10) (le-of-suc-le-suc h) (omega arith, omega (arith, w .1), λ _. rw less (omega (arith, pow-suc 10 k))) in
+    digits-last k f (n / 10) (le-of-suc-le-suc h) fewer in
     rw (le-ltb n 10 more, lt-ltb (n % 10) 10 low, rest)
 
 -- a number below 2 ^ 64 has at most 20 digits
@@ -51,7 +53,8 @@ fewest-le k n h w = go (decLe k 20)
     go : Dec (k ≤ 20) → k ≤ 20
     go (no l) =
         let large : 10 ^ (k - 1) ≤ n = w .2 (omega arith) in
-        let power : 10 ^ 20 ≤ 10 ^ (k - 1) = pow-le-pow-right {n = 10} (omega arith) {i = 20} {j = k - 1} (omega arith) in
+        let power : 10 ^ 20 ≤ 10 ^ (k - 1) =
+        pow-le-pow-right {n = 10} (omega arith) {i = 20} {j = k - 1} (omega arith) in
         absurd (omega arith)
     go (yes l) = l
 

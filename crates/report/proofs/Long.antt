@@ -1,4 +1,4 @@
--- A file longer than any picture: a program may stop reading at its first 32,067 bytes, or later. Assumes nothing.
+-- A file longer than any picture: a program may stop reading at its first 32,067 bytes, or later.
 use mathlib.Core.Path.{_≡_, refl, sym, ap, _∙_}
 use mathlib.Core.List.{List}
 use Prim.Native.Nat.{ℕ, _%_, _≤_, _<_}
@@ -7,48 +7,60 @@ use lib.ListN.{length, take}
 use lib.Seq.{length-take-le, getD-take}
 use borrow.Author.Tests.{le-ltb}
 use Rattle.lists.proofs.Cond.{cond-elim}
-use Rattle.outcome.specs.Outcome.{Outcome, refused}
+use Rattle.outcome.specs.Outcome.{Outcome, accepted, refuse, bind}
 use Rattle.outcome.specs.Refusal.{wrongLength}
 use Rattle.words.specs.Word.{wordAt}
 use Rattle.resolution.specs.declared.Chosen.{Chosen}
 use Rattle.resolution.specs.declared.Chosen.the-variants.{Known, Unknown}
-use Rattle.resolution.specs.declared.Resolution.{Resolution}
 use Rattle.resolution.specs.Shapes.{screenBytes}
 use Rattle.resolution.specs.Choice.{chosen, judgeWith, withResolution}
-use Rattle.reader.specs.Reading.{Reading, degasResolution, degasPacked, readChosen, readDegas, readFile}
-use Rattle.reader.proofs.Reading.{raw-length, packed-long, file-degas}
+use Rattle.picture.specs.Reading.{Reading}
+use Rattle.degas.specs.declared.Header.{Header}
+use Rattle.degas.specs.Layout.{headerLength, eliteLength}
+use Rattle.degas.specs.Opening.{resolutionNumber, opening}
+use Rattle.degas.specs.Reading.{readOpened, readDegas}
+use Rattle.degas.proofs.Opening.{headerOf}
+use Rattle.degas.proofs.ReadDegas.{raw-length, packed-long, read-fits}
+use Rattle.reader.specs.Reading.{kindDegas, readFile}
+use Rattle.reader.proofs.Choice.{file-degas}
 use Rattle.report.specs.Summary.{summaryText, summary}
 
-module _ (file : List ℕ) (long : 32066 < length file) where
-  chosen-long : (r : Resolution) → readChosen file r ≡ refused wrongLength 0
-  unfolding readChosen
-  chosen-long r =
-      cond-elim (λ (o : Outcome Reading). o ≡ refused wrongLength 0) (degasPacked file) (λ _. packed-long file r (omega arith))
-      (λ _. raw-length file (λ e. omega arith) (λ e. omega arith))
+module _ (file : List ℕ) (long : eliteLength < length file) where
+  opened-long : (h : Header) → readOpened file h ≡ refuse wrongLength
+  opened-long h =
+      cond-elim (λ (o : Outcome Reading). o ≡ refuse wrongLength) (h .packed)
+      (λ _. packed-long file (h .resolution) (omega arith))
+      (λ _. raw-length file (h .resolution) (λ e. omega arith) (λ e. omega arith))
 
   -- it is refused for its resolution or for its length
-  degas-long : readDegas file ≡ withResolution (degasResolution file) (λ r. refused wrongLength 0)
-  unfolding readDegas
-  degas-long = rw (le-ltb (length file) 34 (omega arith)) (go (chosen (degasResolution file)))
+  degas-long : readDegas file screenBytes ≡ withResolution (resolutionNumber file) (λ r. refuse wrongLength)
+  unfolding opening
+  degas-long =
+      read-fits file screenBytes (omega arith)
+      ∙ rw (le-ltb (length file) headerLength (omega arith)) (go (chosen (resolutionNumber file)))
     where
-      go : (c : Chosen) → judgeWith c (λ r. readChosen file r) ≡ judgeWith c (λ r. refused wrongLength 0)
-      go (Known r) = chosen-long r
+      go : (c : Chosen) → bind (judgeWith c (λ r. accepted (headerOf file r))) (readOpened file)
+          ≡ judgeWith c (λ r. refuse wrongLength)
+      go (Known r) = opened-long (headerOf file r)
       go Unknown = refl
+
+  read-degas-long : readFile kindDegas file screenBytes
+      ≡ withResolution (resolutionNumber file) (λ r. refuse wrongLength)
+  read-degas-long = file-degas kindDegas file screenBytes refl ∙ degas-long
 
 first-word : (file : List ℕ) (n : ℕ) → 1 < n → wordAt (take n file) 0 ≡ wordAt file 0
 unfolding wordAt
 first-word file n h = rw (getD-take n file 0 0 (omega arith), getD-take n file 1 0 h)
 
--- of such a file the first 32,067 bytes, or more, decide
-read-long : (file : List ℕ) (n : ℕ) → 32066 < n → n ≤ length file → readFile 1 (take n file) screenBytes ≡ readFile 1 file screenBytes
-read-long file n h k =
-    file-degas (take n file) 1 screenBytes (omega arith) refl
-    ∙ degas-long (take n file) (omega (arith, length-take-le n file k))
-    ∙ ap (λ (w : ℕ). withResolution (w % 4) (λ r. refused wrongLength 0)) (first-word file n (omega arith))
-    ∙ sym (degas-long file (omega arith))
-    ∙ sym (file-degas file 1 screenBytes (omega arith) refl)
+module _ (file : List ℕ) (n : ℕ) (long : eliteLength < n) (h : n ≤ length file) where
+  -- of such a file the first 32,067 bytes, or more, decide
+  read-long : readFile kindDegas (take n file) screenBytes ≡ readFile kindDegas file screenBytes
+  read-long =
+      read-degas-long (take n file) (omega (arith, length-take-le n file h))
+      ∙ ap (λ (w : ℕ). withResolution (w % 4) (λ r. refuse wrongLength)) (first-word file n (omega arith))
+      ∙ sym (read-degas-long file (omega arith))
 
--- and so they decide its summary
-pub summary-long : (file : List ℕ) (n : ℕ) → 32066 < n → n ≤ length file → summary (take n file) ≡ summary file
-unfolding summary
-summary-long file n h k = ap summaryText (read-long file n h k)
+  -- and so they decide its summary
+  pub summary-long : summary (take n file) ≡ summary file
+  unfolding summary
+  summary-long = ap summaryText read-long

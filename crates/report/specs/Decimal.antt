@@ -1,4 +1,4 @@
--- A number in decimal, in ASCII. Assumes nothing: these are definitions.
+-- A number in decimal, in ASCII.
 use Prim.Native.Nat.{ℕ, zero, suc, _+_, _/_, _%_}
 use mathlib.Core.Bool.{cond}
 use mathlib.Core.List.{List, [], _∷_, _++_}
@@ -9,6 +9,10 @@ unfoldable pub lastDigits : ℕ → ℕ → List ℕ
 lastDigits zero n = []
 lastDigits (suc k) n = cond (ltb n 10) ((48 + n) ∷ []) (lastDigits k (n / 10) ++ (48 + n % 10) ∷ [])
 
--- all digits of n, which a number below 2 ^ 64 has at most 20 of
+-- the most digits of a number below 2 ^ 64
+abbrev pub maxDigits : ℕ
+maxDigits = 20
+
+-- all digits of a number below 2 ^ 64
 unfoldable pub decimal : ℕ → List ℕ
-decimal n = lastDigits 20 n
+decimal n = lastDigits maxDigits n

@@ -1,4 +1,4 @@
--- The words of the summary, in ASCII (document 01, "Examples to hold to"). Assumes nothing: these are definitions.
+-- The words of the summary, in ASCII (document 01, "Examples to hold to").
 use Prim.Native.Nat.{ℕ}
 use mathlib.Core.List.{List, [], _∷_}
 

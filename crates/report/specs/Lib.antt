@@ -1,3 +1,4 @@
 pub mod Decimal
 pub mod Labels
+pub mod Lines
 pub mod Summary

@@ -1,10 +1,11 @@
--- The summary of a DEGAS file as text (document 01, "Examples to hold to"). Assumes nothing: these are definitions.
+-- The summary of a DEGAS file as text (document 01, "Examples to hold to").
 use Prim.Native.Nat.{ℕ}
 use mathlib.Core.Bool.{cond}
-use mathlib.Core.List.{List, _++_, map, flatten}
+use mathlib.Core.List.{List, _++_}
 use lib.ListN.{length, replicate}
 use lib.Dec.{ltb}
-use Rattle.outcome.specs.Outcome.{Outcome, accepted, refused, refuseIf}
+use Rattle.lists.specs.Over.{over}
+use Rattle.outcome.specs.Outcome.{Outcome, accepted, refused, none, refuseIf, later}
 use Rattle.outcome.specs.Refusal.{areaTooShort}
 use Rattle.resolution.specs.declared.Chosen.{Chosen}
 use Rattle.resolution.specs.declared.Chosen.the-variants.{Known, Unknown}
@@ -13,38 +14,16 @@ use Rattle.resolution.specs.Shapes.{screenBytes, widthOf, heightOf}
 use Rattle.resolution.specs.Choice.{chosen}
 use Rattle.tally.specs.declared.Rectangle.{Rectangle}
 use Rattle.tally.specs.Counts.{counts}
-use Rattle.reader.specs.Reading.{Reading, readFile}
+use Rattle.picture.specs.Reading.{Reading}
+use Rattle.reader.specs.Reading.{kindDegas, readFile}
 use Rattle.report.specs.declared.SummaryAnswer.{SummaryAnswer}
-use Rattle.report.specs.Decimal.{decimal}
-use Rattle.report.specs.Labels.{resolutionLabel, recordsLabel, bodyLabel, tailLabel, tallyLabel, refusedLabel, atLabel, blank, newline}
+use Rattle.report.specs.Lines.{numberLines, tallyLine, refusalLine}
 
 -- the bytes that a summary is lent, at least
 abbrev pub summaryBytes : ℕ
 summaryBytes = 512
 
--- ---- lines
-
--- a label and a number
-unfoldable pub item : List ℕ → ℕ → List ℕ
-item label n = label ++ decimal n
-
--- the same, as a line
-unfoldable pub line : List ℕ → ℕ → List ℕ
-line label n = item label n ++ newline
-
--- counts of registers, each after a blank
-unfoldable pub items : List ℕ → List ℕ
-items sums = flatten (map (item blank) sums)
-
--- the same, as the tally's line
-unfoldable pub tallyLine : List ℕ → List ℕ
-tallyLine sums = tallyLabel ++ items sums ++ newline
-
--- refused N at P
-unfoldable pub refusalLine : ℕ → ℕ → List ℕ
-refusalLine number place = item refusedLabel number ++ line atLabel place
-
--- ---- the summary
+-- ---- the text
 
 abbrev pub wholeScreen : Resolution → Rectangle
 wholeScreen r = record { left = 0; top = 0; columns = widthOf r; lines = heightOf r }
@@ -54,32 +33,32 @@ abbrev pub screenCounts : List ℕ → Chosen → List ℕ
 screenCounts s (Known r) = counts s r (wholeScreen r)
 screenCounts s Unknown = replicate 16 0
 
--- a line for each of these numbers
-unfoldable pub numbersText : ℕ → ℕ → ℕ → ℕ → List ℕ
-numbersText resolution records body tail = line resolutionLabel resolution ++ line recordsLabel records ++ line bodyLabel body ++ line tailLabel tail
-
 -- the five lines of a reading: the tail is 1 where present, else 0; the tally is that of the whole screen
 unfoldable pub readingText : Reading → List ℕ
 readingText q =
-    numbersText (q .picture .resolution) (q .records) (q .body) (cond (q .picture .tailed) 1 0)
+    numberLines (q .picture .resolution) (q .records) (q .body) (cond (q .picture .«tail_present») 1 0)
     ++ tallyLine (screenCounts (q .screen) (chosen (q .picture .resolution)))
 
 -- five lines of an accepted reading, one of a refusal
 abbrev pub summaryText : Outcome Reading → List ℕ
 summaryText (accepted q) = readingText q
-summaryText (refused number place) = refusalLine number place
+summaryText (refused why) = refusalLine why
 
 -- the summary of a file, which is read as DEGAS
 unfoldable pub summary : List ℕ → List ℕ
-summary file = summaryText (readFile 1 file screenBytes)
+summary file = summaryText (readFile kindDegas file screenBytes)
 
 -- ---- what is given back
 
--- the summary, for an output of so many bytes
+-- the summary, for an output of `out` bytes
 unfoldable pub summarised : List ℕ → ℕ → Outcome (List ℕ)
 summarised file out = refuseIf (ltb out summaryBytes) areaTooShort (accepted (summary file))
 
--- a refusal gives its number, its place, and 0 in all else
+-- a refusal gives 0 for the length
 abbrev pub summaryAnswer : Outcome (List ℕ) → SummaryAnswer
-summaryAnswer (accepted text) = record { number = 0; place = 0; length = length text }
-summaryAnswer (refused number place) = record { number = number; place = place; length = 0 }
+summaryAnswer (accepted text) = record { refusal = none; length = length text }
+summaryAnswer (refused why) = record { refusal = why; length = 0 }
+
+-- the text over the output's front; after a refusal the output as it was
+abbrev pub summaryOutput : Outcome (List ℕ) → List ℕ → List ℕ
+summaryOutput o out = later o (λ text. over text out) out

@@ -5,13 +5,17 @@ ghost use mathlib.Core.List.{_++_};
 ghost use Prim.Native.Nat.{_≤_};
 ghost use lib.ListN.{length};
 ghost use Rattle.io.specs.Counts.{Counts};
-ghost use Rattle.lists.specs.Over.{over};
-ghost use Rattle.outcome.specs.Outcome.{later};
+ghost use Rattle.lists.specs.Written.{Written};
+ghost use Rattle.outcome.specs.Outcome.{refused};
 ghost use Rattle.resolution.specs.Choice.{chosen};
+ghost use Rattle.resolution.specs.Shapes.{screenBytes};
 ghost use Rattle.tally.specs.Counts.{counts};
-ghost use Rattle.report.specs.Summary.{wholeScreen, screenCounts, numbersText, tallyLine, summary, summarised, summaryAnswer};
+ghost use Rattle.report.specs.Lines.{numberLines, tallyLine};
+ghost use Rattle.report.specs.Summary.{summaryBytes, wholeScreen, screenCounts, summary};
+ghost use Rattle.report.specs.Summary.{summarised, summaryAnswer, summaryOutput};
 use outcome::AREA_TOO_SHORT;
-use reader::DEGAS;
+use outcome::Refusal;
+use reader::KIND_DEGAS;
 use resolution::Chosen;
 use resolution::Resolution;
 use resolution::SCREEN_BYTES;
@@ -22,96 +26,87 @@ mod text;
 // The bytes that a summary is lent, at least.
 pub const SUMMARY_BYTES: usize = 512;
 
-// The answer of a summary: the text's length. A refusal has its number, place 0, and 0 for the length.
+// The answer of a summary: the text's length, 0 of a refusal.
 pub struct SummaryAnswer {
-    pub number: u8,
-    pub place: usize,
+    pub refusal: Refusal,
     pub length: usize,
+}
+
+// The answer of a refused summary.
+fn summary_refused(refusal: Refusal) -> SummaryAnswer
+    ensures { λ a. ⌜ a ≡ summaryAnswer (refused refusal) ⌝ }
+{
+    SummaryAnswer { refusal, length: 0 }
 }
 
 // Writes the summary of a file, read as DEGAS, over the front of an output.
 pub fn summarise(file: &[u8], out: &mut [u8]) -> SummaryAnswer
-    ensures answer { λ r. ⌜ r ≡ summaryAnswer (summarised (now (file .entry)) (length (now (out .entry)))) ⌝ }
-    ensures text { λ _. ⌜ now (out .exit) ≡ later (summarised (now (file .entry)) (length (now (out .entry)))) (λ t. over t (now (out .entry))) (now (out .entry)) ⌝ }
-    ensures within { λ r. ⌜ Counts (r .length) (now (out .exit)) ⌝ }
+    ensures answer { λ a. ⌜ a ≡ summaryAnswer (summarised (now (file .entry)) (length (now (out .entry)))) ⌝ }
+    ensures text { λ _. ⌜ now (out .exit)
+        ≡ summaryOutput (summarised (now (file .entry)) (length (now (out .entry)))) (now (out .entry)) ⌝ }
+    ensures within { λ a. ⌜ Counts (a .length) (now (out .exit)) ⌝ }
 {
     if out.len() < SUMMARY_BYTES {
-        return SummaryAnswer {
-            number: AREA_TOO_SHORT,
-            place: 0,
-            length: 0,
-        };
+        return summary_refused(outcome::refuse(AREA_TOO_SHORT));
     }
     let length = put_summary(file, out);
     SummaryAnswer {
-        number: 0,
-        place: 0,
+        refusal: outcome::none(),
         length,
     }
 }
 
-// The summary. Answers its length, as all here do that write.
+// The summary. Answers its length, as each function here does that writes.
 fn put_summary(file: &[u8], out: &mut [u8]) -> usize
-    requires { ⌜ 512 ≤ length (now out) ⌝ }
-    ensures { λ r. ⌜ (r ≡ length (summary (now (file .entry)))) × (r ≤ 512) ⌝ }
-    ensures { λ _. ⌜ now (out .exit) ≡ over (summary (now (file .entry))) (now (out .entry)) ⌝ }
+    requires { ⌜ summaryBytes ≤ length (now out) ⌝ }
+    ensures part { λ n. ⌜ Written (summary (now (file .entry))) (now (out .entry)) (now (out .exit)) n ⌝ }
+    ensures size { λ n. ⌜ n ≤ summaryBytes ⌝ }
 {
     let mut screen = [0u8; SCREEN_BYTES];
-    let reading = reader::read(DEGAS, file, &mut screen);
-    if reading.number != 0 {
-        return text::put_refusal(reading.number, reading.place, out);
+    let reading = reader::read(KIND_DEGAS, file, &mut screen);
+    let refusal = reading.refusal;
+    if refusal.number != 0 {
+        return text::put_refusal(refusal, out);
     }
     let picture = reading.picture;
     let resolution = picture.resolution;
-    let sums = screen_counts(&screen, resolution);
-    let tail = tail_number(picture.tailed);
-    put_reading(resolution, reading.records, reading.body, tail, sums, out)
+    let counts = screen_counts(&screen, resolution);
+    let tail = tail_number(picture.tail_present);
+    put_reading(resolution, reading.records, reading.body, tail, counts, out)
 }
 
 // 1 for a tail that is present, else 0.
-fn tail_number(tailed: bool) -> usize
-    ensures { λ r. ⌜ r ≡ cond tailed 1 0 ⌝ }
+fn tail_number(present: bool) -> usize
+    ensures { λ n. ⌜ n ≡ cond present 1 0 ⌝ }
 {
-    if tailed { 1 } else { 0 }
+    if present { 1 } else { 0 }
 }
 
-// The tally of the whole screen at a resolution, by its number.
-fn screen_counts(screen: &[u8], number: u16) -> [u32; 16]
-    requires { ⌜ 32000 ≤ length (now screen) ⌝ }
-    ensures { λ r. ⌜ r ≡ screenCounts (now (screen .entry)) (chosen number) ⌝ }
+// The tally of the whole screen at the resolution that a number names.
+fn screen_counts(screen: &[u8], resolution: u16) -> [u32; 16]
+    requires { ⌜ screenBytes ≤ length (now screen) ⌝ }
+    ensures { λ c. ⌜ c ≡ screenCounts (now (screen .entry)) (chosen resolution) ⌝ }
 {
-    match Resolution::from_number(number) {
-        Chosen::Known(r) => whole_counts(screen, number, r),
+    match Resolution::from_number(resolution) {
+        Chosen::Known(r) => whole_counts(screen, resolution, r),
         Chosen::Unknown => [0u32; 16],
     }
 }
 
-// The same, where the number names a resolution.
-fn whole_counts(screen: &[u8], number: u16, r: Resolution) -> [u32; 16]
-    requires { ⌜ 32000 ≤ length (now screen) ⌝ }
-    requires { ⌜ chosen number ≡ Chosen.Known r ⌝ }
-    ensures { λ v. ⌜ v ≡ counts (now (screen .entry)) r (wholeScreen r) ⌝ }
+// The same, where the number names resolution r.
+fn whole_counts(screen: &[u8], resolution: u16, r: Resolution) -> [u32; 16]
+    requires { ⌜ screenBytes ≤ length (now screen) ⌝ }
+    requires { ⌜ chosen resolution ≡ Chosen.Known r ⌝ }
+    ensures { λ c. ⌜ c ≡ counts (now (screen .entry)) r (wholeScreen r) ⌝ }
 {
-    let area = Rectangle {
+    let rectangle = Rectangle {
         left: 0,
         top: 0,
         columns: r.width(),
         lines: r.height(),
     };
-    let t = tally::tally(screen, number, area);
-    t.counts
-}
-
-// The four lines of a reading's numbers.
-fn put_numbers(resolution: u16, records: usize, body: usize, tail: usize, out: &mut [u8]) -> usize
-    requires { ⌜ 113 ≤ length (now out) ⌝ }
-    ensures { λ r. ⌜ (r ≡ length (numbersText resolution records body tail)) × (r ≤ 113) ⌝ }
-    ensures { λ _. ⌜ now (out .exit) ≡ over (numbersText resolution records body tail) (now (out .entry)) ⌝ }
-{
-    let mut end = text::put_line(b"resolution ", resolution as usize, out);
-    end += text::put_line(b"records ", records, &mut out[end..]);
-    end += text::put_line(b"body ", body, &mut out[end..]);
-    end + text::put_line(b"tail ", tail, &mut out[end..])
+    let tallied = tally::tally(screen, resolution, rectangle);
+    tallied.counts
 }
 
 // The five lines of a reading.
@@ -120,13 +115,14 @@ fn put_reading(
     records: usize,
     body: usize,
     tail: usize,
-    sums: [u32; 16],
+    counts: [u32; 16],
     out: &mut [u8],
 ) -> usize
-    requires { ⌜ 512 ≤ length (now out) ⌝ }
-    ensures { λ r. ⌜ (r ≡ length (numbersText resolution records body tail ++ tallyLine sums)) × (r ≤ 512) ⌝ }
-    ensures { λ _. ⌜ now (out .exit) ≡ over (numbersText resolution records body tail ++ tallyLine sums) (now (out .entry)) ⌝ }
+    requires { ⌜ summaryBytes ≤ length (now out) ⌝ }
+    ensures part { λ n. ⌜ Written (numberLines resolution records body tail ++ tallyLine counts)
+        (now (out .entry)) (now (out .exit)) n ⌝ }
+    ensures size { λ n. ⌜ n ≤ summaryBytes ⌝ }
 {
-    let end = put_numbers(resolution, records, body, tail, out);
-    end + text::put_tally(sums, &mut out[end..])
+    let end = text::put_numbers(resolution, records, body, tail, out);
+    end + text::put_tally(counts, &mut out[end..])
 }

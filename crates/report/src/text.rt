@@ -1,28 +1,32 @@
-// Lines of text, written to the front of an output.
-ghost use mathlib.Core.Path.{_≡_};
-ghost use Prim.Native.Nat.{_+_, _≤_};
+// Lines of text, written to the front of an output. Each function answers the length of what it writes.
+ghost use Prim.Native.Nat.{_≤_};
 ghost use lib.ListN.{length};
-ghost use Rattle.lists.specs.Over.{over};
-ghost use Rattle.report.specs.Decimal.{decimal};
+ghost use Rattle.lists.specs.Written.{Written};
+ghost use Rattle.report.specs.Decimal.{maxDigits, decimal};
 ghost use Rattle.report.specs.Labels.{blank};
-ghost use Rattle.report.specs.Summary.{item, line, items, tallyLine, refusalLine};
+ghost use Rattle.report.specs.Lines.{item, line, items, tallyLine, refusalLine, numberLines};
+ghost use Rattle.report.specs.Lines.{maxItem, maxLine, maxItems, maxTallyLine, maxRefusalLine, maxNumberLines};
+use outcome::Refusal;
 
-// A number in decimal. Answers its length, as all here do.
+// The most digits of a number.
+const MAX_DIGITS: usize = 20;
+
+// A number in decimal.
 fn put_decimal(n: usize, out: &mut [u8]) -> usize
-    requires { ⌜ 20 ≤ length (now out) ⌝ }
-    ensures { λ r. ⌜ (r ≡ length (decimal n)) × (r ≤ 20) ⌝ }
-    ensures { λ _. ⌜ now (out .exit) ≡ over (decimal n) (now (out .entry)) ⌝ }
+    requires { ⌜ maxDigits ≤ length (now out) ⌝ }
+    ensures part { λ r. ⌜ Written (decimal n) (now (out .entry)) (now (out .exit)) r ⌝ }
+    ensures size { λ r. ⌜ r ≤ maxDigits ⌝ }
 {
-    let mut digits = [0u8; 20];
+    let mut digits = [0u8; MAX_DIGITS];
     let count = io::decimal(n as u64, &mut digits);
     bytes::copy(&digits[..count], out)
 }
 
 // A label and a number.
 fn put_item(label: &[u8], n: usize, out: &mut [u8]) -> usize
-    requires { ⌜ length (now label) + 20 ≤ length (now out) ⌝ }
-    ensures { λ r. ⌜ (r ≡ length (item (now (label .entry)) n)) × (r ≤ length (now (label .entry)) + 20) ⌝ }
-    ensures { λ _. ⌜ now (out .exit) ≡ over (item (now (label .entry)) n) (now (out .entry)) ⌝ }
+    requires { ⌜ maxItem (now label) ≤ length (now out) ⌝ }
+    ensures part { λ r. ⌜ Written (item (now (label .entry)) n) (now (out .entry)) (now (out .exit)) r ⌝ }
+    ensures size { λ r. ⌜ r ≤ maxItem (now (label .entry)) ⌝ }
 {
     let end = bytes::copy(label, out);
     end + put_decimal(n, &mut out[end..])
@@ -30,57 +34,73 @@ fn put_item(label: &[u8], n: usize, out: &mut [u8]) -> usize
 
 // A label and a number, as a line.
 pub(crate) fn put_line(label: &[u8], n: usize, out: &mut [u8]) -> usize
-    requires { ⌜ length (now label) + 21 ≤ length (now out) ⌝ }
-    ensures { λ r. ⌜ (r ≡ length (line (now (label .entry)) n)) × (r ≤ length (now (label .entry)) + 21) ⌝ }
-    ensures { λ _. ⌜ now (out .exit) ≡ over (line (now (label .entry)) n) (now (out .entry)) ⌝ }
+    requires { ⌜ maxLine (now label) ≤ length (now out) ⌝ }
+    ensures part { λ r. ⌜ Written (line (now (label .entry)) n) (now (out .entry)) (now (out .exit)) r ⌝ }
+    ensures size { λ r. ⌜ r ≤ maxLine (now (label .entry)) ⌝ }
 {
     let end = put_item(label, n, out);
-    out[end] = b'\n';
-    end + 1
+    end + bytes::copy(b"\n", &mut out[end..])
 }
 
 // A register's count after a blank.
 fn put_count(n: u32, out: &mut [u8]) -> usize
-    requires { ⌜ 21 ≤ length (now out) ⌝ }
-    ensures { λ r. ⌜ (r ≡ length (item blank n)) × (r ≤ 21) ⌝ }
-    ensures { λ _. ⌜ now (out .exit) ≡ over (item blank n) (now (out .entry)) ⌝ }
+    requires { ⌜ maxItem blank ≤ length (now out) ⌝ }
+    ensures part { λ r. ⌜ Written (item blank n) (now (out .entry)) (now (out .exit)) r ⌝ }
+    ensures size { λ r. ⌜ r ≤ maxItem blank ⌝ }
 {
     put_item(b" ", n as usize, out)
 }
 
 // The counts of 16 registers.
-fn put_counts(sums: [u32; 16], out: &mut [u8]) -> usize
-    requires { ⌜ 336 ≤ length (now out) ⌝ }
-    ensures { λ r. ⌜ (r ≡ length (items sums)) × (r ≤ 336) ⌝ }
-    ensures { λ _. ⌜ now (out .exit) ≡ over (items sums) (now (out .entry)) ⌝ }
+fn put_counts(counts: [u32; 16], out: &mut [u8]) -> usize
+    requires { ⌜ maxItems ≤ length (now out) ⌝ }
+    ensures part { λ r. ⌜ Written (items counts) (now (out .entry)) (now (out .exit)) r ⌝ }
+    ensures size { λ r. ⌜ r ≤ maxItems ⌝ }
 {
     let mut end: usize = 0;
     let mut i: usize = 0;
     while i < 16 {
-        end += put_count(sums[i], &mut out[end..]);
+        end += put_count(counts[i], &mut out[end..]);
         i += 1;
     }
     end
 }
 
 // The counts of 16 registers, as the tally's line.
-pub(crate) fn put_tally(sums: [u32; 16], out: &mut [u8]) -> usize
-    requires { ⌜ 342 ≤ length (now out) ⌝ }
-    ensures { λ r. ⌜ (r ≡ length (tallyLine sums)) × (r ≤ 342) ⌝ }
-    ensures { λ _. ⌜ now (out .exit) ≡ over (tallyLine sums) (now (out .entry)) ⌝ }
+pub(crate) fn put_tally(counts: [u32; 16], out: &mut [u8]) -> usize
+    requires { ⌜ maxTallyLine ≤ length (now out) ⌝ }
+    ensures part { λ r. ⌜ Written (tallyLine counts) (now (out .entry)) (now (out .exit)) r ⌝ }
+    ensures size { λ r. ⌜ r ≤ maxTallyLine ⌝ }
 {
-    let start = bytes::copy(b"tally", out);
-    let end = start + put_counts(sums, &mut out[start..]);
-    out[end] = b'\n';
-    end + 1
+    let mut end = bytes::copy(b"tally", out);
+    end += put_counts(counts, &mut out[end..]);
+    end + bytes::copy(b"\n", &mut out[end..])
 }
 
 // The line of a refusal.
-pub(crate) fn put_refusal(number: u8, place: usize, out: &mut [u8]) -> usize
-    requires { ⌜ 64 ≤ length (now out) ⌝ }
-    ensures { λ r. ⌜ (r ≡ length (refusalLine number place)) × (r ≤ 64) ⌝ }
-    ensures { λ _. ⌜ now (out .exit) ≡ over (refusalLine number place) (now (out .entry)) ⌝ }
+pub(crate) fn put_refusal(refusal: Refusal, out: &mut [u8]) -> usize
+    requires { ⌜ maxRefusalLine ≤ length (now out) ⌝ }
+    ensures part { λ r. ⌜ Written (refusalLine refusal) (now (out .entry)) (now (out .exit)) r ⌝ }
+    ensures size { λ r. ⌜ r ≤ maxRefusalLine ⌝ }
 {
-    let end = put_item(b"refused ", number as usize, out);
-    end + put_line(b" at ", place, &mut out[end..])
+    let end = put_item(b"refused ", refusal.number as usize, out);
+    end + put_line(b" at ", refusal.place, &mut out[end..])
+}
+
+// The four lines of a reading's numbers.
+pub(crate) fn put_numbers(
+    resolution: u16,
+    records: usize,
+    body: usize,
+    tail: usize,
+    out: &mut [u8],
+) -> usize
+    requires { ⌜ maxNumberLines ≤ length (now out) ⌝ }
+    ensures part { λ r. ⌜ Written (numberLines resolution records body tail) (now (out .entry)) (now (out .exit)) r ⌝ }
+    ensures size { λ r. ⌜ r ≤ maxNumberLines ⌝ }
+{
+    let mut end = put_line(b"resolution ", resolution as usize, out);
+    end += put_line(b"records ", records, &mut out[end..]);
+    end += put_line(b"body ", body, &mut out[end..]);
+    end + put_line(b"tail ", tail, &mut out[end..])
 }

@@ -1,50 +1,18 @@
--- Laws of the three shapes, each by its three cases. Assumes nothing.
+-- Laws of the three shapes, each by its three cases.
 use mathlib.Core.Path.{_≡_, refl}
 use Prim.Native.Nat.{_*_, _≤_, _<_}
 use native.Mathlib.Omega.{arith}
 use Rattle.resolution.specs.declared.Resolution.{Resolution}
 use Rattle.resolution.specs.declared.Resolution.the-variants.{Low, Medium, High}
-use Rattle.resolution.specs.Shapes.{screenBytes, widthOf, heightOf, planesOf, rowBytesOf, planeRowsOf, groupsOf, lineBytesOf, registersOf}
+use Rattle.resolution.specs.Shapes.{widthOf, heightOf, planesOf, rowBytesOf, lineBytesOf, registersOf}
 
--- every screen has 32,000 bytes
-pub planeRows-rowBytes : (r : Resolution) → planeRowsOf r * rowBytesOf r ≡ screenBytes
-planeRows-rowBytes Low = refl
-planeRows-rowBytes Medium = refl
-planeRows-rowBytes High = refl
-
-pub height-lineBytes : (r : Resolution) → heightOf r * lineBytesOf r ≡ screenBytes
-height-lineBytes Low = refl
-height-lineBytes Medium = refl
-height-lineBytes High = refl
-
--- a plane row for each plane of each scan line, one bit a pixel
-pub height-planes : (r : Resolution) → heightOf r * planesOf r ≡ planeRowsOf r
-height-planes Low = refl
-height-planes Medium = refl
-height-planes High = refl
-
+-- one bit a pixel
 pub rowBytes-width : (r : Resolution) → rowBytesOf r * 8 ≡ widthOf r
 rowBytes-width Low = refl
 rowBytes-width Medium = refl
 rowBytes-width High = refl
 
--- a plane row has a word of each group
-pub rowBytes-groups : (r : Resolution) → rowBytesOf r ≡ groupsOf r * 2
-rowBytes-groups Low = refl
-rowBytes-groups Medium = refl
-rowBytes-groups High = refl
-
-pub lineBytes-groups : (r : Resolution) → lineBytesOf r ≡ groupsOf r * (planesOf r * 2)
-lineBytes-groups Low = refl
-lineBytes-groups Medium = refl
-lineBytes-groups High = refl
-
 -- no shape is empty
-pub groups-pos : (r : Resolution) → 0 < groupsOf r
-groups-pos Low = omega arith
-groups-pos Medium = omega arith
-groups-pos High = omega arith
-
 pub planes-pos : (r : Resolution) → 0 < planesOf r
 planes-pos Low = omega arith
 planes-pos Medium = omega arith
@@ -70,11 +38,6 @@ pub rowBytes-le : (r : Resolution) → rowBytesOf r ≤ 80
 rowBytes-le Low = omega arith
 rowBytes-le Medium = omega arith
 rowBytes-le High = omega arith
-
-pub planeRows-le : (r : Resolution) → planeRowsOf r ≤ 800
-planeRows-le Low = omega arith
-planeRows-le Medium = omega arith
-planeRows-le High = omega arith
 
 pub planes-le : (r : Resolution) → planesOf r ≤ 4
 planes-le Low = omega arith

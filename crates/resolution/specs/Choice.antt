@@ -1,9 +1,8 @@
--- The resolution that a number names; above 2 there is none (document 01, "Numbers given back": 5), and what is judged with it.
--- Assumes nothing: these are definitions.
+-- The resolution that a number names, and what is judged with it (document 01, "Numbers given back": 5 for a number above 2).
 use Prim.Native.Nat.{ℕ}
 use mathlib.Core.Bool.{cond}
 use lib.Dec.{ltb, eqb}
-use Rattle.outcome.specs.Outcome.{Outcome, refused, refuseIf}
+use Rattle.outcome.specs.Outcome.{Outcome, refuse, refuseIf}
 use Rattle.outcome.specs.Refusal.{areaTooShort, unknownResolution}
 use Rattle.resolution.specs.declared.Chosen.{Chosen}
 use Rattle.resolution.specs.declared.Chosen.the-variants.{Known, Unknown}
@@ -15,10 +14,16 @@ use Rattle.resolution.specs.Shapes.{screenBytes}
 abbrev pub chosen : ℕ → Chosen
 chosen n = cond (eqb n 0) (Known Low) (cond (eqb n 1) (Known Medium) (cond (eqb n 2) (Known High) Unknown))
 
+-- `chosen` undone (proofs/Choice.antt, `chosen-number` and `number-chosen`)
+abbrev pub numberOf : Resolution → ℕ
+numberOf Low = 0
+numberOf Medium = 1
+numberOf High = 2
+
 -- judged further with the resolution, or refused where there is none
 abbrev pub judgeWith : {A : Type 0} → Chosen → (Resolution → Outcome A) → Outcome A
 judgeWith (Known r) further = further r
-judgeWith Unknown further = refused unknownResolution 0
+judgeWith Unknown further = refuse unknownResolution
 
 -- the same from the resolution's number
 abbrev pub withResolution : {A : Type 0} → ℕ → (Resolution → Outcome A) → Outcome A

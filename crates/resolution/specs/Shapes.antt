@@ -1,5 +1,6 @@
--- The three resolutions (document 01, "Three resolutions"). Assumes nothing: these are definitions.
+-- The three resolutions (document 01, "Three resolutions").
 use Prim.Native.Nat.{ℕ, _*_, _/_, _^_}
+use Rattle.raster.specs.declared.Raster.{Raster}
 use Rattle.resolution.specs.declared.Resolution.{Resolution}
 use Rattle.resolution.specs.declared.Resolution.the-variants.{Low, Medium, High}
 use Rattle.resolution.specs.declared.Shape.{Shape}
@@ -44,3 +45,7 @@ lineBytesOf r = rowBytesOf r * planesOf r
 -- registers that the planes can name
 abbrev pub registersOf : Resolution → ℕ
 registersOf r = 2 ^ planesOf r
+
+-- the raster of a screen; the shape's other numbers are those of the raster (proofs/Rasters.antt)
+abbrev pub rasterOf : Resolution → Raster
+rasterOf r = record { lines = heightOf r; groups = groupsOf r; planes = planesOf r }

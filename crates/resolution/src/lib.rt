@@ -1,7 +1,9 @@
-// The three resolutions of the ST screen: an enum, with the shape of each as an associated constant. Definitions: specs/.
+// The three resolutions of the ST screen, with the shape of each as an associated constant. Definitions: specs/.
 ghost use mathlib.Core.Path.{_≡_};
-ghost use Rattle.resolution.specs.Shapes.{shapeOf, widthOf, heightOf, planesOf, rowBytesOf, planeRowsOf, groupsOf, lineBytesOf, registersOf};
-ghost use Rattle.resolution.specs.Choice.{chosen};
+ghost use Rattle.resolution.specs.Shapes.{shapeOf, widthOf, heightOf, planesOf, rowBytesOf, planeRowsOf};
+ghost use Rattle.resolution.specs.Shapes.{groupsOf, lineBytesOf, registersOf, rasterOf};
+ghost use Rattle.resolution.specs.Choice.{chosen, numberOf};
+use raster::Raster;
 
 // Bytes of a screen, at every resolution.
 pub const SCREEN_BYTES: usize = 32000;
@@ -68,6 +70,17 @@ impl Resolution {
         }
     }
 
+    // The number that names it.
+    pub fn number(self) -> u16
+        ensures { λ n. ⌜ n ≡ numberOf self ⌝ }
+    {
+        match self {
+            Resolution::Low => 0,
+            Resolution::Medium => 1,
+            Resolution::High => 2,
+        }
+    }
+
     // Its width, height, planes, plane row bytes and plane rows.
     pub fn shape(self) -> Shape
         ensures { λ r. ⌜ r ≡ shapeOf self ⌝ }
@@ -129,6 +142,17 @@ impl Resolution {
             Resolution::Low => 160,
             Resolution::Medium => 160,
             Resolution::High => 80,
+        }
+    }
+
+    // The raster of a screen.
+    pub fn raster(self) -> Raster
+        ensures { λ r. ⌜ r ≡ rasterOf self ⌝ }
+    {
+        Raster {
+            lines: self.height() as u16,
+            groups: self.groups() as u8,
+            planes: self.planes() as u8,
         }
     }
 

@@ -1,82 +1,102 @@
--- Ticket 12, one packed file per picture: what holds of the rewriting of an accepted packed DEGAS file. Assumes nothing.
+-- Change request 12, one packed file per picture: what holds of the rewriting of an accepted packed DEGAS file.
 use mathlib.Core.Path.{_≡_, refl, sym, ap, ap₂, _∙_}
-use mathlib.Core.Logic.{_↔_, inl, inr}
-use mathlib.Core.Bool.{Bool, true, false, false≢true}
+use mathlib.Core.Logic.{_↔_}
+use mathlib.Core.Bool.{true, false, false≢true}
 use mathlib.Core.List.{List, [], _++_}
 use Prim.Native.Nat.{ℕ, _+_, _/_, _%_, _^_, _≤_}
 use native.Mathlib.Omega.{arith}
 use lib.ListN.{length, drop}
 use lib.Seq.{take-all, take-append-seam}
-use borrow.Author.Tests.{eq-eqb}
+use borrow.Author.Tests.{lt-leb, eq-eqb}
 use Rattle.lists.specs.Bytes.{Bytes}
 use Rattle.lists.specs.Over.{over}
 use Rattle.lists.proofs.Over.{length-over, getD-over-in}
 use Rattle.lists.proofs.Cond.{cond-ltb}
-use Rattle.outcome.specs.Outcome.{Outcome, accepted, later}
+use Rattle.outcome.specs.Outcome.{Outcome, accepted, bind, map, later}
 use Rattle.words.specs.Word.{wordAt}
-use Rattle.resolution.specs.declared.Chosen.the-variants.{Known}
+use Rattle.pack.specs.LeastRows.{leastRows, leastRowsRecords}
+use Rattle.raster.specs.PlaneRows.{planeRows}
+use Rattle.raster.proofs.PlaneRows.{planeRows-front}
 use Rattle.resolution.specs.declared.Resolution.{Resolution}
-use Rattle.resolution.specs.Shapes.{screenBytes}
-use Rattle.resolution.specs.Choice.{chosen}
-use Rattle.resolution.proofs.Choice.{known-le}
-use Rattle.pack_rows.specs.LeastRows.{leastRows, leastRowsRecords}
-use Rattle.screen.specs.PlaneRows.{planeRows}
-use Rattle.screen.proofs.PlaneRows.{planeRows-front}
+use Rattle.resolution.specs.Choice.{numberOf}
+use Rattle.resolution.specs.Shapes.{screenBytes, rasterOf}
+use Rattle.resolution.proofs.Choice.{known-le, chosen-number}
+use Rattle.resolution.proofs.Rasters.{raster-bytes}
+use Rattle.bodies.specs.Packing.{leastBody, leastBodyRecords}
+use Rattle.bodies.proofs.Least.{least-shortest}
+use Rattle.bodies.proofs.Packing.{packed, limit-below}
 use Rattle.picture.specs.declared.Picture.{Picture}
-use Rattle.picture.specs.declared.Table.{Table}
-use Rattle.picture.specs.Whole.{Whole}
-use Rattle.reader.specs.Reading.{Reading, degasResolution, degasPacked, readFile}
-use Rattle.reader.proofs.Reading.{file-degas, whole-read}
-use Rattle.writer.specs.Layout.{degasHeader, tailBytes, packedFile}
-use Rattle.writer.specs.Write.{Writing, leastBody, writeFile, writeAnswer}
-use Rattle.writer.proofs.FileLayout.{header-word, length-packedFile}
-use Rattle.writer.proofs.WriteFile.{packed-accepted, form-packed, file-form}
-use Rattle.demands.specs.Accepted.{PackedFits, DegasFits, Accepts, packedGiven, degasGiven, given}
-use Rattle.demands.proofs.Acceptance.{packed-length, reading}
-use Rattle.demands.proofs.LeastBodies.{least-shortest}
+use Rattle.picture.specs.Tables.{tailBytes, withTail}
+use Rattle.picture.specs.Whole.{WholePicture}
+use Rattle.picture.specs.Reading.{Reading}
+use Rattle.picture.specs.Writing.{Writing, fileBytes, writeAnswer}
+use Rattle.picture.proofs.Whole.{whole-with-tail}
+use Rattle.degas.specs.declared.Form.the-variants.{Packed}
+use Rattle.degas.specs.Layout.{paletteStart, headerLength, bodyLimit, packedBit, header, packedFile}
+use Rattle.degas.specs.Opening.{isPacked}
+use Rattle.degas.specs.Reading.{readDegas}
+use Rattle.degas.specs.Writing.{packedWriting, writePacked}
+use Rattle.degas.specs.Accepts as fitting
+use Rattle.degas.specs.Accepts.{PackedFits, Fits, AcceptsDegas, packedGiven, fitsGiven, degasGiven}
+use Rattle.degas.proofs.Acceptance.{packed-length, degas-acceptance}
+use Rattle.degas.proofs.FileLayout.{header-word, length-packedFile}
+use Rattle.degas.proofs.ReadDegas.{read-fits}
+use Rattle.degas.proofs.ScreenRaster.{in-range}
+use Rattle.degas.proofs.WriteDegas.{write-passed}
+use Rattle.reader.specs.Reading.{kindDegas, readFile}
+use Rattle.reader.proofs.Choice.{file-degas}
+use Rattle.writer.specs.Writing.{formPacked, writeFile}
+use Rattle.writer.proofs.Choice.{form-packed}
 use Rattle.demands.proofs.RoundTrips.{written-read}
 use Rattle.rewriting.specs.Rewrite.{Lent, writeRead, rewrite, fileIn, rewritten, ReadsPacked, SamePicture, NeverLonger}
 
 -- ---- what is written is packed
 
-packed-bit : (p : Picture) → Whole p → p .resolution ≤ 2 → (body : List ℕ) → degasPacked (packedFile p body) ≡ true
+packed-bit : (p : Picture) → WholePicture p → p .resolution ≤ 2 → (body : List ℕ) → isPacked (packedFile p body) ≡ true
 unfolding packedFile
 packed-bit p whole small body =
-    let file : List ℕ = degasHeader (32768 + p .resolution) p ++ (body ++ tailBytes p) in
-    let word : wordAt file 0 ≡ 32768 + p .resolution = header-word p whole (32768 + p .resolution) (body ++ tailBytes p) in
+    let rest : List ℕ = body ++ tailBytes (p .tail) in
+    let file : List ℕ = header (packedBit + p .resolution) p ++ rest in
+    let word : wordAt file 0 ≡ packedBit + p .resolution = header-word p whole (packedBit + p .resolution) rest in
     eq-eqb (wordAt file 0 / 2 ^ 15 % 2) 1 (omega (arith, word, small))
 
 -- ---- a packed file whose reading is accepted: its parts
 
+by-kind : (file : List ℕ) (area : ℕ) → readFile kindDegas file area ≡ readDegas file area
+by-kind file area = file-degas kindDegas file area refl
+
 -- the area has 32,000 bytes or more, and then gives what any other of that size does
 area-room : {file : List ℕ} {q : Reading} (f : ReadsPacked file q) → screenBytes ≤ f .area
-unfolding readFile
+unfolding readDegas
 area-room {file} {q} f =
     cond-ltb (λ (o : Outcome Reading). o ≡ accepted q → screenBytes ≤ f .area) (f .area) screenBytes
     (λ short e. let z : _≡_ {A = ℕ} 0 1 = cc in absurd (omega arith))
     (λ full e. full)
-    (f .reads)
+    (sym (by-kind file (f .area)) ∙ f .reads)
 
-reads-into : {file : List ℕ} {q : Reading} → ReadsPacked file q → (area : ℕ) → screenBytes ≤ area → readFile 1 file area ≡ accepted q
-reads-into {file} f area room = file-degas file 1 area room refl ∙ sym (file-degas file 1 (f .area) (area-room f) refl) ∙ f .reads
+reads-into : {file : List ℕ} {q : Reading} → ReadsPacked file q → (area : ℕ) → screenBytes ≤ area
+    → readFile kindDegas file area ≡ accepted q
+reads-into {file} f area room =
+    by-kind file area
+    ∙ read-fits file area room
+    ∙ sym (read-fits file (f .area) (area-room f))
+    ∙ sym (by-kind file (f .area))
+    ∙ f .reads
 
 record Parts (file : List ℕ) (q : Reading) : Type 0 where
   r : Resolution
-  known : chosen (degasResolution file) ≡ Known r
   fits : PackedFits file r
   gives : q ≡ packedGiven fits
 
 parts : {file : List ℕ} {q : Reading} → Bytes file → ReadsPacked file q → Parts file q
-parts {file} {q} bytes f = go (reading 1 file (f .area) (area-room f) bytes q .0 (f .reads))
+parts {file} {q} bytes f =
+    let g = degas-acceptance file (f .area) (area-room f) bytes q .0 (sym (by-kind file (f .area)) ∙ f .reads) in
+    go (g .0 .resolution) (g .0 .fits) (g .1)
   where
-    packed-go : (r : Resolution) → chosen (degasResolution file) ≡ Known r → (packed : Bool) → packed ≡ true → (fits : DegasFits file r packed)
-        → q ≡ degasGiven file r packed fits → Parts file q
-    packed-go r known true e fits is = record { r = r; known = known; fits = fits; gives = is }
-    packed-go r known false e fits is = absurd (false≢true e)
-
-    go : (a : Accepts 1 file) × (q ≡ given 1 file a) → Parts file q
-    go (inl a, is) = packed-go (a .1 .resolution) (a .1 .allowed) (degasPacked file) (f .packed) (a .1 .fits) is
-    go (inr a, is) = absurd (omega (arith, a .0))
+    go : (r : Resolution) (fits : Fits file r) → q ≡ fitsGiven fits → Parts file q
+    go r (fitting.plain raw size) is = absurd (false≢true (sym raw ∙ f .packed))
+    go r (fitting.elite raw size) is = absurd (false≢true (sym raw ∙ f .packed))
+    go r (fitting.packed bit fits) is = record { r = r; fits = fits; gives = is }
 
 -- what reading gives of a file that was written of q
 abbrev readAgain : Reading → Writing → Reading
@@ -84,49 +104,56 @@ readAgain q w = record { picture = q .picture; body = w .body; records = w .reco
 
 -- ---- what rewriting makes of the parts: the picture's form 3 with the screen's least body
 
-module _ {file : List ℕ} {r : Resolution} (known : chosen (degasResolution file) ≡ Known r) (fits : PackedFits file r) where
+module _ {file : List ℕ} {r : Resolution} (fits : PackedFits file r) where
   abbrev picture : Picture
   picture = packedGiven fits .picture
 
   abbrev least : List ℕ
-  least = leastBody r (fits .screen)
+  least = leastBody (rasterOf r) (fits .screen)
 
   abbrev writing : Writing
-  writing = record { file = packedFile picture least; body = length least; records = leastRowsRecords (planeRows (fits .screen) r) }
+  writing = packedWriting picture (packed (rasterOf r) (fits .screen) bodyLimit)
 
   least-below : length least ≤ length (fits .body)
-  least-below = least-shortest r (fits .screen) .shortest (fits .runs)
+  least-below = least-shortest (rasterOf r) (fits .screen) (in-range r) .shortest (fits .runs)
 
-  whole : Whole picture
-  whole = whole-read file (degasResolution file) 2 (34 + length (fits .body))
+  whole : WholePicture picture
+  whole = whole-with-tail file (numberOf r) paletteStart (headerLength + length (fits .body))
 
   -- from any area with the screen's plane rows
-  written : (s : List ℕ) → screenBytes ≤ length s → planeRows s r ≡ planeRows (fits .screen) r → (out : ℕ) → 32128 ≤ out
-      → writeFile 3 picture s out ≡ accepted writing
+  written : (s : List ℕ) → screenBytes ≤ length s → planeRows s (rasterOf r) ≡ planeRows (fits .screen) (rasterOf r)
+      → (out : ℕ) → fileBytes ≤ out → writeFile formPacked picture s out ≡ accepted writing
+  unfolding writePacked
   written s full same out enough =
-      let body : leastBody r s ≡ least = ap leastRows same in
-      file-form 3 picture s out full enough
-      ∙ form-packed 3 picture s r known refl
-      ∙ packed-accepted picture s r (omega (arith, ap length body, least-below, fits .below))
-      ∙ rw (body, same)
+      let body : leastBody (rasterOf r) s ≡ least = ap leastRows same in
+      form-packed formPacked picture s out refl
+      ∙ write-passed Packed picture s out (record { screen-fits = full; output-fits = enough; known = chosen-number r })
+      ∙ ap (map (packedWriting picture))
+      (limit-below (rasterOf r) s bodyLimit (lt-leb bodyLimit (length (leastBody (rasterOf r) s)) (omega (arith, ap length body, least-below, fits .below))))
+      ∙ rw same
 
-  written-screen : writeFile 3 picture (fits .screen) 32128 ≡ accepted writing
-  written-screen = written (fits .screen) (omega (arith, fits .size)) refl 32128 (omega arith)
+  written-screen : writeFile formPacked picture (fits .screen) fileBytes ≡ accepted writing
+  written-screen = written (fits .screen) (omega (arith, fits .size)) refl fileBytes (omega arith)
 
-  written-area : (area out : List ℕ) → Lent area out → writeFile 3 picture (over (fits .screen) area) (length out) ≡ accepted writing
+  written-area : (area out : List ℕ) → Lent area out
+      → writeFile formPacked picture (over (fits .screen) area) (length out) ≡ accepted writing
   written-area area out lent =
-      written (over (fits .screen) area) (omega (arith, length-over (fits .screen) area (omega (arith, fits .size, lent .room)), lent .room))
-      (planeRows-front (over (fits .screen) area) (fits .screen) (λ o h. getD-over-in (fits .screen) area o 0 (omega (arith, fits .size))) r)
+      let long = length-over (fits .screen) area (omega (arith, fits .size, lent .room)) in
+      written (over (fits .screen) area) (omega (arith, long, lent .room))
+      (planeRows-front (over (fits .screen) area) (fits .screen) (rasterOf r)
+      (λ o h. getD-over-in (fits .screen) area o 0 (omega (arith, fits .size, raster-bytes r))))
       (length out)
       (lent .enough)
 
   -- read again: the same picture and screen
-  written-back : (area : ℕ) → screenBytes ≤ area → readFile 1 (writing .file) area ≡ accepted (readAgain (packedGiven fits) writing)
+  written-back : (area : ℕ) → screenBytes ≤ area
+      → readFile kindDegas (writing .file) area ≡ accepted (readAgain (packedGiven fits) writing)
   written-back area room =
-      written-read 3 picture whole (fits .screen) area room 32128 writing written-screen ∙ rw (take-all screenBytes (fits .screen) (omega (arith, fits .size)))
+      written-read picture whole (fits .screen) area room formPacked fileBytes writing written-screen
+      ∙ rw (take-all screenBytes (fits .screen) (omega (arith, fits .size)))
 
-  writing-packed : degasPacked (writing .file) ≡ true
-  writing-packed = packed-bit picture whole (known-le (degasResolution file) r known) least
+  writing-packed : isPacked (writing .file) ≡ true
+  writing-packed = packed-bit picture whole (known-le (numberOf r) r (chosen-number r)) least
 
   writing-length : length (writing .file) ≤ length file
   writing-length = omega (arith, length-packedFile picture whole least, packed-length file r fits, least-below)
@@ -138,20 +165,22 @@ module _ {file : List ℕ} {q : Reading} (bytes : Bytes file) (f : ReadsPacked f
   found = parts bytes f
 
   abbrev canonical : Writing
-  canonical = writing (found .known) (found .fits)
+  canonical = writing (found .fits)
 
-  canonical-back : (area : ℕ) → screenBytes ≤ area → readFile 1 (canonical .file) area ≡ accepted (readAgain q canonical)
-  canonical-back area room = written-back (found .known) (found .fits) area room ∙ ap (λ (b : Reading). accepted (readAgain b canonical)) (sym (found .gives))
+  canonical-back : (area : ℕ) → screenBytes ≤ area
+      → readFile kindDegas (canonical .file) area ≡ accepted (readAgain q canonical)
+  canonical-back area room =
+      written-back (found .fits) area room ∙ ap (λ (b : Reading). accepted (readAgain b canonical)) (sym (found .gives))
 
   module _ (area out : List ℕ) (lent : Lent area out) where
-    rewrite-read : rewrite area out file ≡ writeRead area out (accepted q)
-    rewrite-read = ap (writeRead area out) (reads-into f (length area) (lent .room))
+    rewrite-read : rewrite area out file ≡ writeRead area out q
+    rewrite-read = ap (λ (o : Outcome Reading). bind o (writeRead area out)) (reads-into f (length area) (lent .room))
 
     rewrite-is : rewrite area out file ≡ accepted canonical
     rewrite-is =
         rewrite-read
-        ∙ ap (λ (b : Reading). writeRead area out (accepted b)) (found .gives)
-        ∙ written-area (found .known) (found .fits) area out lent
+        ∙ ap (writeRead area out) (found .gives)
+        ∙ written-area (found .fits) area out lent
 
     rewritten-is : rewritten area out file ≡ canonical .file
     rewritten-is = ap (fileIn out) rewrite-is ∙ take-append-seam (canonical .file) (drop (length (canonical .file)) out)
@@ -159,8 +188,8 @@ module _ {file : List ℕ} {q : Reading} (bytes : Bytes file) (f : ReadsPacked f
     -- "rewriting an accepted packed DEGAS file as form 3 never gets 9, is never longer"
     pub never-longer : NeverLonger area out file
     never-longer = record {
-      written = ap (λ (o : Outcome Writing). writeAnswer o .number) rewrite-is;
-      bytes = omega (arith, ap length rewritten-is, writing-length (found .known) (found .fits));
+      written = ap (λ (o : Outcome Writing). writeAnswer o .refusal .number) rewrite-is;
+      bytes = omega (arith, ap length rewritten-is, writing-length (found .fits));
     }
 
     -- what is written is a packed DEGAS file of the same picture, whose reading is accepted
@@ -168,9 +197,11 @@ module _ {file : List ℕ} {q : Reading} (bytes : Bytes file) (f : ReadsPacked f
     rewritten-reads = (
       readAgain q canonical,
       record {
-        packed = ap degasPacked rewritten-is ∙ writing-packed (found .known) (found .fits);
+        packed = ap isPacked rewritten-is ∙ writing-packed (found .fits);
         area = screenBytes;
-        reads = ap (λ (l : List ℕ). readFile 1 l screenBytes) rewritten-is ∙ canonical-back screenBytes (omega arith);
+        reads =
+            ap (λ (l : List ℕ). readFile kindDegas l screenBytes) rewritten-is
+            ∙ canonical-back screenBytes (omega arith);
       },
       record { resolution = refl; palette = refl; tail = refl; screen = refl },
     )
@@ -180,7 +211,8 @@ module _ {file : List ℕ} {q : Reading} (bytes : Bytes file) (f : ReadsPacked f
     pub rewrite-twice : rewritten again into (rewritten area out file) ≡ rewritten area out file
     rewrite-twice =
         ap (λ (l : List ℕ). rewritten again into l) (rewritten-is area out lent)
-        ∙ ap (λ (o : Outcome Reading). fileIn into (writeRead again into o)) (canonical-back (length again) (lent-again .room))
+        ∙ ap (λ (o : Outcome Reading). fileIn into (bind o (writeRead again into)))
+        (canonical-back (length again) (lent-again .room))
         ∙ ap (fileIn into) (sym (rewrite-read again into lent-again))
         ∙ rewritten-is again into lent-again
         ∙ sym (rewritten-is area out lent)
@@ -188,10 +220,8 @@ module _ {file : List ℕ} {q : Reading} (bytes : Bytes file) (f : ReadsPacked f
 -- ---- two files
 
 -- a packed file's picture is its resolution, palette and tail, which is present
-abbrev tailedPicture : ℕ → List ℕ → List Table → Picture
-tailedPicture number palette tail = record { resolution = number; palette = palette; tailed = true; tail = tail }
-
-picture-is : {file : List ℕ} {q : Reading} → Bytes file → ReadsPacked file q → q .picture ≡ tailedPicture (q .picture .resolution) (q .picture .palette) (q .picture .tail)
+picture-is : {file : List ℕ} {q : Reading} → Bytes file → ReadsPacked file q
+    → q .picture ≡ withTail (q .picture .resolution) (q .picture .palette) (q .picture .tail)
 picture-is bytes f = let e = parts bytes f .gives in rw e refl
 
 module _ {file other : List ℕ} {q s : Reading} (bytes : Bytes file) (others : Bytes other) (f : ReadsPacked file q) (g : ReadsPacked other s)
@@ -202,10 +232,11 @@ module _ {file other : List ℕ} {q s : Reading} (bytes : Bytes file) (others : 
     where
       same-picture : rewritten area out file ≡ rewritten area-other out-other other → SamePicture q s
       same-picture e =
-          let files = sym (rewritten-is bytes f area out lent) ∙ e ∙ rewritten-is others g area-other out-other lent-other in
+          let files =
+          sym (rewritten-is bytes f area out lent) ∙ e ∙ rewritten-is others g area-other out-other lent-other in
           let same =
           sym (canonical-back bytes f screenBytes (omega arith))
-          ∙ ap (λ (l : List ℕ). readFile 1 l screenBytes) files
+          ∙ ap (λ (l : List ℕ). readFile kindDegas l screenBytes) files
           ∙ canonical-back others g screenBytes (omega arith)
           in
           record {
@@ -217,10 +248,11 @@ module _ {file other : List ℕ} {q s : Reading} (bytes : Bytes file) (others : 
 
       same-file : SamePicture q s → rewritten area out file ≡ rewritten area-other out-other other
       same-file h =
-          let pictures : q .picture ≡ s .picture = picture-is bytes f ∙ rw (h .resolution, h .palette, h .tail) (sym (picture-is others g)) in
+          let pictures : q .picture ≡ s .picture =
+          picture-is bytes f ∙ rw (h .resolution, h .palette, h .tail) (sym (picture-is others g)) in
           ap (fileIn out)
           (rewrite-read bytes f area out lent
-          ∙ ap₂ (λ (p : Picture) (l : List ℕ). writeFile 3 p (over l area) (length out)) pictures (h .screen)
+          ∙ ap₂ (λ (p : Picture) (l : List ℕ). writeFile formPacked p (over l area) (length out)) pictures (h .screen)
           ∙ sym (rewrite-read others g area out lent))
           ∙ rewritten-is others g area out lent
           ∙ sym (rewritten-is others g area-other out-other lent-other)

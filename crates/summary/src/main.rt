@@ -1,5 +1,5 @@
-// Reads a DEGAS file on standard input and writes its summary. A file longer than the buffer is longer than any picture, and its first
-// bytes decide what the summary says (report/proofs/Long.antt).
+// Reads a DEGAS file on standard input and writes its summary. A file longer than the buffer is longer than any
+// picture, and its first bytes decide what the summary says (report/proofs/Long.antt).
 use libc::STDIN_FILENO;
 use libc::STDOUT_FILENO;
 use report::SUMMARY_BYTES;

@@ -1,3 +1,5 @@
-pub mod Area
+pub mod Blocks
 pub mod Counts
+pub mod Ones
+pub mod Rectangles
 pub mod Totals

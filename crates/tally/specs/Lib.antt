@@ -1,2 +1,3 @@
-pub mod Area
+pub mod Blocks
 pub mod Counts
+pub mod Rectangles

@@ -1,4 +1,4 @@
--- A row put into an output record by record: the loop's invariant and its laws. Assumes nothing.
+-- A row put into an output record by record: the loop's invariant and its laws.
 use mathlib.Core.Path.{_≡_, ap, _∙_, subst}
 use Prim.Native.Nat.{ℕ, _+_, _-_, _≤_, _<_}
 use native.Mathlib.Nat.{sub-zero}
@@ -15,56 +15,63 @@ use Rattle.packbits.proofs.Records.{WholeAt, whole-at}
 use Rattle.packbits.proofs.Unpack.{bounded}
 use Rattle.unpack.proofs.RecordsRead.{left, RecordsRead, read-start, left-whole, read-turn}
 
--- the row that starts at one offset is read up to another, so many records, and the `to` bytes of it that they make are written
+-- the row that starts at `at` is read up to `from`, `records` records of it, and the `to` bytes that they make are
+-- written
 pub record Putting (file : List ℕ) (at width : ℕ) (out₀ out : List ℕ) (from to records : ℕ) : Type 0 where
   pub inside : to ≤ width
   pub read : RecordsRead file at width from (width - to) records
   pub writing : PartlyWritten (left file at width .made) (left file from (width - to) .made) out₀ out to
 
-module _ (file : List ℕ) (at width : ℕ) (out₀ : List ℕ) (room : width ≤ length out₀) where
-  pub putting-start : Putting file at width out₀ out₀ at 0 0
-  putting-start = record {
-    inside = omega arith;
-    read = rw sub-zero (read-start file at width);
-    writing = rw sub-zero (writing-start (left file at width .made) out₀);
-  }
+pub putting-start : (file : List ℕ) (at width : ℕ) (out : List ℕ) → Putting file at width out out at 0 0
+putting-start file at width out = record {
+  inside = omega arith;
+  read = rw sub-zero (read-start file at width);
+  writing = rw sub-zero (writing-start (left file at width .made) out);
+}
 
-  row-fits : length (left file at width .made) ≤ length out₀
-  row-fits = omega (arith, bounded (drop at file) width .fits)
+module _ {file : List ℕ} {at width : ℕ} {out₀ out : List ℕ} {from to records : ℕ}
+    (p : Putting file at width out₀ out from to records) where
+  module _ (room : width ≤ length out₀) (r : Record) (is : r ≡ recordAt (drop from file) (width - to)) (h : to < width)
+      (ok : fault r ≡ 0) where
+    row-fits : length (left file at width .made) ≤ length out₀
+    row-fits = omega (arith, bounded (drop at file) width .fits)
 
-  module _ (out : List ℕ) (from to records : ℕ) (p : Putting file at width out₀ out from to records) where
-    module _ (r : Record) (is : r ≡ recordAt (drop from file) (width - to)) (h : to < width) (ok : fault r ≡ 0) where
-      abbrev piece : List ℕ
-      piece = rowBytes r (drop from file)
+    abbrev piece : List ℕ
+    piece = rowBytes r (drop from file)
 
-      abbrev rest : List ℕ
-      rest = left file (from + packedLen r) (width - (to + rowLen r)) .made
+    abbrev rest : List ℕ
+    rest = left file (from + packedLen r) (width - (to + rowLen r)) .made
 
-      room-left : width - to - rowLen r ≡ width - (to + rowLen r)
-      room-left = omega arith
+    room-left : width - to - rowLen r ≡ width - (to + rowLen r)
+    room-left = omega arith
 
-      next : PartlyWritten (left file at width .made) (piece ++ rest) out₀ out to
-      next =
-          let e = left-whole file from (width - to) r is (omega arith) ok in
-          subst (λ (l : List ℕ). PartlyWritten (left file at width .made) l out₀ out to)
-          (ap (λ (q : Progress). q .made) e ∙ ap (λ (k : ℕ). piece ++ left file (from + packedLen r) k .made) room-left) (p .writing)
+    next : PartlyWritten (left file at width .made) (piece ++ rest) out₀ out to
+    next =
+        let e = left-whole file from (width - to) r is (omega arith) ok in
+        subst (λ (l : List ℕ). PartlyWritten (left file at width .made) l out₀ out to)
+        (ap (λ (q : Progress). q .made) e ∙ ap (λ (k : ℕ). piece ++ left file (from + packedLen r) k .made) room-left)
+        (p .writing)
 
-      whole-next : WholeAt r file from (width - to)
-      whole-next = whole-at file from (width - to) r is ok
+    whole-next : WholeAt r file from (width - to)
+    whole-next = whole-at file from (width - to) r is ok
 
-      pub record-fits : rowLen r ≤ length (take (length out - to) (drop to out))
-      record-fits = omega (arith, piece-fits piece rest row-fits next, whole-next .makes)
+    pub record-fits : rowLen r ≤ length (take (length out - to) (drop to out))
+    record-fits = omega (arith, piece-fits piece rest row-fits next, whole-next .makes)
 
-      pub putting-turn : (last : List ℕ) → last ≡ over piece (take (length out - to) (drop to out))
-          → Putting file at width out₀ (putMid to (length out - to) out last) (from + packedLen r) (to + rowLen r) (records + 1)
-      putting-turn last e =
-          let w = whole-next in
-          record {
-            inside = omega (arith, w .fits);
-            read = rw room-left at (read-turn file from (width - to) r is (omega arith) ok at width records (p .read));
-            writing = rw (w .makes) at (writing-more piece rest row-fits next last e);
-          }
+    pub putting-turn : (last : List ℕ) → last ≡ over piece (take (length out - to) (drop to out))
+        → Putting file at width out₀ (putMid to (length out - to) out last) (from + packedLen r) (to + rowLen r)
+        (records + 1)
+    putting-turn last e =
+        let w = whole-next in
+        record {
+          inside = omega (arith, w .fits);
+          read = rw room-left at (read-turn file from (width - to) r is (omega arith) ok (p .read));
+          writing = rw (w .makes) at (writing-more piece rest row-fits next last e);
+        }
 
-    -- no record is left, or the next is at fault
-    pub putting-done : (number : ℕ) → left file from (width - to) ≡ stopped number → out ≡ over (left file at width .made) out₀
-    putting-done number stop = writing-end (subst (λ (q : Progress). PartlyWritten (left file at width .made) (q .made) out₀ out to) stop (p .writing)) .all
+  -- no record is left, or the next is at fault
+  pub putting-done : {number : ℕ} → left file from (width - to) ≡ stopped number
+      → out ≡ over (left file at width .made) out₀
+  putting-done stop =
+      let still : Progress → Type 0 = λ q. PartlyWritten (left file at width .made) (q .made) out₀ out to in
+      writing-end (subst still stop (p .writing)) .all

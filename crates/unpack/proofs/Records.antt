@@ -1,4 +1,4 @@
--- What putting one record writes. Assumes nothing.
+-- What putting one record writes.
 use mathlib.Core.Path.{_≡_, refl, sym, ap, ap₂, _∙_}
 use Prim.Native.Nat.{ℕ, _+_, _-_, _≤_, _<_}
 use native.Mathlib.Nat.{add-zero}
@@ -14,9 +14,10 @@ use Rattle.packbits.specs.declared.Record.{Record}
 use Rattle.packbits.specs.declared.Record.the-variants.{Literal, Repeat}
 use Rattle.packbits.specs.Records.{rowBytes}
 
-pub put-one : (s d : List ℕ) (from n : ℕ) → from < length s → 0 < length d → n ≡ 1 → set d 0 (getD s from 0) ≡ over (take n (drop from s)) d
+pub put-one : (s d : List ℕ) (from n : ℕ) → from < length s → 0 < length d → n ≡ 1
+    → set d 0 (getD s from 0) ≡ over (take n (drop from s)) d
 put-one s d from n hs hd one =
-    let first : getD s from 0 ≡ getD (drop from s) 0 0 = ap (λ (k : ℕ). getD s k 0) (sym (add-zero from)) ∙ sym (getD-drop from s 0 0) in
+    let first : getD s from 0 ≡ getD (drop from s) 0 0 = rw (getD-drop, add-zero) in
     over-turn (drop from s) d d 0 (getD s from 0) 0 (omega (arith, length-drop from s)) hd refl first
     ∙ ap (λ (k : ℕ). over (take k (drop from s)) d) (sym one)
 
@@ -44,10 +45,12 @@ module _ (b j k : ℕ) (d : List ℕ) (less : j ≤ k) where
       ∙ drop-drop j (length run) d
 
   -- together they are one run
-  pub put-both : (out last : List ℕ) → j + k ≤ length d → out ≡ first → last ≡ over run (take (length out - j) (drop j out))
+  pub put-both : (out last : List ℕ) → j + k ≤ length d → out ≡ first
+      → last ≡ over run (take (length out - j) (drop j out))
       → putMid j (length out - j) out last ≡ over (replicate (j + k) b) d
   put-both out last room is e =
-      let all : length run + j ≡ length (replicate (j + k) b) = omega (arith, length-replicate k b, length-replicate (j + k) b) in
+      let all : length run + j ≡ length (replicate (j + k) b) =
+      omega (arith, length-replicate k b, length-replicate (j + k) b) in
       tail-put out last j (omega (arith, ap length is, length-over run d (omega (arith, length-replicate k b))))
       ∙ ap (λ (l : List ℕ). take j out ++ l) (e ∙ ap (over run) (tail-part out j))
       ∙ ap (λ (l : List ℕ). take j l ++ over run (drop j l)) is
@@ -57,8 +60,11 @@ module _ (b j k : ℕ) (d : List ℕ) (less : j ≤ k) where
 
 module _ (s d : List ℕ) (at : ℕ) (r : Record) (n : ℕ) where
   pub put-literal : r ≡ Literal n → over (take n (drop (at + 1) s)) d ≡ over (rowBytes r (drop at s)) d
-  put-literal is = ap (λ (l : List ℕ). over (take n l) d) (sym (drop-drop 1 at s)) ∙ ap (λ (q : Record). over (rowBytes q (drop at s)) d) (sym is)
+  put-literal is =
+      ap (λ (l : List ℕ). over (take n l) d) (sym (drop-drop 1 at s))
+      ∙ ap (λ (q : Record). over (rowBytes q (drop at s)) d) (sym is)
 
   pub put-repeat : r ≡ Repeat n → over (replicate n (getD s (at + 1) 0)) d ≡ over (rowBytes r (drop at s)) d
   put-repeat is =
-      ap (λ (b : ℕ). over (replicate n b) d) (sym (getD-drop at s 1 0)) ∙ ap (λ (q : Record). over (rowBytes q (drop at s)) d) (sym is)
+      ap (λ (b : ℕ). over (replicate n b) d) (sym (getD-drop at s 1 0))
+      ∙ ap (λ (q : Record). over (rowBytes q (drop at s)) d) (sym is)

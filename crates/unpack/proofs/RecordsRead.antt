@@ -1,4 +1,4 @@
--- A row read record by record from an offset of a file: the invariant of the loop that reads it, and its laws. Assumes nothing.
+-- A row read record by record from an offset of a file: the invariant of the loop that reads it, and its laws.
 use mathlib.Core.Path.{_≡_, refl, sym, ap, _∙_}
 use Prim.Native.Nat.{ℕ, _+_, _-_, _≤_, _<_}
 use native.Mathlib.Omega.{arith}
@@ -6,6 +6,7 @@ use mathlib.Core.List.{List}
 use lib.ListN.{drop}
 use lib.Seq.{drop-drop}
 use borrow.Author.Tests.{eq-eqb, ne-eqb}
+use Rattle.outcome.specs.Outcome.{refused, refusal, none}
 use Rattle.packbits.specs.declared.Record.{Record}
 use Rattle.packbits.specs.Records.{packedLen, rowLen, rowBytes, fault, recordAt}
 use Rattle.packbits.specs.Row.{rowAnswer}
@@ -13,11 +14,12 @@ use Rattle.packbits.specs.Unpack.{Progress, stopped, after, progress, outcomeOf
 use Rattle.packbits.proofs.Records.{WholeAt, whole-at}
 use Rattle.packbits.proofs.Unpack.{progress-full, progress-whole, progress-fault}
 
--- what unpacking comes to from an offset on, with so much room left in the row
+-- what unpacking comes to from an offset on, with room left in the row
 abbrev pub left : List ℕ → ℕ → ℕ → Progress
 left file from room = progress (drop from file) room
 
--- the row that starts at one offset is read up to another, so many records of it, and what is left of the file gives the rest of it
+-- the row that starts at `at` is read up to `from`, `records` records of it, and what is left of the file gives the
+-- rest
 pub record RecordsRead (file : List ℕ) (at width from room records : ℕ) : Type 0 where
   pub counted : at + records ≤ from
   pub bytes : from + left file from room .bytes ≡ at + left file at width .bytes
@@ -39,12 +41,13 @@ module _ (file : List ℕ) (from room : ℕ) (r : Record) (is : r ≡ recordAt (
   left-fault e = progress-fault (drop from file) room r is h e
 
   module _ (ok : fault r ≡ 0) where
-    pub left-whole : left file from room ≡ after (packedLen r) (rowBytes r (drop from file)) (left file (from + packedLen r) (room - rowLen r))
+    pub left-whole : left file from room
+        ≡ after (packedLen r) (rowBytes r (drop from file)) (left file (from + packedLen r) (room - rowLen r))
     left-whole = progress-whole (drop from file) room r is h ok ∙ rw (drop-drop (packedLen r) from file)
 
-    pub read-turn : (at width records : ℕ) → RecordsRead file at width from room records
+    pub read-turn : {at width records : ℕ} → RecordsRead file at width from room records
         → RecordsRead file at width (from + packedLen r) (room - rowLen r) (records + 1)
-    read-turn at width records g =
+    read-turn g =
         let w : WholeAt r file from room = whole-at file from room r is ok in
         record {
           counted = omega (arith, w .takes, g .counted);
@@ -55,7 +58,7 @@ module _ (file : List ℕ) (from room : ℕ) (r : Record) (is : r ≡ recordAt (
 
 -- ---- the answer, where no record is left or the next is at fault
 
-module _ (file : List ℕ) (at width from room records : ℕ) (g : RecordsRead file at width from room records) (number : ℕ)
+module _ {file : List ℕ} {at width from room records number : ℕ} (g : RecordsRead file at width from room records)
     (stop : left file from room ≡ stopped number) where
   abbrev all : Progress
   all = left file at width
@@ -72,10 +75,11 @@ module _ (file : List ℕ) (at width from room records : ℕ) (g : RecordsRead f
   records-is : all .records ≡ records
   records-is = omega (arith, ap (λ (p : Progress). p .records) stop, g .total)
 
-  pub answer-refused : (number ≡ 0 → ⊥) → rowAnswer (unpackAt file at width) ≡ record { number = number; place = from; bytes = 0; records = 0 }
+  pub answer-refused : (number ≡ 0 → ⊥) → rowAnswer (unpackAt file at width) ≡ rowAnswer (refused (refusal number from))
   unfolding outcomeOf
-  answer-refused e = rw (fault-is) (simp (ne-eqb number 0 e, place-is))
+  answer-refused e = rw fault-is (simp (ne-eqb number 0 e, place-is))
 
-  pub answer-accepted : number ≡ 0 → rowAnswer (unpackAt file at width) ≡ record { number = 0; place = 0; bytes = from - at; records = records }
+  pub answer-accepted : number ≡ 0
+      → rowAnswer (unpackAt file at width) ≡ record { refusal = none; bytes = from - at; records = records }
   unfolding outcomeOf
   answer-accepted e = simp (eq-eqb (all .fault) 0 (fault-is ∙ e), bytes-is, records-is)

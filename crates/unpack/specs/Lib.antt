@@ -1,2 +1,1 @@
 pub mod AcceptsRow
-pub mod RowAt

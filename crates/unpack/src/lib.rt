@@ -1,23 +1,17 @@
-// One PackBits row unpacked, into a buffer of its own or to the front of an output. Definitions: specs/ here and in packbits.
+// One PackBits row unpacked: over an output as wide as the row, or to the front of a longer one. Definitions: specs/
+// here and of packbits.
 ghost use mathlib.Core.Path.{_≡_};
 ghost use Prim.Native.Nat.{_+_, _≤_};
 ghost use lib.ListN.{length, take, drop, replicate};
 ghost use Rattle.lists.specs.Over.{over};
 ghost use Rattle.packbits.specs.Records.{packedLen, rowLen, rowBytes};
 ghost use Rattle.packbits.specs.Row.{rowAnswer, rowOutput};
-ghost use Rattle.packbits.specs.Unpack.{progress, unpackAt, unpackRow};
-ghost use Rattle.unpack.specs.RowAt.{unpackRowAt};
+ghost use Rattle.packbits.specs.Unpack.{progress, unpack, unpackAt, unpackRow};
 use outcome::AREA_TOO_SHORT;
 use outcome::OUT_OF_RANGE;
 use packbits::MAX_WIDTH;
 use packbits::Record;
 use packbits::RowAnswer;
-
-// A row that was unpacked: its answer, and the row at the front of a buffer that is zero past it. The buffer of a refusal is zero.
-pub struct Unpacked {
-    pub answer: RowAnswer,
-    pub row: [u8; MAX_WIDTH],
-}
 
 // Copies n bytes from an offset of a source to the front of an output.
 fn put_part(source: &[u8], from: usize, n: usize, out: &mut [u8])
@@ -73,7 +67,7 @@ fn put_repeat(byte: u8, n: usize, out: &mut [u8])
 }
 
 // Writes the bytes of the row that a whole record makes to the front of an output.
-fn put_record(file: &[u8], at: usize, r: Record, out: &mut [u8])
+fn put_row_bytes(file: &[u8], at: usize, r: Record, out: &mut [u8])
     requires { ⌜ at + packedLen r ≤ length (now file) ⌝ }
     requires { ⌜ rowLen r ≤ length (now out) ⌝ }
     ensures { λ _. ⌜ now (out .exit) ≡ over (rowBytes r (drop at (now (file .entry)))) (now (out .entry)) ⌝ }
@@ -87,12 +81,14 @@ fn put_record(file: &[u8], at: usize, r: Record, out: &mut [u8])
     }
 }
 
-// Puts the bytes that the whole records of a row make into an output, until the row is full or a record is at fault.
-fn put_row(file: &[u8], at: usize, width: usize, out: &mut [u8]) -> RowAnswer
-    requires { ⌜ width ≤ length (now out) ⌝ }
-    ensures { λ r. ⌜ r ≡ rowAnswer (unpackAt (now (file .entry)) at width) ⌝ }
-    ensures { λ _. ⌜ now (out .exit) ≡ over (progress (drop at (now (file .entry))) width .made) (now (out .entry)) ⌝ }
+// Unpacks a row as wide as the whole output, from an offset of a file. After a refusal the output holds the bytes of
+// the row's whole records: a caller that must leave an output as it was lends a buffer of its own.
+pub fn unpack_into(file: &[u8], at: usize, out: &mut [u8]) -> RowAnswer
+    ensures answer { λ r. ⌜ r ≡ rowAnswer (unpackAt (now (file .entry)) at (length (now (out .entry)))) ⌝ }
+    ensures row { λ _. ⌜ now (out .exit)
+        ≡ over (progress (drop at (now (file .entry))) (length (now (out .entry))) .made) (now (out .entry)) ⌝ }
 {
+    let width = out.len();
     let mut from = at;
     let mut to: usize = 0;
     let mut records: usize = 0;
@@ -100,70 +96,48 @@ fn put_row(file: &[u8], at: usize, width: usize, out: &mut [u8]) -> RowAnswer
         let r = packbits::record_at(file, from, width - to);
         let number = packbits::fault_of(r);
         if number != 0 {
-            return RowAnswer {
-                number,
-                place: from,
-                bytes: 0,
-                records: 0,
-            };
+            return packbits::row_refused(outcome::refuse_at(number, from));
         }
-        put_record(file, from, r, &mut out[to..]);
+        put_row_bytes(file, from, r, &mut out[to..]);
         from += packbits::packed_len(r);
         to += packbits::row_len(r);
         records += 1;
     }
     RowAnswer {
-        number: 0,
-        place: 0,
+        refusal: outcome::none(),
         bytes: from - at,
         records,
     }
 }
 
-// A row that is refused with an answer: its buffer is zero.
-fn refused_row(answer: RowAnswer) -> Unpacked
-    ensures { λ r. ⌜ (r .answer ≡ answer) × (r .row ≡ replicate 128 0) ⌝ }
+// Unpacks a row as wide as a buffer into it, and copies it from there once it is whole.
+fn unpack_through(packed: &[u8], row: &mut [u8], out: &mut [u8]) -> RowAnswer
+    requires { ⌜ length (now row) ≤ length (now out) ⌝ }
+    ensures { λ r. ⌜ r ≡ rowAnswer (unpack (now (packed .entry)) (length (now (row .entry)))) ⌝ }
+    ensures { λ _. ⌜ now (out .exit)
+        ≡ rowOutput (unpack (now (packed .entry)) (length (now (row .entry)))) (now (out .entry)) ⌝ }
 {
-    Unpacked {
-        answer,
-        row: [0u8; MAX_WIDTH],
-    }
-}
-
-// Unpacks a row of 1 to 128 bytes from an offset of a file into a buffer of its own.
-pub fn unpack_row_at(file: &[u8], at: usize, width: usize) -> Unpacked
-    ensures answer { λ r. ⌜ r .answer ≡ rowAnswer (unpackRowAt (now (file .entry)) at width) ⌝ }
-    ensures row { λ r. ⌜ r .row ≡ rowOutput (unpackRowAt (now (file .entry)) at width) (replicate 128 0) ⌝ }
-{
-    if packbits::width_out_of_range(width) {
-        return refused_row(packbits::row_refused(OUT_OF_RANGE));
-    }
-    let mut row = [0u8; MAX_WIDTH];
-    let put = put_row(file, at, width, &mut row);
-    if put.number != 0 {
-        return refused_row(put);
-    }
-    Unpacked { answer: put, row }
-}
-
-// Unpacks one row to a named width. The output is written once the row is whole, so that a refusal changes nothing. Input left after the
-// full row is allowed.
-pub fn unpack_row(packed: &[u8], width: usize, out: &mut [u8]) -> RowAnswer
-    ensures { λ r. ⌜ r ≡ rowAnswer (unpackRow (now (packed .entry)) width (length (now (out .entry)))) ⌝ }
-    ensures { λ _. ⌜ now (out .exit) ≡ rowOutput (unpackRow (now (packed .entry)) width (length (now (out .entry)))) (now (out .entry)) ⌝ }
-{
-    if packbits::width_out_of_range(width) {
-        return packbits::row_refused(OUT_OF_RANGE);
-    }
-    if out.len() < width {
-        return packbits::row_refused(AREA_TOO_SHORT);
-    }
-    let unpacked = unpack_row_at(packed, 0, width);
-    let answer = unpacked.answer;
-    if answer.number != 0 {
+    let answer = unpack_into(packed, 0, row);
+    if answer.refusal.number != 0 {
         return answer;
     }
-    let row = unpacked.row;
-    put_part(&row, 0, width, out);
+    bytes::copy(row, out);
     answer
+}
+
+// Unpacks one row to a named width. The output is written once the row is whole, so that a refusal changes nothing.
+// Input left after the full row is allowed.
+pub fn unpack_row(packed: &[u8], width: usize, out: &mut [u8]) -> RowAnswer
+    ensures { λ r. ⌜ r ≡ rowAnswer (unpackRow (now (packed .entry)) width (length (now (out .entry)))) ⌝ }
+    ensures { λ _. ⌜ now (out .exit)
+        ≡ rowOutput (unpackRow (now (packed .entry)) width (length (now (out .entry)))) (now (out .entry)) ⌝ }
+{
+    if packbits::width_out_of_range(width) {
+        return packbits::row_refused(outcome::refuse(OUT_OF_RANGE));
+    }
+    if out.len() < width {
+        return packbits::row_refused(outcome::refuse(AREA_TOO_SHORT));
+    }
+    let mut row = [0u8; MAX_WIDTH];
+    unpack_through(packed, &mut row[..width], out)
 }

@@ -1,5 +1,6 @@
--- Laws of words and their bytes: each is made from the other, and words that were written as bytes are read again from where they stand.
--- Assumes nothing.
+-- Laws of words and their bytes: each is made from the other, and words that were written as bytes are read again from
+-- where they stand.
+--
 use mathlib.Core.Path.{_≡_, refl, sym, ap, _∙_}
 use mathlib.Core.List.{List, _∷_, _++_}
 use Prim.Native.Nat.{ℕ, zero, suc, _+_, _*_, _/_, _%_, _<_}
@@ -22,7 +23,8 @@ module _ (s : List ℕ) (bytes : Bytes s) where
   -- a word's bytes are those from which it was read
   pub wordBytes-wordAt : (at h : ℕ) → h < 2 → getD (wordBytes (wordAt s at)) h 0 ≡ getD s (at + h) 0
   unfolding wordBytes wordAt
-  wordBytes-wordAt at zero l = digits-div (getD s at 0) (bytes (at + 1)) ∙ ap (λ (m : ℕ). getD s m 0) (sym (add-zero at))
+  wordBytes-wordAt at zero l =
+      digits-div (getD s at 0) (bytes (at + 1)) ∙ ap (λ (m : ℕ). getD s m 0) (sym (add-zero at))
   wordBytes-wordAt at (suc zero) l = digits-mod (getD s at 0) (bytes (at + 1))
   wordBytes-wordAt at (suc (suc h)) l = absurd (omega arith)
 
@@ -30,19 +32,23 @@ pub length-wordsBytes : (ws : List ℕ) → length (wordsBytes ws) ≡ length ws
 unfolding wordBytes wordsBytes
 length-wordsBytes ws = length-flatten wordBytes 2 ws 0 (λ j h. refl)
 
-pub word-back : (before : List ℕ) (w : ℕ) (rest : List ℕ) (at : ℕ) → length before ≡ at → wordAt (before ++ (wordBytes w ++ rest)) at ≡ w
+pub word-back : (before : List ℕ) (w : ℕ) (rest : List ℕ) (at : ℕ) → length before ≡ at
+    → wordAt (before ++ (wordBytes w ++ rest)) at ≡ w
 unfolding wordAt wordBytes
 word-back before w rest at l =
     let low : getD (before ++ (w / 256 ∷ w % 256 ∷ rest)) (at + 1) 0 ≡ w % 256 =
-    ap (λ (n : ℕ). getD (before ++ (w / 256 ∷ w % 256 ∷ rest)) (n + 1) 0) (sym l) ∙ getD-append-add before (w / 256 ∷ w % 256 ∷ rest) 1 0
+    ap (λ (n : ℕ). getD (before ++ (w / 256 ∷ w % 256 ∷ rest)) (n + 1) 0) (sym l)
+    ∙ getD-append-add before (w / 256 ∷ w % 256 ∷ rest) 1 0
     in
     rw (getD-at before (w / 256) (w % 256 ∷ rest) 0 at l, low) (div-add-mod' w 256)
 
-pub words-back : (n : ℕ) (before ws rest : List ℕ) (at : ℕ) → length ws ≡ n → length before ≡ at → wordsAt n (before ++ (wordsBytes ws ++ rest)) at ≡ ws
+pub words-back : (n : ℕ) (before ws rest : List ℕ) (at : ℕ) → length ws ≡ n → length before ≡ at
+    → wordsAt n (before ++ (wordsBytes ws ++ rest)) at ≡ ws
 unfolding wordsAt wordsBytes wordBytes
 words-back n before ws rest at e l =
     tabulate-ext n _ (λ i. getD ws i 0)
     (λ i h.
-    piece-back (λ w. Unit {0}) wordBytes 2 wordAt (λ w t. refl) (λ before w rest at t m. word-back before w rest at m) before ws rest at i 0 (λ j m. tt) l (omega arith))
+    piece-back (λ w. Unit {0}) wordBytes 2 wordAt (λ w t. refl)
+    (λ before w rest at t m. word-back before w rest at m) before ws rest at i 0 (λ j m. tt) l (omega arith))
     ∙ ap (λ (m : ℕ). tabulate m (λ i. getD ws i 0)) (sym e)
     ∙ tabulate-getD ws 0

@@ -1,4 +1,4 @@
--- Big-endian words of a list of bytes. Assumes nothing: these are definitions.
+-- Big-endian words of a list of bytes.
 use Prim.Native.Nat.{ℕ, _+_, _*_, _/_, _%_}
 use mathlib.Core.List.{List, [], _∷_, map, flatten}
 use lib.ListN.{getD}

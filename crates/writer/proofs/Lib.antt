@@ -1,3 +1,1 @@
-pub mod FileLayout
-pub mod LeastBody
-pub mod WriteFile
+pub mod Choice

@@ -1,4 +1,4 @@
--- `colour::field` meets its contract: it is the definition. Assumes nothing.
+-- `colour::field` meets its contract: it is the definition.
 use Rattle.colour.specs.Palette.{field}
 use borrow.Author.Needs.{needs}
 use Rattle.colour.proofs.field.Statement.{statement}

@@ -1,4 +1,4 @@
--- `colour::word_colour` meets its contract: each part is the level of its field. Assumes nothing.
+-- `colour::word_colour` meets its contract: each part is its level, stretched.
 use Rattle.colour.specs.Palette.{wordColour}
 use borrow.Author.Needs.{needs}
 use Rattle.colour.proofs.word_colour.Statement.{statement}
@@ -7,20 +7,23 @@ use Rattle.colour.proofs.word_colour.Tie as tie
 field-requires : tie.Need-field-requires
 field-requires c κs = search needs
 
-level-requires : tie.Need-level-requires
-level-requires c κs = search needs
+stretch-requires : tie.Need-stretch-requires
+stretch-requires c κs = search needs
 
 field-requires-2 : tie.Need-field-requires-2
 field-requires-2 c κs = search needs
 
-level-requires-2 : tie.Need-level-requires-2
-level-requires-2 c κs = search needs
+stretch-requires-2 : tie.Need-stretch-requires-2
+stretch-requires-2 c κs = search needs
 
 field-requires-3 : tie.Need-field-requires-3
 field-requires-3 c κs = search needs
 
-level-requires-3 : tie.Need-level-requires-3
-level-requires-3 c κs = search needs
+stretch-requires-3 : tie.Need-stretch-requires-3
+stretch-requires-3 c κs = search needs
+
+colour-done-requires : tie.Need-colour-done-requires
+colour-done-requires c κs = search needs
 
 returns : tie.Need-returns
 unfolding wordColour
@@ -31,9 +34,10 @@ word-colour-spec =
     tie.close
     (tie.spec
     field-requires
-    level-requires
+    stretch-requires
     field-requires-2
-    level-requires-2
+    stretch-requires-2
     field-requires-3
-    level-requires-3
+    stretch-requires-3
+    colour-done-requires
     returns)

@@ -1,4 +1,4 @@
--- `examples::put_blank_rows` meets its contract: its stores stay within the file. Assumes nothing.
+-- `examples::put_blank_rows` meets its contract: its stores stay within the file.
 use mathlib.Core.Path.{_≡_}
 use Prim.Native.Nat.{_-_, _≤_}
 use lib.ListN.{length}

@@ -1,4 +1,4 @@
--- `examples::row_of` meets its contract: stores keep the row's length. Assumes nothing.
+-- `examples::row_of` meets its contract: stores keep the row's length.
 use mathlib.Core.Path.{_≡_}
 use Prim.Native.Nat.{_-_, _≤_}
 use lib.ListN.{length}

@@ -1,4 +1,4 @@
--- `lines::column_register` meets its contract: the sum is the definition's, and four bits make less than 16. Assumes nothing.
+-- `lines::column_register` meets its contract: the sum is the definition's, and four bits make less than 16.
 use mathlib.Core.Path.{refl}
 use native.Mathlib.Omega.{arith}
 use Rattle.lines.specs.Columns.{columnRegister}

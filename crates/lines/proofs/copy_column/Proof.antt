@@ -1,4 +1,4 @@
--- `lines::copy_column` meets its contract: the loop has written the first k pixels. Assumes nothing.
+-- `lines::copy_column` meets its contract: the loop has written the first k pixels.
 use mathlib.Core.Path.{_≡_, refl, sym, _∙_}
 use native.Mathlib.Omega.{arith}
 use Prim.Native.Nat.{ℕ, _≤_, _+_, _-_}
@@ -15,7 +15,8 @@ use Rattle.lines.proofs.copy_column.Tie as tie
 
 abbrev Inv-loop : tie.InvT-loop
 Inv-loop bytes out₀ x k₀ out k =
-    (x + 8 ≤ length out₀) × (k ≤ 8) × (length out ≡ length out₀) × (out ≡ overAt x (take k (tabulate 8 (λ k. columnRegister bytes (x + k)))) out₀)
+    (x + 8 ≤ length out₀) × (k ≤ 8) × (length out ≡ length out₀)
+    × (out ≡ overAt x (take k (tabulate 8 (λ k. columnRegister bytes (x + k)))) out₀)
 
 abbrev μ-loop : tie.MeasureT-loop
 μ-loop bytes out₀ x k₀ out k = 8 - k

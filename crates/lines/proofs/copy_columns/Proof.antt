@@ -1,4 +1,4 @@
--- `lines::copy_columns` meets its contract: the loop has written the first h columns of eight registers. Assumes nothing.
+-- `lines::copy_columns` meets its contract: the loop has written the first h columns of eight registers.
 use mathlib.Core.Path.{_≡_, refl, sym, ap, _∙_}
 use native.Mathlib.Omega.{arith}
 use Prim.Native.Nat.{ℕ, _≤_, _<_, _+_, _*_, _-_, _/_, _%_}
@@ -10,6 +10,7 @@ use Rattle.lists.specs.Over.{over}
 use Rattle.lists.specs.Tabulate.{tabulate}
 use Rattle.lists.proofs.Over.{length-overAt, over-done, tabulate-piece}
 use Rattle.lists.proofs.Tabulate.{length-tabulate}
+use Rattle.resolution.specs.Shapes.{screenBytes}
 use Rattle.lines.specs.declared.PlaneBytes.{PlaneBytes}
 use Rattle.lines.specs.Columns.{planeBytes, columnRegister, columnsLine}
 use Rattle.lines.proofs.copy_columns.Statement.{statement}
@@ -19,14 +20,16 @@ abbrev Inv-loop : tie.InvT-loop
 Inv-loop screen start planes columns out₀ h₀ out h =
     (columns ≤ 80) × (columns * 8 ≤ length out₀) × (h ≤ columns) × (length out ≡ length out₀)
     × (out ≡ over (take (h * 8) (columnsLine screen start planes columns)) out₀)
-    × (32000 ≤ length screen) × (planes ≤ 4)
-    × ((h : ℕ) → h < columns → start + h / 2 * (planes * 2) + h % 2 + (planes - 1) * 2 < 32000)
+    × (screenBytes ≤ length screen) × (planes ≤ 4)
+    × ((h : ℕ) → h < columns → start + h / 2 * (planes * 2) + h % 2 + (planes - 1) * 2 < screenBytes)
 
 abbrev μ-loop : tie.MeasureT-loop
 μ-loop screen start planes columns out₀ h₀ out h = columns - h
 
 loop-holds : tie.Need-loop-holds Inv-loop μ-loop
-loop-holds c = (search needs, search needs, search needs, refl, refl, search needs, search needs, c .before .before .pre .1)
+loop-holds c =
+    let p = c .before .before .pre in
+    (p .0 .2, p .0 .3, search needs, refl, refl, p .0 .0, p .0 .1, p .1)
 
 mul-at : tie.Need-mul-at Inv-loop μ-loop
 mul-at c = omega arith
@@ -76,7 +79,8 @@ loop-again c =
       ap length e ∙ length-overAt (l .h * 8) (tabulate 8 w) (l .out) room ∙ i .3,
       e ∙ tabulate-piece (a .columns * 8) 8 f w (now (a .out)) (l .out) (l .h * 8) (omega arith) (i .4)
           (λ j b.
-          ap (λ (c : PlaneBytes). columnRegister c (l .h * 8 + j)) (q .column-planes .ensures ∙ ap column (sym (digits-div (l .h) b))))
+          ap (λ (c : PlaneBytes). columnRegister c (l .h * 8 + j))
+          (q .column-planes .ensures ∙ ap column (sym (digits-div (l .h) b))))
           ∙ ap (λ (n : ℕ). over (take n (tabulate (a .columns * 8) f)) (now (a .out))) next,
       i .5,
       i .6,
@@ -91,8 +95,10 @@ unfolding columnsLine
 returns c =
     let l = c .before .loop in
     let a = c .before .before .before .before .args in
-    let f : ℕ → ℕ = λ x. columnRegister (planeBytes (now (a .screen)) (a .start + x / 8 / 2 * (a .planes * 2) + x / 8 % 2) (a .planes)) x in
-    over-done (tabulate (a .columns * 8) f) (now (a .out)) (l .out) (l .h * 8) (omega (arith, length-tabulate (a .columns * 8) f)) (l .inv .4)
+    let at : ℕ → ℕ = λ h. a .start + h / 2 * (a .planes * 2) + h % 2 in
+    let f : ℕ → ℕ = λ x. columnRegister (planeBytes (now (a .screen)) (at (x / 8)) (a .planes)) x in
+    over-done (tabulate (a .columns * 8) f) (now (a .out)) (l .out) (l .h * 8)
+    (omega (arith, length-tabulate (a .columns * 8) f)) (l .inv .4)
 
 pub copy-columns-spec : {M : Type 1} → statement M
 copy-columns-spec =

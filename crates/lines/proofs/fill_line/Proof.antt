@@ -1,4 +1,4 @@
--- `lines::fill_line` meets its contract: at each resolution the columns of the scan line are written. Assumes nothing.
+-- `lines::fill_line` meets its contract: at each resolution the columns of the scan line are written.
 use mathlib.Core.Path.{_≡_, sym, ap, _∙_}
 use mathlib.Core.List.{List}
 use Prim.Native.Nat.{ℕ, _*_}
@@ -11,7 +11,7 @@ use Rattle.resolution.specs.declared.Resolution.{Resolution}
 use Rattle.resolution.specs.declared.Resolution.the-variants.{Low, Medium, High}
 use Rattle.resolution.specs.Shapes.{widthOf, heightOf, planesOf, rowBytesOf, lineBytesOf}
 use Rattle.resolution.proofs.Shapes.{height-le}
-use Rattle.screen.specs.Registers.{scanLine}
+use Rattle.lines.specs.Registers.{scanLine}
 use Rattle.lines.specs.Columns.{columnsLine}
 use Rattle.lines.proofs.Columns.{column-within, columnsLine-scanLine}
 use Rattle.lines.proofs.fill_line.Statement.{statement}
@@ -20,7 +20,8 @@ use Rattle.lines.proofs.fill_line.Tie as tie
 -- the columns of the scan line at the resolution that was matched
 copied : (s : List ℕ) (r q : Resolution) (y : ℕ) (out : List ℕ) → r ≡ q → Bytes s
     → over (columnsLine s (y * lineBytesOf q) (planesOf q) (rowBytesOf q)) out ≡ over (scanLine s r y) out
-copied s r q y out e bytes = ap (λ (l : List ℕ). over l out) (columnsLine-scanLine s q y bytes ∙ ap (λ (r : Resolution). scanLine s r y) (sym e))
+copied s r q y out e bytes =
+    ap (λ (l : List ℕ). over l out) (columnsLine-scanLine s q y bytes ∙ ap (λ (r : Resolution). scanLine s r y) (sym e))
 
 enum-told : tie.Need-enum-told
 enum-told c = search needs
@@ -32,7 +33,8 @@ copy-columns-requires : tie.Need-copy-columns-requires
 copy-columns-requires c κs =
     let a = c .before .before .before .before .before .args in
     let e : a .r ≡ Low = c .before .enum-told .given .1 in
-    ((omega arith, omega arith, omega arith, omega (arith, ap widthOf e)), column-within Low (a .line) (omega (arith, ap heightOf e)))
+    let w = column-within Low (a .line) (omega (arith, ap heightOf e)) in
+    ((omega arith, omega arith, omega arith, omega (arith, ap widthOf e)), w)
 
 enum-told-2 : tie.Need-enum-told-2
 enum-told-2 c = search needs
@@ -44,7 +46,8 @@ copy-columns-requires-2 : tie.Need-copy-columns-requires-2
 copy-columns-requires-2 c κs =
     let a = c .before .before .before .before .before .args in
     let e : a .r ≡ Medium = c .before .enum-told2 .given .1 in
-    ((omega arith, omega arith, omega arith, omega (arith, ap widthOf e)), column-within Medium (a .line) (omega (arith, ap heightOf e)))
+    let w = column-within Medium (a .line) (omega (arith, ap heightOf e)) in
+    ((omega arith, omega arith, omega arith, omega (arith, ap widthOf e)), w)
 
 enum-told-3 : tie.Need-enum-told-3
 enum-told-3 c = search needs
@@ -56,7 +59,8 @@ copy-columns-requires-3 : tie.Need-copy-columns-requires-3
 copy-columns-requires-3 c κs =
     let a = c .before .before .before .before .before .args in
     let e : a .r ≡ High = c .before .enum-told3 .given .1 in
-    ((omega arith, omega arith, omega arith, omega (arith, ap widthOf e)), column-within High (a .line) (omega (arith, ap heightOf e)))
+    let w = column-within High (a .line) (omega (arith, ap heightOf e)) in
+    ((omega arith, omega arith, omega arith, omega (arith, ap widthOf e)), w)
 
 same-length : tie.Need-same-length
 same-length c = search needs
@@ -66,7 +70,8 @@ returns c =
     let p = c .before .before .before .before .before .before .before in
     let a = p .before .args in
     let e : a .r ≡ Low = c .before .before .before .before .enum-told .given .1 in
-    c .before .before .copy-columns .ensures ∙ copied (now (a .screen)) (a .r) Low (a .line) (now (a .out)) e (λ n. p .shared-slice-known .given n .fits)
+    c .before .before .copy-columns .ensures
+    ∙ copied (now (a .screen)) (a .r) Low (a .line) (now (a .out)) e (λ n. p .shared-slice-known .given n .fits)
 
 same-length-2 : tie.Need-same-length-2
 same-length-2 c = search needs
@@ -76,7 +81,8 @@ returns-2 c =
     let p = c .before .before .before .before .before .before .before in
     let a = p .before .args in
     let e : a .r ≡ Medium = c .before .before .before .before .enum-told2 .given .1 in
-    c .before .before .copy-columns2 .ensures ∙ copied (now (a .screen)) (a .r) Medium (a .line) (now (a .out)) e (λ n. p .shared-slice-known .given n .fits)
+    c .before .before .copy-columns2 .ensures
+    ∙ copied (now (a .screen)) (a .r) Medium (a .line) (now (a .out)) e (λ n. p .shared-slice-known .given n .fits)
 
 same-length-3 : tie.Need-same-length-3
 same-length-3 c = search needs
@@ -86,7 +92,8 @@ returns-3 c =
     let p = c .before .before .before .before .before .before .before in
     let a = p .before .args in
     let e : a .r ≡ High = c .before .before .before .before .enum-told3 .given .1 in
-    c .before .before .copy-columns3 .ensures ∙ copied (now (a .screen)) (a .r) High (a .line) (now (a .out)) e (λ n. p .shared-slice-known .given n .fits)
+    c .before .before .copy-columns3 .ensures
+    ∙ copied (now (a .screen)) (a .r) High (a .line) (now (a .out)) e (λ n. p .shared-slice-known .given n .fits)
 
 pub fill-line-spec : {M : Type 1} → statement M
 fill-line-spec =

@@ -1,5 +1,4 @@
 -- `lines::plane_byte` meets its contract: the loop has the first k bits, the first one highest.
--- Assumes nothing.
 use mathlib.Core.Path.{_≡_, refl, _∙_}
 use native.Mathlib.Omega.{arith}
 use native.Mathlib.Numerals.{add-one}
@@ -20,6 +19,12 @@ bits registers at p k = getD registers (at + k) 0 / 2 ^ p % 2
 bits-below : (registers : List ℕ) (at p k : ℕ) → bits registers at p k < 2
 bits-below registers at p k = omega arith
 
+-- a byte before its last bit
+byte-below : (registers : List ℕ) (at p k : ℕ) → k < 8 → fromBits k (bits registers at p) < 128
+byte-below registers at p k h =
+    let b = fromBits-lt k (bits registers at p) (bits-below registers at p) in
+    omega (arith, b, pow-mono {i = k} {j = 7} (omega arith))
+
 abbrev Inv-loop : tie.InvT-loop
 Inv-loop registers at p byte₀ k₀ byte k =
     (at + 8 ≤ length registers) × (p < 8) × (k ≤ 8) × (byte ≡ fromBits k (bits registers at p))
@@ -35,7 +40,7 @@ mul-byte : tie.Need-mul-byte Inv-loop μ-loop
 mul-byte c =
     let a = c .before .before .args in
     let l = c .before .loop in
-    omega (arith, fromBits-lt (l .k) _ (bits-below (a .registers .now) (a .at) (a .p)), pow-mono {i = l .k} {j = 7} (omega arith))
+    omega (arith, byte-below (a .registers .now) (a .at) (a .p) (l .k) (omega arith))
 
 add-byte : tie.Need-add-byte Inv-loop μ-loop
 add-byte c = omega arith
@@ -53,7 +58,7 @@ add-byte-2 : tie.Need-add-byte-2 Inv-loop μ-loop
 add-byte-2 c =
     let a = c .before .before .before .args in
     let l = c .before .before .loop in
-    omega (arith, fromBits-lt (l .k) _ (bits-below (a .registers .now) (a .at) (a .p)), pow-mono {i = l .k} {j = 7} (omega arith))
+    omega (arith, byte-below (a .registers .now) (a .at) (a .p) (l .k) (omega arith))
 
 add-k : tie.Need-add-k Inv-loop μ-loop
 add-k c = omega arith

@@ -1,18 +1,17 @@
--- `lines::put_line` meets its contract: the loop has written the first i bytes of the line. Assumes nothing.
+-- `lines::put_line` meets its contract: the loop has written the first i bytes of the line.
 use mathlib.Core.Path.{_≡_, refl, sym, _∙_}
 use native.Mathlib.Omega.{arith}
-use Prim.Native.Nat.{ℕ, _≤_, _+_, _-_, _*_, _/_, _%_}
+use Prim.Native.Nat.{ℕ, _≤_, _+_, _-_, _*_}
 use denote.Ref.{now}
 use borrow.Author.Needs.{needs}
-use lib.ListN.{length, getD, take, length-set, take-append-drop}
+use lib.ListN.{length, take, length-set, take-append-drop}
 use Rattle.lists.specs.Over.{overAt}
 use Rattle.lists.specs.Tabulate.{tabulate}
 use Rattle.lists.proofs.Over.{overAt-turn, overAt-done}
 use Rattle.lists.proofs.Tabulate.{length-tabulate, getD-tabulate}
-use Rattle.words.specs.Word.{wordBytes}
-use Rattle.resolution.specs.Shapes.{screenBytes, widthOf, planesOf, lineBytesOf}
-use Rattle.screen.specs.Registers.{wordOf, lineBytes, withLine}
-use Rattle.screen.proofs.Places.{line-within}
+use Rattle.resolution.specs.Shapes.{screenBytes, widthOf, lineBytesOf}
+use Rattle.lines.specs.Registers.{lineByte, scanLineBytes, withLine}
+use Rattle.lines.proofs.Places.{line-within}
 use Rattle.resolution.proofs.Shapes.{lineBytes-le}
 use Rattle.lines.proofs.put_line.Statement.{statement}
 use Rattle.lines.proofs.put_line.Tie as tie
@@ -21,7 +20,8 @@ abbrev Inv-loop : tie.InvT-loop
 Inv-loop screen₀ r line registers size start i₀ screen i =
     (screenBytes ≤ length screen₀) × (size ≡ lineBytesOf r) × (start ≡ line * lineBytesOf r)
     × (start + size ≤ screenBytes) × (widthOf r ≤ length registers) × (size ≤ 160)
-    × (i ≤ size) × (length screen ≡ length screen₀) × (screen ≡ overAt (line * lineBytesOf r) (take i (lineBytes r registers)) screen₀)
+    × (i ≤ size) × (length screen ≡ length screen₀)
+    × (screen ≡ overAt (line * lineBytesOf r) (take i (scanLineBytes r registers)) screen₀)
 
 abbrev μ-loop : tie.MeasureT-loop
 μ-loop screen₀ r line registers size start i₀ screen i = size - i
@@ -65,14 +65,14 @@ loop-less : tie.Need-loop-less Inv-loop μ-loop
 loop-less c = omega arith
 
 loop-again : tie.Need-loop-again Inv-loop μ-loop
-unfolding lineBytes
+unfolding scanLineBytes
 loop-again c =
     let l = c .before .before .loop in
     let a = c .before .before .before .before .before .before .args in
     let at = a .line * lineBytesOf (a .r) in
     let n = lineBytesOf (a .r) in
     let v = l .inv in
-    let f : ℕ → ℕ = λ i. getD (wordBytes (wordOf (now (a .registers)) (i / 2 / planesOf (a .r)) (i / 2 % planesOf (a .r)))) (i % 2) 0 in (
+    let f : ℕ → ℕ = lineByte (a .r) (now (a .registers)) in (
       search needs,
       search needs,
       search needs,
@@ -91,13 +91,14 @@ same-length : tie.Need-same-length Inv-loop μ-loop
 same-length c = omega arith
 
 returns : tie.Need-returns Inv-loop μ-loop
-unfolding withLine lineBytes
+unfolding withLine scanLineBytes
 returns c =
     let l = c .before .loop in
     let a = c .before .before .before .before .before .args in
     let n = lineBytesOf (a .r) in
-    let f : ℕ → ℕ = λ i. getD (wordBytes (wordOf (now (a .registers)) (i / 2 / planesOf (a .r)) (i / 2 % planesOf (a .r)))) (i % 2) 0 in
-    overAt-done (a .line * n) (tabulate n f) (now (a .screen)) (l .screen) (l .i) (omega (arith, length-tabulate n f)) (l .inv .8)
+    let f : ℕ → ℕ = lineByte (a .r) (now (a .registers)) in
+    overAt-done (a .line * n) (tabulate n f) (now (a .screen)) (l .screen) (l .i)
+    (omega (arith, length-tabulate n f)) (l .inv .8)
 
 pub put-line-spec : {M : Type 1} → statement M
 put-line-spec =

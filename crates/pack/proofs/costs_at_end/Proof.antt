@@ -1,4 +1,4 @@
--- `pack::costs_at_end` meets its contract. The empty suffix, by computation. Assumes nothing.
+-- `pack::costs_at_end` meets its contract. The empty suffix, by computation.
 use mathlib.Core.Path.{refl}
 use Rattle.pack.specs.Least.{scan}
 use Rattle.pack.proofs.costs_at_end.Statement.{statement}

@@ -1,4 +1,4 @@
--- `pack::costs_with` meets its contract. Each return rewrites by the test that led to it. Assumes nothing.
+-- `pack::costs_with` meets its contract. Each return rewrites by the test that led to it.
 use Prim.Native.Nat.{_+_}
 use native.Mathlib.Omega.{arith}
 use borrow.Author.Tests.{le-leb, lt-leb}
@@ -21,12 +21,12 @@ sub-t9 c = search needs
 returns : tie.Need-returns
 returns c =
     let a = c .before .before .before .before .args in
-    simp (le-leb (a .l .rest) (a .r .after + 1) (omega arith))
+    simp (le-leb (a .l .rest) (a .r .beyond + 1) (omega arith))
 
 returns-2 : tie.Need-returns-2
 returns-2 c =
     let a = c .before .before .before .before .before .args in
-    simp (lt-leb (a .l .rest) (a .r .after + 1) (omega arith))
+    simp (lt-leb (a .l .rest) (a .r .beyond + 1) (omega arith))
 
 pub costs-with-spec : {M : Type 1} → statement M
 costs-with-spec = tie.close (tie.spec add-if1 add-t7 add-t8 sub-t9 returns returns-2)

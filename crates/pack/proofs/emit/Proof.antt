@@ -1,4 +1,4 @@
--- `pack::emit` meets its contract. The loop keeps `Emitted`; a turn is `turn-emits`. Assumes nothing.
+-- `pack::emit` meets its contract. The loop keeps `Emitted`; a turn is `turn-emits`.
 use borrow.Author.Needs.{needs}
 use Prim.Native.Nat.{_+_, _≤_, _-_}
 use native.Mathlib.Omega.{arith}
@@ -40,59 +40,62 @@ part-put-record-end-2 c = search needs
 
 put-record-requires : tie.Need-put-record-requires Inv-loop μ-loop
 put-record-requires c κs =
-    let start = c .before .before .before .before .before .before .before in
-    let at = c .before .before .before .before .loop in
-    turn-room (start .args .row .now) (start .args .controls .now) (start .args .out .now) (at .out) (at .i) (at .o) (at .n)
-    (start .pre .0) (start .pre .1 .0) (start .pre .1 .1) (at .inv) (c .before .before .before .loop-test .taken)
+    let t = c .before .before .before in
+    let at = t .before .loop in
+    let s = t .before .before .before .before in
+    let known = s .pre .1 .0 (at .i) (omega arith) (t .loop-test .taken) in
+    turn-room (at .inv) (t .loop-test .taken) (s .pre .0) (s .pre .1 .1) _ known
 
--- what holds after a turn's record
+-- what holds after a turn's record, which takes a byte at least
 turned : (d : tie.After-put-record Inv-loop μ-loop)
-    → Emitted (d .before .before .before .before .before .before .before .before .args .row .now) (d .before .before .before .before .before .before .before .before .args .out .now)
-    (putMid (d .before .before .before .before .before .loop .o) (length (d .before .before .before .before .before .loop .out) - d .before .before .before .before .before .loop .o) (d .before .before .before .before .before .loop .out) (d .put-record .last .1 .1 .0))
-    (d .before .before .before .before .before .loop .i + d .put-record .result .taken)
-    (d .before .before .before .before .before .loop .o + d .put-record .result .made)
-    (d .before .before .before .before .before .loop .n + 1)
+    → let at = d .before .before .before .before .before .loop in
+    let a = d .before .before .before .before .before .before .before .before .args in
+    let p = d .put-record in
+    (1 ≤ p .result .taken)
+    × Emitted (a .row .now) (a .out .now) (putMid (at .o) (length (at .out) - at .o) (at .out) (p .last .1 .1 .0))
+    (at .i + p .result .taken) (at .o + p .result .made) (at .n + 1)
 turned d =
-    let start = d .before .before .before .before .before .before .before .before in
-    let at = d .before .before .before .before .before .loop in
-    turn-emits (start .args .row .now) (start .args .controls .now) (start .args .out .now) (at .out) (at .i) (at .o) (at .n)
-    (start .pre .0) (start .pre .1 .0) (start .pre .1 .1) (at .inv) (d .before .before .before .before .loop-test .taken)
-    (d .put-record .last .1 .1 .0) (d .put-record .result .taken) (d .put-record .result .made)
-    (d .put-record .ensures .0) (d .put-record .ensures .1)
-
--- a record takes a byte at least
-advanced : (d : tie.After-put-record Inv-loop μ-loop) → 1 ≤ d .put-record .result .taken
-advanced d =
-    let start = d .before .before .before .before .before .before .before .before in
-    let at = d .before .before .before .before .before .loop in
-    let lead =
-    turn-leads (start .args .row .now) (start .args .controls .now) (start .args .out .now) (at .out) (at .i) (at .o) (at .n)
-    (start .pre .0) (start .pre .1 .0) (start .pre .1 .1) (at .inv) (d .before .before .before .before .loop-test .taken) in
-    omega (arith, lead .some, d .put-record .ensures .0 .0)
+    let t = d .before .before .before .before in
+    let at = t .before .loop in
+    let s = t .before .before .before .before in
+    let p = d .put-record in
+    let known = s .pre .1 .0 (at .i) (omega arith) (t .loop-test .taken) in
+    let lead = turn-leads (at .inv) (t .loop-test .taken) (s .pre .0) (s .pre .1 .1) _ known in (
+      omega (arith, lead .some, p .ensures .0 .0),
+      turn-emits (at .inv) (t .loop-test .taken) (s .pre .0) (s .pre .1 .1) _ known (p .ensures .0) (p .ensures .1),
+    )
 
 add-i : tie.Need-add-i Inv-loop μ-loop
-add-i c = omega (arith, turned (c .before .before .before) .within, c .before .before .before .before .before .before .before .before .before .before .before .good .0 .0)
+add-i c =
+    let d = c .before .before .before in
+    let s = d .before .before .before .before .before .before .before .before in
+    omega (arith, turned d .1 .within, s .good .0 .0)
 
 add-o : tie.Need-add-o Inv-loop μ-loop
-add-o c = omega (arith, turned (c .before .before .before .before) .writing .room, turned (c .before .before .before .before) .writing .kept, c .before .before .before .before .before .before .before .before .before .before .before .before .good)
+add-o c =
+    let d = c .before .before .before .before in
+    let s = d .before .before .before .before .before .before .before .before in
+    let w = turned d .1 .writing in
+    omega (arith, w .room, w .kept, s .good)
 
 add-n : tie.Need-add-n Inv-loop μ-loop
-add-n c = omega (arith, turned (c .before .before .before .before) .few, turned (c .before .before .before .before) .within, c .before .before .before .before .before .before .before .before .before .before .before .before .good .0 .0)
+add-n c =
+    let d = c .before .before .before .before in
+    let s = d .before .before .before .before .before .before .before .before in
+    let e = turned d .1 in
+    omega (arith, e .few, e .within, s .good .0 .0)
 
 loop-less : tie.Need-loop-less Inv-loop μ-loop
-loop-less c = omega (arith, turned (c .before .before .before .before) .within, advanced (c .before .before .before .before))
+loop-less c = let e = turned (c .before .before .before .before) in omega (arith, e .0, e .1 .within)
 
 loop-again : tie.Need-loop-again Inv-loop μ-loop
-loop-again c = turned (c .before .before .before .before)
+loop-again c = turned (c .before .before .before .before) .1
 
 same-length : tie.Need-same-length Inv-loop μ-loop
 same-length c = search needs
 
 returns : tie.Need-returns Inv-loop μ-loop
-returns c =
-    let start = c .before .before .before .before in
-    let at = c .before .loop in
-    emit-end (start .args .row .now) (start .args .out .now) (at .out) (at .i) (at .o) (at .n) (c .loop-test .left) (at .inv)
+returns c = emit-end (c .before .loop .inv) (c .loop-test .left)
 
 pub emit-spec : {M : Type 1} → statement M
 emit-spec =

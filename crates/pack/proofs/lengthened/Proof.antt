@@ -1,6 +1,6 @@
--- `pack::lengthened` meets its contract: `step-lengthened`. Assumes nothing.
+-- `pack::lengthened` meets its contract: `prepend-lengthened`.
 use native.Mathlib.Omega.{arith}
-use Rattle.pack.proofs.Lengths.{step-lengthened}
+use Rattle.pack.proofs.Lengths.{prepend-lengthened}
 use borrow.Author.Needs.{needs}
 use Rattle.pack.proofs.lengthened.Statement.{statement}
 use Rattle.pack.proofs.lengthened.Tie as tie
@@ -17,7 +17,7 @@ add-t4 c = search needs
 returns : tie.Need-returns
 returns c =
     let s = c .before .before .before in
-    (step-lengthened (s .args .t) (s .pre .1) (s .pre .2), omega (arith, s .pre .1 (s .pre .2)))
+    (prepend-lengthened (s .args .t) (s .pre .1) (s .pre .2), omega (arith, s .pre .1 (s .pre .2)))
 
 pub lengthened-spec : {M : Type 1} → statement M
 lengthened-spec = tie.close (tie.spec sub-t2 add-t3 add-t4 returns)

@@ -1,35 +1,49 @@
--- `pack::pack_row` meets its contract. Each return is the outcome that the tests before it give. Assumes nothing.
+-- `pack::pack_row` meets its contract. Each return is the outcome that the tests before it give.
 use native.Mathlib.Omega.{arith}
 use mathlib.Core.Path.{_≡_, refl, sym, _∙_}
-use mathlib.Core.Bool.{true, false}
+use mathlib.Core.Bool.{false}
 use lib.ListN.{length}
 use Rattle.packbits.specs.Row.{widthOutOfRange}
+use Rattle.pack.specs.Pack.{maxBody}
 use Rattle.pack.proofs.Pack.{pack-wide, pack-short, pack-into-row}
 use borrow.Author.Needs.{needs}
 use Rattle.pack.proofs.pack_row.Statement.{statement}
 use Rattle.pack.proofs.pack_row.Tie as tie
 
+-- past the first test the width is in range
+range-here : (e : tie.Else1) → widthOutOfRange (length (e .before .before .before .before .args .row .now)) ≡ false
+range-here e = sym (e .before .width-out-of-range .ensures) ∙ e .if1 .left
+
 width-out-of-range-requires : tie.Need-width-out-of-range-requires
 width-out-of-range-requires c κs = search needs
+
+refuse-requires : tie.Need-refuse-requires
+refuse-requires c κs = search needs
 
 row-refused-requires : tie.Need-row-refused-requires
 row-refused-requires c κs = search needs
 
 returns : tie.Need-returns
 returns c =
-    let a = c .before .before .before .before .before .args in
-    let w : widthOutOfRange (length (a .row .now)) ≡ true = sym (c .before .before .width-out-of-range .ensures) ∙ c .before .if1 .taken in
-    rw (pack-wide 129 (a .row .now) (length (a .out .now)) w) (c .row-refused .ensures, refl)
+    let t = c .before .before in
+    let a = t .before .before .before .before .args in
+    let w = sym (t .before .width-out-of-range .ensures) ∙ t .if1 .taken in
+    rw (pack-wide maxBody (a .row .now) (length (a .out .now)) w, ← c .before .refuse .ensures)
+    (c .row-refused .ensures, refl)
+
+refuse-requires-2 : tie.Need-refuse-requires-2
+refuse-requires-2 c κs = search needs
 
 row-refused-requires-2 : tie.Need-row-refused-requires-2
 row-refused-requires-2 c κs = search needs
 
 returns-2 : tie.Need-returns-2
 returns-2 c =
-    let a = c .before .before .before .before .before .before .args in
-    let w : widthOutOfRange (length (a .row .now)) ≡ false =
-    sym (c .before .before .before .width-out-of-range .ensures) ∙ c .before .before .if1 .left in
-    rw (pack-short 129 (a .row .now) (length (a .out .now)) w (omega arith)) (c .row-refused2 .ensures, refl)
+    let e = c .before .before .before in
+    let a = e .before .before .before .before .args in
+    let w = range-here e in
+    rw (pack-short maxBody (a .row .now) (length (a .out .now)) w (omega arith), ← c .before .refuse2 .ensures)
+    (c .row-refused2 .ensures, refl)
 
 pack-into-requires : tie.Need-pack-into-requires
 pack-into-requires c κs = search needs
@@ -39,9 +53,9 @@ same-length c = search needs
 
 returns-3 : tie.Need-returns-3
 returns-3 c =
-    let a = c .before .before .before .before .before .before .before .before .before .args in
-    let w : widthOutOfRange (length (a .row .now)) ≡ false =
-    sym (c .before .before .before .before .before .before .width-out-of-range .ensures) ∙ c .before .before .before .before .before .if1 .left in
+    let e = c .before .before .before .before .before in
+    let a = e .before .before .before .before .args in
+    let w = range-here e in
     rw (← pack-into-row (a .row .now) (length (a .out .now)) w (omega arith)) (c .before .before .pack-into .ensures)
 
 pub pack-row-spec : {M : Type 1} → statement M
@@ -49,8 +63,10 @@ pack-row-spec =
     tie.close
     (tie.spec
     width-out-of-range-requires
+    refuse-requires
     row-refused-requires
     returns
+    refuse-requires-2
     row-refused-requires-2
     returns-2
     pack-into-requires

@@ -1,4 +1,4 @@
--- `pack::put_literal` meets its contract. The copy is the kit's; a single byte is stored. Assumes nothing.
+-- `pack::put_literal` meets its contract. The copy is the kit's; a single byte is stored.
 use native.Mathlib.Omega.{arith}
 use mathlib.Core.Path.{refl, _∙_}
 use Rattle.lists.proofs.Over.{over-one}
@@ -28,7 +28,9 @@ same-length-2 : tie.Need-same-length-2
 same-length-2 c = search needs
 
 returns-2 : tie.Need-returns-2
-returns-2 c = c .before .before .copy .ensures .1 ∙ copied-over (c .before .before .before .before .before .before .before .args .shown .now) _
+returns-2 c =
+    let a = c .before .before .before .before .before .before .before .args in
+    c .before .before .copy .ensures .1 ∙ copied-over (a .shown .now) _
 
 pub put-literal-spec : {M : Type 1} → statement M
 put-literal-spec =

@@ -1,4 +1,4 @@
--- `pack::put_record` meets its contract. What is lent to `put_literal` is the part of out after the control byte. Assumes nothing.
+-- `pack::put_record` meets its contract. What is lent to `put_literal` is the part of out after the control byte.
 use Prim.Native.Nat.{ℕ, _+_, _≤_, _<_, _-_}
 use native.Mathlib.Omega.{arith}
 use mathlib.Core.Path.{_≡_, sym, ap, _∙_}
@@ -57,7 +57,9 @@ sub-t19 c = search needs
 same-length : tie.Need-same-length
 same-length c =
     let a = c .before .before .before .before .before .before .before .before .args in
-    same-len-mid 1 (length (set (a .out .now) 0 (a .c)) - 1) (set (a .out .now) 0 (a .c)) (c .before .before .put-literal .last .1 .0) (c .before .before .put-literal .kept .1 .0) ∙ length-set (a .out .now) 0 (a .c)
+    let out = set (a .out .now) 0 (a .c) in
+    let p = c .before .before .put-literal in
+    same-len-mid 1 (length out - 1) out (p .last .1 .0) (p .kept .1 .0) ∙ length-set (a .out .now) 0 (a .c)
 
 returns : tie.Need-returns
 returns c =
@@ -65,7 +67,8 @@ returns c =
     let h : a .c < 128 = omega arith in
     let n : shownBy (a .c) ≡ a .c + 1 = shown-literal (a .c) h in (
       (sym (taken-literal (a .c) h), omega (arith, record-length (a .c) (a .row .now) (omega arith))),
-      literal-written (a .c) (a .c + 1) (a .row .now) (a .out .now) _ (omega arith) (c .before .before .put-literal .ensures)
+      literal-written (a .c) (a .c + 1) (a .row .now) (a .out .now) _ (omega arith)
+          (c .before .before .put-literal .ensures)
           ∙ ap (λ (k : ℕ). over (a .c ∷ take k (a .row .now)) (a .out .now)) (sym n),
     )
 

@@ -1,4 +1,4 @@
--- `packbits::packed_len` meets its contract, case by case. Assumes nothing.
+-- `packbits::packed_len` meets its contract, case by case.
 use mathlib.Core.Path.{sym, ap}
 use borrow.Author.Needs.{needs}
 use Rattle.packbits.specs.Records.{packedLen}

@@ -1,4 +1,4 @@
--- `packbits::record_at` meets its contract: there is no input, or a control byte and what `record_of` gives for it. Assumes nothing.
+-- `packbits::record_at` meets its contract: there is no input, or a control byte and what `record_of` gives for it.
 use mathlib.Core.Path.{sym, _∙_}
 use native.Mathlib.Omega.{arith}
 use borrow.Author.Needs.{needs}

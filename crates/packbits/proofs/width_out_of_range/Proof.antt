@@ -1,4 +1,4 @@
--- `packbits::width_out_of_range` meets its contract. Each return rewrites by the test that led to it. Assumes nothing.
+-- `packbits::width_out_of_range` meets its contract. Each return rewrites by the test that led to it.
 use native.Mathlib.Omega.{arith}
 use borrow.Author.Tests.{eq-eqb, ne-eqb}
 use Rattle.packbits.proofs.width_out_of_range.Statement.{statement}

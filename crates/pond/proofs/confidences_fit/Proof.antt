@@ -1,24 +1,24 @@
--- `pond::confidences_fit` meets its contract: the first v confidences are judged. Assumes nothing.
-use mathlib.Core.Path.{_≡_, refl, _∙_}
+-- `pond::confidences_fit` meets its contract: the first v confidences are judged.
+use mathlib.Core.Path.{_≡_, _∙_}
 use mathlib.Core.Logic.{⊎-elim}
 use native.Mathlib.Omega.{arith}
-use native.Mathlib.Numerals.{add-one}
 use Prim.Native.Nat.{_≤_, _-_}
 use borrow.Author.Needs.{needs}
 use borrow.Author.Tests.{le-leb, lt-leb}
-use Rattle.pond.specs.Entries.{confidencesFit}
+use Rattle.lists.specs.All.{allFirst}
+use Rattle.lists.proofs.All.{allFirst-start, allFirst-fails, allFirst-passes}
+use Rattle.pond.specs.Entries.{confidenceFits}
 use Rattle.pond.proofs.confidences_fit.Statement.{statement}
 use Rattle.pond.proofs.confidences_fit.Tie as tie
 
 abbrev Inv-loop : tie.InvT-loop
-Inv-loop confidences fit₀ v₀ fit v = (v ≤ 16) × (fit ≡ confidencesFit confidences v)
+Inv-loop confidences fit₀ v₀ fit v = (v ≤ 16) × (fit ≡ allFirst v confidenceFits confidences)
 
 abbrev μ-loop : tie.MeasureT-loop
 μ-loop confidences fit₀ v₀ fit v = 16 - v
 
 loop-holds : tie.Need-loop-holds Inv-loop μ-loop
-unfolding confidencesFit
-loop-holds c = (search needs, refl)
+loop-holds c = (search needs, allFirst-start confidenceFits _)
 
 array-read-if1 : tie.Need-array-read-if1 Inv-loop μ-loop
 array-read-if1 c = search needs
@@ -30,15 +30,13 @@ loop-less : tie.Need-loop-less Inv-loop μ-loop
 loop-less c = omega arith
 
 loop-again : tie.Need-loop-again Inv-loop μ-loop
-unfolding confidencesFit
 loop-again c =
     let l = c .before .before .loop in (
       omega arith,
-      rw (add-one (l .v))
-          (⊎-elim
-          (λ w. w .1 ∙ simp (lt-leb _ _ (w .0 .taken)))
-          (λ w. w .1 ∙ simp (le-leb _ _ (w .0 .left)) (l .inv .1))
-          (c .if1 .came)),
+      ⊎-elim
+          (λ w. w .1 ∙ allFirst-fails confidenceFits _ (l .v) (lt-leb _ _ (w .0 .taken)))
+          (λ w. w .1 ∙ allFirst-passes confidenceFits _ (l .v) (l .fit) (le-leb _ _ (w .0 .left)) (l .inv .1))
+          (c .if1 .came),
     )
 
 returns : tie.Need-returns Inv-loop μ-loop

@@ -1,4 +1,4 @@
--- `pond::entry_counts` meets its contract: each answer is a case of the definitions. Assumes nothing.
+-- `pond::entry_counts` meets its contract: each answer is a case of the definitions.
 use native.Mathlib.Nat.{zero-mul, one-mul}
 use borrow.Author.Tests.{eq-eqb, ne-eqb, le-leb, lt-leb}
 use Rattle.pond.specs.Entries.{isSure, isUnsure, isOther}

@@ -1,11 +1,12 @@
--- `pond::pond_counts` meets its contract: the loop has added up the first v registers. Assumes nothing.
+-- `pond::pond_counts` meets its contract: the loop has added up the first v registers.
 use mathlib.Core.Path.{_≡_, refl, ap}
 use native.Mathlib.Omega.{arith}
 use native.Mathlib.Numerals.{add-one}
-use Prim.Native.Nat.{ℕ, suc, _≤_, _-_}
+use Prim.Native.Nat.{ℕ, suc, _+_, _*_, _-_, _≤_}
 use lib.ListN.{getD}
 use borrow.Author.Needs.{needs}
 use Rattle.lists.specs.Sum.{sum}
+use Rattle.tally.specs.Counts.{mostPixels}
 use Rattle.pond.specs.declared.PondCounts.{PondCounts}
 use Rattle.pond.specs.Reading.{entryCounts, pondFrom}
 use Rattle.pond.proofs.Entries.{entries-le}
@@ -14,7 +15,7 @@ use Rattle.pond.proofs.pond_counts.Tie as tie
 
 abbrev Inv-loop : tie.InvT-loop
 Inv-loop legend class floor counts sure₀ unsure₀ other₀ v₀ sure unsure other v =
-    ((v : ℕ) → getD counts v 0 ≤ 256000) × (v ≤ 16)
+    ((v : ℕ) → getD counts v 0 ≤ mostPixels) × (v ≤ 16)
     × (sure ≡ sum v (λ v. entryCounts legend class floor v (getD counts v 0) .sure))
     × (unsure ≡ sum v (λ v. entryCounts legend class floor v (getD counts v 0) .unsure))
     × (other ≡ sum v (λ v. entryCounts legend class floor v (getD counts v 0) .other))
@@ -35,44 +36,30 @@ array-read-entry-counts c = search needs
 entry-counts-requires : tie.Need-entry-counts-requires Inv-loop μ-loop
 entry-counts-requires c κs = omega arith
 
-add-sure : tie.Need-add-sure Inv-loop μ-loop
+-- the sums with one register more
+sums-le : (c : tie.After-entry-counts Inv-loop μ-loop) → let l = c .before .before .loop in
+    let e = c .entry-counts .result in
+    (l .sure + e .sure ≤ 16 * mostPixels) × (l .unsure + e .unsure ≤ 16 * mostPixels)
+    × (l .other + e .other ≤ 16 * mostPixels)
 unfolding sum
-add-sure c =
-    let l = c .before .before .before .loop in
-    let a = c .before .before .before .before .args in
-    let p = c .before .entry-counts in
-    omega (
-      arith,
-      l .inv .2,
-      ap (λ (p : PondCounts). p .sure) (p .ensures),
-      entries-le (a .legend) (a .class) (a .floor) (a .t1) 256000 (suc (l .v)) (l .inv .0) .0,
+sums-le c =
+    let l = c .before .before .loop in
+    let a = c .before .before .before .args in
+    let e = c .entry-counts .ensures in
+    let n = entries-le (a .legend) (a .class) (a .floor) (a .t1) mostPixels (suc (l .v)) (l .inv .0) in (
+      omega (arith, l .inv .2, ap (λ (p : PondCounts). p .sure) e, n .0),
+      omega (arith, l .inv .3, ap (λ (p : PondCounts). p .unsure) e, n .1),
+      omega (arith, l .inv .4, ap (λ (p : PondCounts). p .other) e, n .2),
     )
+
+add-sure : tie.Need-add-sure Inv-loop μ-loop
+add-sure c = omega (arith, sums-le (c .before) .0)
 
 add-unsure : tie.Need-add-unsure Inv-loop μ-loop
-unfolding sum
-add-unsure c =
-    let l = c .before .before .before .before .loop in
-    let a = c .before .before .before .before .before .args in
-    let p = c .before .before .entry-counts in
-    omega (
-      arith,
-      l .inv .3,
-      ap (λ (p : PondCounts). p .unsure) (p .ensures),
-      entries-le (a .legend) (a .class) (a .floor) (a .t1) 256000 (suc (l .v)) (l .inv .0) .1,
-    )
+add-unsure c = omega (arith, sums-le (c .before .before) .1)
 
 add-other : tie.Need-add-other Inv-loop μ-loop
-unfolding sum
-add-other c =
-    let l = c .before .before .before .before .before .loop in
-    let a = c .before .before .before .before .before .before .args in
-    let p = c .before .before .before .entry-counts in
-    omega (
-      arith,
-      l .inv .4,
-      ap (λ (p : PondCounts). p .other) (p .ensures),
-      entries-le (a .legend) (a .class) (a .floor) (a .t1) 256000 (suc (l .v)) (l .inv .0) .2,
-    )
+add-other c = omega (arith, sums-le (c .before .before .before) .2)
 
 add-v : tie.Need-add-v Inv-loop μ-loop
 add-v c = omega arith

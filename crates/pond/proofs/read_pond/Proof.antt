@@ -1,75 +1,93 @@
--- `pond::read_pond` meets its contract: the tally is judged first, then the floor and the legend. Assumes nothing.
-use mathlib.Core.Path.{sym, _∙_}
+-- `pond::read_pond` meets its contract: the tally is judged first, then the floor and the legend.
+use mathlib.Core.Path.{_≡_, sym, _∙_}
 use denote.Ref.{now}
-use borrow.Author.Tests.{lt-ltb, le-ltb, eq-eqb, ne-eqb, not-true, not-false}
-use Rattle.tally.proofs.Totals.{tally-le}
-use Rattle.pond.proofs.Reading.{pond-determined}
+use borrow.Author.Tests.{lt-leb, le-leb, eq-eqb, ne-eqb, not-true, not-false}
+use Rattle.tally.proofs.Totals.{afterTally, tally-le}
+use Rattle.pond.specs.Reading.{pondReading}
+use Rattle.pond.proofs.Reading.{fromCounts, pond-determined}
 use borrow.Author.Needs.{needs}
 use Rattle.pond.proofs.read_pond.Statement.{statement}
 use Rattle.pond.proofs.read_pond.Tie as tie
 
+-- the reading by the tally's answer
+by-tally : (d : tie.After-tally) → let a = d .before .before .args in
+    pondReading (now (a .screen)) (a .resolution) (a .rectangle) (a .class) (a .floor) (a .legend)
+    ≡ afterTally (d .tally .result) (fromCounts (a .class) (a .floor) (a .legend))
+by-tally d =
+    let a = d .before .before .args in
+    rw (d .tally .ensures)
+    (pond-determined (now (a .screen)) (a .resolution) (a .rectangle) (a .class) (a .floor) (a .legend))
+
 tally-requires : tie.Need-tally-requires
 tally-requires c κs = search needs
 
-refused-pond-requires : tie.Need-refused-pond-requires
-refused-pond-requires c κs = search needs
+pond-refused-requires : tie.Need-pond-refused-requires
+pond-refused-requires c κs = search needs
 
 returns : tie.Need-returns
 returns c =
-    let a = c .before .before .before .before .before .args in
-    let t = c .before .before .before .tally in
-    let d = pond-determined (now (a .screen)) (a .resolution) (a .area) (a .class) (a .floor) (a .legend) in
-    rw (d, ← t .ensures, ne-eqb _ _ (c .before .if1 .taken)) (c .refused-pond .ensures)
+    let i = c .before in
+    rw (by-tally (i .before .before .before), ne-eqb _ _ (i .if1 .taken)) (c .pond-refused .ensures)
 
-refused-pond-requires-2 : tie.Need-refused-pond-requires-2
-refused-pond-requires-2 c κs = search needs
+refuse-requires : tie.Need-refuse-requires
+refuse-requires c κs = search needs
+
+pond-refused-requires-2 : tie.Need-pond-refused-requires-2
+pond-refused-requires-2 c κs = search needs
 
 returns-2 : tie.Need-returns-2
 returns-2 c =
-    let a = c .before .before .before .before .before .before .args in
-    let t = c .before .before .before .before .tally in
-    let d = pond-determined (now (a .screen)) (a .resolution) (a .area) (a .class) (a .floor) (a .legend) in
-    rw (d, ← t .ensures, eq-eqb _ _ (c .before .before .if1 .left), lt-ltb _ _ (c .before .if2 .taken)) (c .refused-pond2 .ensures)
+    let f = c .before .before in
+    let i = f .before in
+    rw (by-tally (i .before .before .before), eq-eqb _ _ (i .if1 .left), lt-leb _ _ (f .if2 .taken))
+    (c .pond-refused2 .ensures ∙ rw (c .before .refuse .ensures))
 
 confidences-fit-requires : tie.Need-confidences-fit-requires
 confidences-fit-requires c κs = search needs
 
-refused-pond-requires-3 : tie.Need-refused-pond-requires-3
-refused-pond-requires-3 c κs = search needs
+refuse-requires-2 : tie.Need-refuse-requires-2
+refuse-requires-2 c κs = search needs
+
+pond-refused-requires-3 : tie.Need-pond-refused-requires-3
+pond-refused-requires-3 c κs = search needs
 
 returns-3 : tie.Need-returns-3
 returns-3 c =
-    let a = c .before .before .before .before .before .before .before .before .args in
-    let t = c .before .before .before .before .before .before .tally in
-    let d = pond-determined (now (a .screen)) (a .resolution) (a .area) (a .class) (a .floor) (a .legend) in
-    let f = c .before .before .confidences-fit in
+    let g = c .before .before in
+    let p = g .before .confidences-fit in
+    let f = g .before .before in
+    let i = f .before in
     rw (
-      d,
-      ← t .ensures,
-      eq-eqb _ _ (c .before .before .before .before .if1 .left),
-      le-ltb _ _ (c .before .before .before .if2 .left),
-      sym (f .ensures) ∙ not-true (f .result) (c .before .if3 .taken),
+      by-tally (i .before .before .before),
+      eq-eqb _ _ (i .if1 .left),
+      le-leb _ _ (f .if2 .left),
+      sym (p .ensures) ∙ not-true (p .result) (g .if3 .taken),
     )
-    (c .refused-pond3 .ensures)
+    (c .pond-refused3 .ensures ∙ rw (c .before .refuse2 .ensures))
 
 pond-counts-requires : tie.Need-pond-counts-requires
 pond-counts-requires c κs =
-    let a = c .before .before .before .before .before .before .before .before .args in
-    rw (c .before .before .before .before .before .before .tally .ensures) (tally-le (now (a .screen)) (a .resolution) (a .area))
+    let t = c .before .before .before .before .before .before .before in
+    let a = t .before .before .args in
+    rw (t .tally .ensures) (tally-le (now (a .screen)) (a .resolution) (a .rectangle))
+
+none-requires : tie.Need-none-requires
+none-requires c κs = search needs
 
 returns-4 : tie.Need-returns-4
 returns-4 c =
-    let a = c .before .before .before .before .before .before .before .before .before .args in
-    let t = c .before .before .before .before .before .before .before .tally in
-    let d = pond-determined (now (a .screen)) (a .resolution) (a .area) (a .class) (a .floor) (a .legend) in
-    let f = c .before .before .before .confidences-fit in
+    let n = c .before in
+    let g = n .before .before in
+    let p = g .before .confidences-fit in
+    let f = g .before .before in
+    let i = f .before in
     rw (
-      d,
-      ← t .ensures,
-      eq-eqb _ _ (c .before .before .before .before .before .if1 .left),
-      le-ltb _ _ (c .before .before .before .before .if2 .left),
-      sym (f .ensures) ∙ not-false (f .result) (c .before .before .if3 .left),
-      ← c .pond-counts .ensures,
+      by-tally (i .before .before .before),
+      eq-eqb _ _ (i .if1 .left),
+      le-leb _ _ (f .if2 .left),
+      sym (p .ensures) ∙ not-false (p .result) (g .if3 .left),
+      ← n .pond-counts .ensures,
+      c .none .ensures,
     )
 
 pub read-pond-spec : {M : Type 1} → statement M
@@ -77,12 +95,15 @@ read-pond-spec =
     tie.close
     (tie.spec
     tally-requires
-    refused-pond-requires
+    pond-refused-requires
     returns
-    refused-pond-requires-2
+    refuse-requires
+    pond-refused-requires-2
     returns-2
     confidences-fit-requires
-    refused-pond-requires-3
+    refuse-requires-2
+    pond-refused-requires-3
     returns-3
     pond-counts-requires
+    none-requires
     returns-4)

@@ -1,58 +1,73 @@
--- `reader::read` meets its contract: the area's length and the kind pick the case. Assumes nothing.
-use mathlib.Core.Path.{refl}
-use Rattle.reader.proofs.Reading.{file-area, file-degas, file-neo, file-kind}
+-- `reader::read` meets its contract: the kind picks the format.
+use mathlib.Core.Path.{refl, ap, _∙_}
+use Rattle.outcome.specs.declared.Refusal.{Refusal}
+use Rattle.outcome.specs.Outcome.{refused}
+use Rattle.picture.specs.Reading.{readAnswer}
+use Rattle.picture.proofs.Reading.{area-short, area-fits}
+use Rattle.reader.proofs.Choice.{file-degas, file-neochrome, file-unknown}
 use borrow.Author.Needs.{needs}
 use Rattle.reader.proofs.read.Statement.{statement}
 use Rattle.reader.proofs.read.Tie as tie
 
-refused-requires : tie.Need-refused-requires
-refused-requires c κs = search needs
-
-returns : tie.Need-returns
-returns c = rw (file-area _ _ _ (c .before .if1 .taken)) (c .refused .ensures, refl)
-
-read-degas-requires : tie.Need-read-degas-requires
-read-degas-requires c κs = search needs
+read-requires : tie.Need-read-requires
+read-requires c κs = search needs
 
 same-length : tie.Need-same-length
 same-length c = search needs
 
-returns-2 : tie.Need-returns-2
-returns-2 c =
+returns : tie.Need-returns
+returns c =
     let d = c .before .before in
-    rw (file-degas _ _ _ (d .before .before .before .if1 .left) (d .before .before .if2 .taken)) (d .read-degas .ensures)
+    rw (file-degas _ _ _ (d .before .before .if1 .taken)) (d .read .ensures)
 
-read-neo-requires : tie.Need-read-neo-requires
-read-neo-requires c κs = search needs
+read-requires-2 : tie.Need-read-requires-2
+read-requires-2 c κs = search needs
 
 same-length-2 : tie.Need-same-length-2
 same-length-2 c = search needs
 
+returns-2 : tie.Need-returns-2
+returns-2 c =
+    let d = c .before .before in
+    rw (file-neochrome _ _ _ (d .before .before .if2 .taken)) (d .read2 .ensures)
+
+refuse-requires : tie.Need-refuse-requires
+refuse-requires c κs = search needs
+
+read-refused-requires : tie.Need-read-refused-requires
+read-refused-requires c κs = search needs
+
 returns-3 : tie.Need-returns-3
 returns-3 c =
-    let d = c .before .before in
-    let e = d .before .before .before in
-    rw (file-neo _ _ _ (e .before .if1 .left) (d .before .before .if3 .taken)) (d .read-neo .ensures)
+    let t = c .before .before in
+    rw (file-unknown _ _ _ (t .before .before .if1 .left) (t .before .if2 .left), area-short _ _ (t .if3 .taken))
+    (c .read-refused .ensures ∙ ap (λ (why : Refusal). readAnswer (refused why)) (c .before .refuse .ensures), refl)
 
-refused-requires-2 : tie.Need-refused-requires-2
-refused-requires-2 c κs = search needs
+refuse-requires-2 : tie.Need-refuse-requires-2
+refuse-requires-2 c κs = search needs
+
+read-refused-requires-2 : tie.Need-read-refused-requires-2
+read-refused-requires-2 c κs = search needs
 
 returns-4 : tie.Need-returns-4
 returns-4 c =
-    let e = c .before .before in
-    rw (file-kind _ _ _ (e .before .if1 .left) (e .if2 .left) (c .before .if3 .left)) (c .refused2 .ensures, refl)
+    let t = c .before .before in
+    rw (file-unknown _ _ _ (t .before .before .if1 .left) (t .before .if2 .left), area-fits _ _ (t .if3 .left))
+    (c .read-refused2 .ensures ∙ ap (λ (why : Refusal). readAnswer (refused why)) (c .before .refuse2 .ensures), refl)
 
 pub read-spec : {M : Type 1} → statement M
 read-spec =
     tie.close
     (tie.spec
-    refused-requires
-    returns
-    read-degas-requires
+    read-requires
     same-length
-    returns-2
-    read-neo-requires
+    returns
+    read-requires-2
     same-length-2
+    returns-2
+    refuse-requires
+    read-refused-requires
     returns-3
-    refused-requires-2
+    refuse-requires-2
+    read-refused-requires-2
     returns-4)

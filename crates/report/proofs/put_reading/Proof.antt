@@ -1,8 +1,6 @@
--- `report::put_reading` meets its contract: the tally's line is written after the numbers. Assumes nothing.
+-- `report::put_reading` meets its contract: the tally's line is written after the numbers.
 use native.Mathlib.Omega.{arith}
-use denote.Ref.{now}
-use Rattle.lists.proofs.Pieces.{Written, written-more}
-use Rattle.report.specs.Summary.{numbersText, tallyLine}
+use Rattle.lists.proofs.Pieces.{written-then}
 use borrow.Author.Needs.{needs}
 use Rattle.report.proofs.put_reading.Statement.{statement}
 use Rattle.report.proofs.put_reading.Tie as tie
@@ -31,14 +29,10 @@ same-length c = search needs
 returns : tie.Need-returns
 returns c =
     let p = c .before .before in
-    let y = p .before .before .before .before in
-    let a = y .before .before .before .args in
-    let numbers : Written (numbersText (a .resolution) (a .records) (a .body) (a .tail)) (now (a .out)) (y .put-numbers .last .1 .1 .1 .1 .0) (y .put-numbers .result) =
-    record { bytes = y .put-numbers .ensures .0 .0; all = y .put-numbers .ensures .1 } in
-    let w =
-    written-more numbers (tallyLine (a .sums)) (p .put-tally .last .1 .0) (p .put-tally .result) (p .put-tally .ensures .0 .0)
-    (p .put-tally .ensures .1) in
-    ((w .bytes, omega (arith, y .put-numbers .ensures .0 .1, p .put-tally .ensures .0 .1)), w .all)
+    let y = p .before .before .before .before in (
+      written-then (y .put-numbers .ensures .0) (p .put-tally .ensures .0),
+      omega (arith, y .put-numbers .ensures .1, p .put-tally .ensures .1),
+    )
 
 pub put-reading-spec : {M : Type 1} → statement M
 put-reading-spec =

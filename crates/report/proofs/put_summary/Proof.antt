@@ -1,16 +1,15 @@
--- `report::put_summary` meets its contract: the reading is accepted or refused. Assumes nothing.
-use mathlib.Core.Path.{refl, ap, ap₂, _∙_}
+-- `report::put_summary` meets its contract: the reading is accepted or refused.
+use mathlib.Core.Path.{refl, ap₂, _∙_}
 use mathlib.Core.List.{List, _++_}
 use Prim.Native.Nat.{ℕ}
 use native.Mathlib.Omega.{arith}
-use lib.ListN.{length}
 use denote.Ref.{now}
-use Rattle.lists.specs.Over.{over}
+use Rattle.lists.proofs.Pieces.{written-as}
 use Rattle.resolution.specs.Shapes.{screenBytes}
-use Rattle.reader.specs.Reading.{readFile}
-use Rattle.report.specs.Summary.{summary, numbersText, tallyLine}
-use Rattle.reader.proofs.WholeReading.{read-whole}
-use Rattle.report.proofs.Summary.{text-refused, text-accepted}
+use Rattle.reader.specs.Reading.{kindDegas, readFile}
+use Rattle.report.specs.Lines.{numberLines, tallyLine}
+use Rattle.report.specs.Summary.{summary}
+use Rattle.report.proofs.Summary.{read-whole, text-refused, text-accepted}
 use borrow.Author.Needs.{needs}
 use Rattle.report.proofs.put_summary.Statement.{statement}
 use Rattle.report.proofs.put_summary.Tie as tie
@@ -31,10 +30,12 @@ returns : tie.Need-returns
 unfolding summary
 returns c =
     let p = c .before .before in
-    let j = p .before .before .before .before .before in
-    let a = j .before .before .before .before .args in
-    let e = text-refused (readFile 1 (now (a .file)) screenBytes) (j .read .result) (j .read .ensures .0) (p .before .before .if1 .taken) in
-    ((p .put-refusal .ensures .0 .0 ∙ ap length e, omega (arith, p .put-refusal .ensures .0 .1)), p .put-refusal .ensures .1 ∙ ap (λ (t : List ℕ). over t (now (a .out))) e)
+    let i = p .before .before in
+    let j = i .before .before .before .before in
+    let file = now (j .before .before .before .before .args .file) in
+    let q = j .read .result in
+    let e = text-refused (readFile kindDegas file screenBytes) q (j .read .ensures .0) (i .if1 .taken) in
+    (written-as (summary file) e (p .put-refusal .ensures .0), omega (arith, p .put-refusal .ensures .1))
 
 slice-aggregate-screen-counts : tie.Need-slice-aggregate-screen-counts
 slice-aggregate-screen-counts c = search needs
@@ -57,15 +58,16 @@ returns-2 c =
     let p = c .before .before in
     let t = p .before .before in
     let s = t .before in
-    let f = s .before .before .before in
-    let j = f .before .before .before in
-    let a = j .before .before .before .before .args in
+    let i = s .before .before .before in
+    let j = i .before .before .before .before in
+    let q = j .read .result in
+    let file = now (j .before .before .before .before .args .file) in
     let e =
-    ap₂ (λ (n : ℕ) (sums : List ℕ). numbersText (j .read .result .picture .resolution) (j .read .result .records) (j .read .result .body) n ++ tallyLine sums)
+    ap₂ (λ (n : ℕ) (l : List ℕ). numberLines (q .picture .resolution) (q .records) (q .body) n ++ tallyLine l)
     (t .tail-number .ensures) (s .screen-counts .ensures)
-    ∙ text-accepted (readFile 1 (now (a .file)) screenBytes) (read-whole (now (a .file))) (j .read .result) _ _ refl (j .read .ensures .0) (f .if1 .left)
-    (j .read .ensures .1) in
-    ((p .put-reading .ensures .0 .0 ∙ ap length e, p .put-reading .ensures .0 .1), p .put-reading .ensures .1 ∙ ap (λ (t : List ℕ). over t (now (a .out))) e)
+    ∙ text-accepted (readFile kindDegas file screenBytes) (read-whole file) q _ _ refl
+    (j .read .ensures .0) (i .if1 .left) (j .read .ensures .1) in
+    (written-as (summary file) e (p .put-reading .ensures .0), p .put-reading .ensures .1)
 
 pub put-summary-spec : {M : Type 1} → statement M
 put-summary-spec =

@@ -1,4 +1,4 @@
--- `report::screen_counts` meets its contract: the number names a resolution or none. Assumes nothing.
+-- `report::screen_counts` meets its contract: the number names a resolution or none.
 use mathlib.Core.Path.{sym, _∙_}
 use borrow.Author.Needs.{needs}
 use Rattle.report.proofs.screen_counts.Statement.{statement}

@@ -1,4 +1,4 @@
--- `report::whole_counts` meets its contract: the whole screen is a rectangle that fits. Assumes nothing.
+-- `report::whole_counts` meets its contract: the whole screen is a rectangle that fits.
 use mathlib.Core.Path.{ap, _∙_}
 use denote.Ref.{now}
 use Rattle.tally.specs.declared.TallyAnswer.{TallyAnswer}
@@ -19,9 +19,11 @@ tally-requires c κs = search needs
 returns : tie.Need-returns
 returns c =
     let t = c .before in
-    let a = t .before .before .before .before .args in
-    ap (λ (v : TallyAnswer). v .counts) (rw (t .before .height .ensures, t .before .before .width .ensures) at (t .tally .ensures))
-    ∙ tallied-whole (now (a .screen)) (a .number) (a .r) (t .before .before .before .before .pre .0) (t .before .before .before .before .pre .1)
+    let h = t .before in
+    let start = h .before .before .before in
+    let a = start .args in
+    ap (λ (v : TallyAnswer). v .counts) (rw (h .height .ensures, h .before .width .ensures) at (t .tally .ensures))
+    ∙ tallied-whole (now (a .screen)) (a .resolution) (a .r) (start .pre .0) (start .pre .1)
 
 pub whole-counts-spec : {M : Type 1} → statement M
 whole-counts-spec = tie.close (tie.spec width-requires height-requires tally-requires returns)

@@ -1,4 +1,4 @@
--- `unpack::put_part` meets its contract: one byte is put by a store, and else what `copy` wrote is the part that was lent. Assumes nothing.
+-- `unpack::put_part` meets its contract: a single byte is stored; else what `copy` wrote is the part that was lent.
 use mathlib.Core.Path.{refl}
 use native.Mathlib.Omega.{arith}
 use Rattle.lists.proofs.Parts.{copied-part}

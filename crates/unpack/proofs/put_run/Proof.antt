@@ -1,4 +1,4 @@
--- `unpack::put_run` meets its contract. The invariant: k bytes are written over the front. Assumes nothing.
+-- `unpack::put_run` meets its contract. The invariant: k bytes are written over the front.
 use mathlib.Core.Path.{_≡_, refl, sym, _∙_}
 use Prim.Native.Nat.{_-_, _≤_}
 use native.Mathlib.Omega.{arith}
@@ -29,11 +29,12 @@ loop-less c = omega arith
 loop-again : tie.Need-loop-again Inv-loop μ-loop
 loop-again c =
     let l = c .before .loop in
-    let a = c .before .before .args in (
+    let a = c .before .before .args in
+    let all = length-replicate (a .n) (a .byte) in (
       omega arith,
       length-set (l .out) _ _ ∙ l .inv .1,
-      over-turn (replicate (a .n) (a .byte)) (a .out .now) (l .out) (l .k) (a .byte) 0 (omega (arith, length-replicate (a .n) (a .byte))) (omega arith) (l .inv .2)
-          (sym (getD-replicate (a .n) (l .k) (a .byte) 0 (omega arith))),
+      over-turn (replicate (a .n) (a .byte)) (a .out .now) (l .out) (l .k) (a .byte) 0 (omega arith) (omega arith)
+          (l .inv .2) (sym (getD-replicate (a .n) (l .k) (a .byte) 0 (omega arith))),
     )
 
 same-length : tie.Need-same-length Inv-loop μ-loop
@@ -43,7 +44,8 @@ returns : tie.Need-returns Inv-loop μ-loop
 returns c =
     let l = c .before .loop in
     let a = c .before .before .args in
-    over-done (replicate (a .n) (a .byte)) (a .out .now) (l .out) (l .k) (omega (arith, length-replicate (a .n) (a .byte))) (l .inv .2)
+    let all = length-replicate (a .n) (a .byte) in
+    over-done (replicate (a .n) (a .byte)) (a .out .now) (l .out) (l .k) (omega arith) (l .inv .2)
 
 pub put-run-spec : {M : Type 1} → statement M
 put-run-spec =

@@ -1,4 +1,4 @@
--- `unpack::put_twice` meets its contract: the two runs are one. Assumes nothing.
+-- `unpack::put_twice` meets its contract: the two runs are one.
 use mathlib.Core.Path.{_≡_, ap, _∙_}
 use Prim.Native.Nat.{ℕ, _+_, _-_}
 use native.Mathlib.Omega.{arith}
@@ -34,7 +34,9 @@ returns : tie.Need-returns
 returns c =
     let a = c .before .before .before .before .before .before .before .before .before .args in
     let all : a .n - a .k + a .k ≡ a .n = omega arith in
-    put-both (a .byte) (a .n - a .k) (a .k) (a .out .now) (omega arith) _ _ (omega arith) (c .before .before .before .before .before .before .put-run .ensures) (c .before .before .put-run2 .ensures)
+    let first = c .before .before .before .before .before .before .put-run .ensures in
+    put-both (a .byte) (a .n - a .k) (a .k) (a .out .now) (omega arith) _ _ (omega arith) first
+    (c .before .before .put-run2 .ensures)
     ∙ ap (λ (n : ℕ). over (replicate n (a .byte)) (a .out .now)) all
 
 pub put-twice-spec : {M : Type 1} → statement M

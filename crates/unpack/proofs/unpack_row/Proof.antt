@@ -1,19 +1,16 @@
--- `unpack::unpack_row` meets its contract: the two early refusals, one of `unpack_row_at`, or its row copied. Assumes nothing.
+-- `unpack::unpack_row` meets its contract: the two early refusals, or what `unpack_through` gives with a buffer.
 use mathlib.Core.Path.{_≡_, refl, sym, ap, _∙_}
-use Prim.Native.Nat.{ℕ}
+use Prim.Native.Nat.{ℕ, _≤_}
 use native.Mathlib.Omega.{arith}
 use mathlib.Core.Bool.{false}
 use mathlib.Core.List.{List}
 use lib.ListN.{length, take, replicate}
+use lib.Seq.{length-take-le}
 use borrow.Author.Needs.{needs}
-use Rattle.lists.specs.Over.{over}
-use Rattle.outcome.specs.Outcome.{Outcome, placed}
-use Rattle.packbits.specs.declared.RowAnswer.{RowAnswer}
-use Rattle.packbits.specs.Row.{Row, rowAnswer, rowOutput, widthOutOfRange}
+use Rattle.packbits.specs.Row.{rowAnswer, rowOutput, widthOutOfRange}
 use Rattle.packbits.specs.Unpack.{unpack}
-use Rattle.packbits.proofs.Unpack.{row-bounded}
-use Rattle.packbits.proofs.Row.{refused-keeps}
-use Rattle.unpack.proofs.RowUnpack.{row-out, row-short, row-room, at-range, answer-placed, made-inside, made-copied}
+use Rattle.packbits.proofs.Row.{in-range}
+use Rattle.unpack.proofs.RowUnpack.{row-out, row-short, row-room}
 use Rattle.unpack.proofs.unpack_row.Statement.{statement}
 use Rattle.unpack.proofs.unpack_row.Tie as tie
 
@@ -21,76 +18,69 @@ use Rattle.unpack.proofs.unpack_row.Tie as tie
 range-here : (e : tie.Else1) → widthOutOfRange (e .before .before .before .before .args .width) ≡ false
 range-here e = sym (e .before .width-out-of-range .ensures) ∙ e .if1 .left
 
--- what the row unpacked into a buffer of its own says of the input's first row
-module _ (j : tie.After-unpack-row-at) where
-  abbrev packed : List ℕ
-  packed = j .before .before .before .before .before .before .args .packed .now
+-- the part of the buffer that is lent
+abbrev lent : ℕ → List ℕ
+lent width = take width (replicate 128 0)
 
-  abbrev width : ℕ
-  width = j .before .before .before .before .before .before .args .width
+module _ (width : ℕ) (w : widthOutOfRange width ≡ false) where
+  lent-long : length (lent width) ≡ width
+  lent-long = length-take-le width (replicate 128 0) (in-range width w .1)
 
-  answer-here : j .unpack-row-at .result .answer ≡ rowAnswer (unpack packed width)
-  answer-here = j .unpack-row-at .ensures .0 ∙ ap rowAnswer (at-range packed 0 width (range-here (j .before .before))) ∙ answer-placed (unpack packed width)
-
-  row-here : j .unpack-row-at .result .row ≡ rowOutput (placed 0 (unpack packed width)) (replicate 128 0)
-  row-here = j .unpack-row-at .ensures .1 ∙ ap (λ (o : Outcome Row). rowOutput o (replicate 128 0)) (at-range packed 0 width (range-here (j .before .before)))
+  lent-fits : (out : List ℕ) → width ≤ length out → length (lent width) ≤ length out
+  lent-fits out h = omega (arith, lent-long)
 
 width-out-of-range-requires : tie.Need-width-out-of-range-requires
 width-out-of-range-requires c κs = search needs
+
+refuse-requires : tie.Need-refuse-requires
+refuse-requires c κs = search needs
 
 row-refused-requires : tie.Need-row-refused-requires
 row-refused-requires c κs = search needs
 
 returns : tie.Need-returns
 returns c =
-    let a = c .before .before .before .before .before .args in
-    let w = sym (c .before .before .width-out-of-range .ensures) ∙ c .before .if1 .taken in
-    rw (row-out (a .packed .now) (a .width) (length (a .out .now)) w) (c .row-refused .ensures, refl)
+    let a = c .before .before .before .before .before .before .args in
+    let w = sym (c .before .before .before .width-out-of-range .ensures) ∙ c .before .before .if1 .taken in
+    rw (row-out (a .packed .now) (a .width) (length (a .out .now)) w, ← c .before .refuse .ensures)
+    (c .row-refused .ensures, refl)
+
+refuse-requires-2 : tie.Need-refuse-requires-2
+refuse-requires-2 c κs = search needs
 
 row-refused-requires-2 : tie.Need-row-refused-requires-2
 row-refused-requires-2 c κs = search needs
 
 returns-2 : tie.Need-returns-2
 returns-2 c =
-    let a = c .before .before .before .before .before .before .args in
-    rw (row-short (a .packed .now) (a .width) (length (a .out .now)) (range-here (c .before .before)) (c .before .if2 .taken)) (c .row-refused2 .ensures, refl)
+    let a = c .before .before .before .before .before .before .before .args in
+    let w = range-here (c .before .before .before) in
+    let short = row-short (a .packed .now) (a .width) (length (a .out .now)) w (c .before .before .if2 .taken) in
+    rw (short, ← c .before .refuse2 .ensures) (c .row-refused2 .ensures, refl)
 
-unpack-row-at-requires : tie.Need-unpack-row-at-requires
-unpack-row-at-requires c κs = search needs
+array-borrow-prefix-row : tie.Need-array-borrow-prefix-row
+array-borrow-prefix-row c = in-range _ (range-here (c .before)) .1
 
-returns-3 : tie.Need-returns-3
-returns-3 c =
-    let j = c .before .before .before in
-    let a = j .before .before .before .before .before .before .args in
-    rw (row-room (a .packed .now) (a .width) (length (a .out .now)) (range-here (j .before .before)) (omega arith)) (
-      answer-here j,
-      sym (refused-keeps (unpack (a .packed .now) (a .width)) (a .out .now) (λ e. c .if3 .taken (ap (λ (r : RowAnswer). r .number) (answer-here j) ∙ e))),
-    )
+slice-aggregate-unpack-through : tie.Need-slice-aggregate-unpack-through
+slice-aggregate-unpack-through c = sym (lent-long _ (range-here (c .before .before)))
 
-slice-aggregate-put-part : tie.Need-slice-aggregate-put-part
-slice-aggregate-put-part c = search needs
-
-put-part-requires : tie.Need-put-part-requires
-put-part-requires c κs =
-    let j = c .before .before .before .before .before .before in
-    let a = j .before .before .before .before .before .before .args in
-    let ok = sym (ap (λ (r : RowAnswer). r .number) (answer-here j)) ∙ c .before .before .before .if3 .left in
-    let fits = made-inside 0 (a .packed .now) (a .width) (replicate 128 0) (unpack (a .packed .now) (a .width)) (row-bounded (a .packed .now) (a .width)) ok in
-    (omega (arith, ap length (row-here j), fits), omega arith)
+unpack-through-requires : tie.Need-unpack-through-requires
+unpack-through-requires c κs =
+    let e = c .before .before in
+    lent-fits _ (range-here (e .before)) (e .before .before .before .before .before .args .out .now) (e .if2 .left)
 
 same-length : tie.Need-same-length
 same-length c = search needs
 
-returns-4 : tie.Need-returns-4
-returns-4 c =
-    let j = c .before .before .before .before .before .before .before .before .before in
-    let a = j .before .before .before .before .before .before .args in
-    let ok = sym (ap (λ (r : RowAnswer). r .number) (answer-here j)) ∙ c .before .before .before .before .before .before .if3 .left in
-    rw (row-room (a .packed .now) (a .width) (length (a .out .now)) (range-here (j .before .before)) (omega arith)) (
-      answer-here j,
-      c .before .before .put-part .ensures
-          ∙ ap (λ (l : List ℕ). over (take (a .width) l) (a .out .now)) (row-here j)
-          ∙ made-copied 0 (a .packed .now) (a .width) (replicate 128 0) (unpack (a .packed .now) (a .width)) (a .out .now) (row-bounded (a .packed .now) (a .width)) ok,
+returns-3 : tie.Need-returns-3
+returns-3 c =
+    let t = c .before .before .before .unpack-through in
+    let e = c .before .before .before .before .before .before .before in
+    let a = c .before .before .before .before .before .before .before .before .before .before .before .args in
+    let long = lent-long (a .width) (range-here e) in
+    rw (row-room (a .packed .now) (a .width) (length (a .out .now)) (range-here e) (omega arith)) (
+      t .ensures .0 ∙ ap (λ (k : ℕ). rowAnswer (unpack (a .packed .now) k)) long,
+      t .ensures .1 ∙ ap (λ (k : ℕ). rowOutput (unpack (a .packed .now) k) (a .out .now)) long,
     )
 
 pub unpack-row-spec : {M : Type 1} → statement M
@@ -98,13 +88,14 @@ unpack-row-spec =
     tie.close
     (tie.spec
     width-out-of-range-requires
+    refuse-requires
     row-refused-requires
     returns
+    refuse-requires-2
     row-refused-requires-2
     returns-2
-    unpack-row-at-requires
-    returns-3
-    slice-aggregate-put-part
-    put-part-requires
+    array-borrow-prefix-row
+    slice-aggregate-unpack-through
+    unpack-through-requires
     same-length
-    returns-4)
+    returns-3)

@@ -1,4 +1,4 @@
--- `words::word_at` meets its contract: past the end both bytes are the default. Assumes nothing.
+-- `words::word_at` meets its contract: past the end both bytes are the default.
 use borrow.Author.Needs.{needs}
 use native.Mathlib.Omega.{arith}
 use Prim.Native.Nat.{_+_}

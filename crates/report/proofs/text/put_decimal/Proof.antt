@@ -1,4 +1,4 @@
--- `report::text::put_decimal` meets its contract: the kit's digits are those of `decimal`. Assumes nothing.
+-- `report::text::put_decimal` meets its contract: the kit's digits are those of `decimal`.
 use mathlib.Core.Path.{_≡_, ap, _∙_}
 use native.Mathlib.Omega.{arith}
 use lib.ListN.{length, take}
@@ -10,7 +10,8 @@ use Rattle.report.proofs.text.put_decimal.Statement.{statement}
 use Rattle.report.proofs.text.put_decimal.Tie as tie
 
 -- the digits that are copied
-digits-here : (d : tie.After-decimal) → take (d .decimal .result) (d .decimal .last .1 .0) ≡ decimal (d .before .before .before .args .n)
+digits-here : (d : tie.After-decimal)
+    → take (d .decimal .result) (d .decimal .last .1 .0) ≡ decimal (d .before .before .before .args .n)
 digits-here d =
     let start = d .before .before .before in
     let few = fewest-le (d .decimal .result) (start .args .n) (omega arith) (d .decimal .ensures .1 .0) in
@@ -38,8 +39,17 @@ returns c =
     let y = c .before .before in
     let d = y .before .before .before in
     let n = d .before .before .before .args .n in
-    let w = written-as (decimal n) (digits-here d) (written-copied _ _ _ _ (y .copy .ensures .0) (y .copy .ensures .1)) in
-    ((w .bytes, omega (arith, w .bytes, length-decimal n)), w .all)
+    let w =
+    written-as (decimal n) (digits-here d) (written-copied _ _ _ _ (y .copy .ensures .0) (y .copy .ensures .1)) in
+    (w, omega (arith, w .bytes, length-decimal n))
 
 pub put-decimal-spec : {M : Type 1} → statement M
-put-decimal-spec = tie.close (tie.spec decimal-requires array-share-prefix-digits slice-aggregate-copy copy-requires same-length returns)
+put-decimal-spec =
+    tie.close
+    (tie.spec
+    decimal-requires
+    array-share-prefix-digits
+    slice-aggregate-copy
+    copy-requires
+    same-length
+    returns)

@@ -1,9 +1,8 @@
--- `report::text::put_item` meets its contract: the number's digits are written after the label. Assumes nothing.
+-- `report::text::put_item` meets its contract: the number's digits are written after the label.
 use native.Mathlib.Omega.{arith}
 use denote.Ref.{now}
-use Rattle.lists.proofs.Pieces.{written-copied, written-more}
-use Rattle.report.specs.Decimal.{decimal}
-use Rattle.report.specs.Summary.{item}
+use Rattle.lists.proofs.Pieces.{written-copied, written-then}
+use Rattle.report.specs.Lines.{item}
 use borrow.Author.Needs.{needs}
 use Rattle.report.proofs.text.put_item.Statement.{statement}
 use Rattle.report.proofs.text.put_item.Tie as tie
@@ -35,11 +34,8 @@ returns c =
     let p = c .before .before in
     let y = p .before .before .before .before in
     let a = y .before .before .before .before .args in
-    let front = written-copied (now (a .label)) (now (a .out)) (y .copy .last .1 .0) (y .copy .result) (y .copy .ensures .0) (y .copy .ensures .1) in
-    let w =
-    written-more front (decimal (a .n)) (p .put-decimal .last .1 .0)
-    (p .put-decimal .result) (p .put-decimal .ensures .0 .0) (p .put-decimal .ensures .1) in
-    ((w .bytes, omega (arith, y .copy .ensures .0, p .put-decimal .ensures .0 .1)), w .all)
+    let label = written-copied (now (a .label)) (now (a .out)) _ _ (y .copy .ensures .0) (y .copy .ensures .1) in
+    (written-then label (p .put-decimal .ensures .0), omega (arith, y .copy .ensures .0, p .put-decimal .ensures .1))
 
 pub put-item-spec : {M : Type 1} → statement M
 put-item-spec =

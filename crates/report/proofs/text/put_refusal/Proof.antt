@@ -1,15 +1,16 @@
--- `report::text::put_refusal` meets its contract: the place's line is written after the number. Assumes nothing.
+-- `report::text::put_refusal` meets its contract: the place's line is written after the number.
 use native.Mathlib.Omega.{arith}
-use denote.Ref.{now}
-use Rattle.lists.proofs.Pieces.{Written, written-more}
-use Rattle.report.specs.Labels.{refusedLabel, atLabel}
-use Rattle.report.specs.Summary.{item, line, refusalLine}
+use Rattle.lists.proofs.Pieces.{written-then}
+use Rattle.report.specs.Lines.{refusalLine}
 use borrow.Author.Needs.{needs}
 use Rattle.report.proofs.text.put_refusal.Statement.{statement}
 use Rattle.report.proofs.text.put_refusal.Tie as tie
 
 slice-aggregate-put-item : tie.Need-slice-aggregate-put-item
 slice-aggregate-put-item c = search needs
+
+cast-put-item : tie.Need-cast-put-item
+cast-put-item c = search needs
 
 put-item-requires : tie.Need-put-item-requires
 put-item-requires c κs = search needs
@@ -39,20 +40,17 @@ returns : tie.Need-returns
 unfolding refusalLine
 returns c =
     let p = c .before .before in
-    let y = p .before .before .before .before .before in
-    let a = y .before .before .before .before .args in
-    let front : Written (item refusedLabel (a .number)) (now (a .out)) (y .put-item .last .1 .1 .0) (y .put-item .result) =
-    record { bytes = y .put-item .ensures .0 .0; all = y .put-item .ensures .1 } in
-    let w =
-    written-more front (line atLabel (a .place)) (p .put-line .last .1 .1 .0) (p .put-line .result) (p .put-line .ensures .0 .0)
-    (p .put-line .ensures .1) in
-    ((w .bytes, omega (arith, y .put-item .ensures .0 .1, p .put-line .ensures .0 .1)), w .all)
+    let y = p .before .before .before .before .before in (
+      written-then (y .put-item .ensures .0) (p .put-line .ensures .0),
+      omega (arith, y .put-item .ensures .1, p .put-line .ensures .1),
+    )
 
 pub put-refusal-spec : {M : Type 1} → statement M
 put-refusal-spec =
     tie.close
     (tie.spec
     slice-aggregate-put-item
+    cast-put-item
     put-item-requires
     slice-aggregate-put-line
     sub-put-line

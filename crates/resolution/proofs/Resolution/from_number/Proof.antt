@@ -1,5 +1,4 @@
 -- `resolution::Resolution::from_number` meets its contract: each arm of the match is a case of `chosen`.
--- Assumes nothing.
 use borrow.Author.Tests.{ne-eqb}
 use Rattle.resolution.proofs.Resolution.from_number.Statement.{statement}
 use Rattle.resolution.proofs.Resolution.from_number.Tie as tie
@@ -14,7 +13,9 @@ returns-3 : tie.Need-returns-3
 returns-3 c = rw (c .match .keys3)
 
 returns-4 : tie.Need-returns-4
-returns-4 c = simp (ne-eqb _ _ (c .match .rest .0 .0 .1), ne-eqb _ _ (c .match .rest .0 .1), ne-eqb _ _ (c .match .rest .1))
+returns-4 c =
+    let others = c .match .rest in
+    simp (ne-eqb _ _ (others .0 .0 .1), ne-eqb _ _ (others .0 .1), ne-eqb _ _ (others .1))
 
 pub from-number-spec : {M : Type 1} → statement M
 from-number-spec = tie.close (tie.spec returns returns-2 returns-3 returns-4)

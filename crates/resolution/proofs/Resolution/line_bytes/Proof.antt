@@ -1,5 +1,4 @@
 -- `resolution::Resolution::line_bytes` meets its contract: each arm is a case of `lineBytesOf`.
--- Assumes nothing.
 use mathlib.Core.Path.{sym, ap}
 use Rattle.resolution.specs.Shapes.{lineBytesOf}
 use borrow.Author.Needs.{needs}

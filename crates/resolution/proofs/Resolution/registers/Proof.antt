@@ -1,5 +1,4 @@
 -- `resolution::Resolution::registers` meets its contract: each arm is a case of `registersOf`.
--- Assumes nothing.
 use mathlib.Core.Path.{sym, ap}
 use Rattle.resolution.specs.Shapes.{registersOf}
 use borrow.Author.Needs.{needs}

@@ -1,5 +1,4 @@
 -- `resolution::Resolution::shape` meets its contract: each arm is a case of `shapeOf`.
--- Assumes nothing.
 use mathlib.Core.Path.{sym, ap}
 use Rattle.resolution.specs.Shapes.{shapeOf}
 use borrow.Author.Needs.{needs}

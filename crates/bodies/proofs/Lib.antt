@@ -1,0 +1,10 @@
+pub mod Buffer
+pub mod Exact
+pub mod JudgeRaster
+pub mod Least
+pub mod LeastRows
+pub mod Packing
+pub mod PlaneRow
+pub mod RoundTrip
+pub mod RowsPut
+pub mod Unpacking

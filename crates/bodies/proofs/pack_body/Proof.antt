@@ -1,0 +1,112 @@
+-- `bodies::pack_body` meets its contract: a refusal of the raster or the area, or of the output, or what `pack_below`
+-- gives with a buffer of a row's width.
+use mathlib.Core.Path.{_≡_, refl, sym, _∙_}
+use mathlib.Core.Bool.{false}
+use Prim.Native.Nat.{_-_, _≤_, _<_}
+use denote.Ref.{now}
+use lib.ListN.{length}
+use Rattle.packbits.specs.Row.{widthOutOfRange}
+use Rattle.packbits.proofs.Row.{in-range}
+use Rattle.raster.specs.Shape.{rowBytes, bytes}
+use Rattle.bodies.proofs.Buffer.{length-lent}
+use Rattle.bodies.proofs.JudgeRaster.{none-refused}
+use Rattle.bodies.proofs.Packing.{pack-refused, pack-no-room, pack-room}
+use borrow.Author.Needs.{needs}
+use Rattle.bodies.proofs.pack_body.Statement.{statement}
+use Rattle.bodies.proofs.pack_body.Tie as tie
+
+-- past the first test the raster and the area are not refused
+fits-here : (e : tie.Else1)
+    → let a = e .before .before .before .before .before .args in
+    (widthOutOfRange (rowBytes (a .r)) ≡ false) × (bytes (a .r) ≤ length (now (a .area)))
+fits-here e =
+    let a = e .before .before .before .before .before .args in
+    none-refused (a .r) (length (now (a .area))) (rw (e .before .before .raster-refusal .ensures) at (e .if1 .left))
+
+-- past the second the output has room for every body below the limit
+room-here : (e : tie.Else2)
+    → let a = e .before .before .before .before .before .before .before .args in
+    a .limit - 1 ≤ length (now (a .out))
+room-here e = rw (e .before .longest-below .ensures) at (e .if2 .left)
+
+width-here : (c : tie.After-row-bytes) → widthOutOfRange (c .row-bytes .result) ≡ false
+width-here c = rw (c .row-bytes .ensures .0) (fits-here (c .before .before .before) .0)
+
+raster-refusal-requires : tie.Need-raster-refusal-requires
+raster-refusal-requires c κs = search needs
+
+body-refused-requires : tie.Need-body-refused-requires
+body-refused-requires c κs = search needs
+
+returns : tie.Need-returns
+returns c =
+    let t = c .before in
+    let a = t .before .before .before .before .before .args in
+    let why = t .before .before .raster-refusal .ensures in
+    let all = pack-refused (a .r) (now (a .area)) (a .limit) (length (now (a .out))) (rw why at (t .if1 .taken)) in
+    rw (c .body-refused .ensures, why, all) (refl, refl)
+
+longest-below-requires : tie.Need-longest-below-requires
+longest-below-requires c κs = search needs
+
+refuse-requires : tie.Need-refuse-requires
+refuse-requires c κs = search needs
+
+body-refused-requires-2 : tie.Need-body-refused-requires-2
+body-refused-requires-2 c κs = search needs
+
+returns-2 : tie.Need-returns-2
+returns-2 c =
+    let t = c .before .before in
+    let e = t .before .before in
+    let a = e .before .before .before .before .before .args in
+    let room = length (now (a .out)) in
+    let h : room < a .limit - 1 = rw (t .before .longest-below .ensures) at (t .if2 .taken) in
+    let all = pack-no-room (a .r) (now (a .area)) (a .limit) room (fits-here e .0) (fits-here e .1) h in
+    rw (c .body-refused2 .ensures, c .before .refuse .ensures, all) (refl, refl)
+
+row-bytes-requires : tie.Need-row-bytes-requires
+row-bytes-requires c κs = search needs
+
+array-borrow-prefix-row : tie.Need-array-borrow-prefix-row
+array-borrow-prefix-row c = in-range _ (width-here c) .1
+
+slice-aggregate-pack-below : tie.Need-slice-aggregate-pack-below
+slice-aggregate-pack-below c = sym (length-lent _ (width-here (c .before)))
+
+pack-below-requires : tie.Need-pack-below-requires
+pack-below-requires c κs =
+    let w = c .before .before in
+    let e = w .before .before .before in
+    let width = length-lent _ (width-here w) ∙ w .row-bytes .ensures .0 in
+    (record { range = fits-here e .0; full = fits-here e .1; width = width }, room-here (w .before))
+
+same-length : tie.Need-same-length
+same-length c = search needs
+
+returns-3 : tie.Need-returns-3
+returns-3 c =
+    let f = c .before .before .before .before .before .before .before in
+    let e = f .before .before in
+    let a = e .before .before .before .before .before .args in
+    let room = length (now (a .out)) in
+    rw (pack-room (a .r) (now (a .area)) (a .limit) room (fits-here e .0) (fits-here e .1) (room-here f))
+    (c .before .before .before .pack-below .ensures)
+
+pub pack-body-spec : {M : Type 1} → statement M
+pack-body-spec =
+    tie.close
+    (tie.spec
+    raster-refusal-requires
+    body-refused-requires
+    returns
+    longest-below-requires
+    refuse-requires
+    body-refused-requires-2
+    returns-2
+    row-bytes-requires
+    array-borrow-prefix-row
+    slice-aggregate-pack-below
+    pack-below-requires
+    same-length
+    returns-3)

@@ -1,0 +1,4 @@
+pub mod Body
+pub mod Packing
+pub mod Unpacking
+pub mod Unpacks

@@ -1,0 +1,205 @@
+// The packed body of a raster: unpacked from an offset of a file, and the least one below a limit packed. Definitions:
+// specs/.
+ghost use mathlib.Core.Path.{_≡_};
+ghost use Prim.Native.Nat.{_-_, _≤_, _<_};
+ghost use lib.ListN.{length};
+ghost use lib.Dec.{leb};
+ghost use Rattle.lists.specs.Over.{over};
+ghost use Rattle.packbits.specs.Row.{rowAnswer};
+ghost use Rattle.pack.specs.Least.{least};
+ghost use Rattle.raster.specs.Shape.{rowBytes, rows, bytes};
+ghost use Rattle.raster.specs.PlaneRows.{planeRow};
+ghost use Rattle.bodies.specs.Body.{judgeRaster, rasterRefusal, bodyDone, bodyRefused, RowRoom};
+ghost use Rattle.bodies.specs.Packing.{packedRow, leastBody, leastBodyRecords};
+ghost use Rattle.bodies.specs.Packing.{belowLimit, packBody, packedAnswer, packedOutput};
+ghost use Rattle.bodies.specs.Unpacking.{unpackBody, unpackedAnswer, wholeRows, withRows, unpackedArea};
+use outcome::AREA_TOO_SHORT;
+use outcome::NO_PACKED_BODY;
+use outcome::OUT_OF_RANGE;
+use outcome::Refusal;
+use packbits::MAX_WIDTH;
+use packbits::RowAnswer;
+use raster::Raster;
+
+// The answer of a body packed or unpacked: its packed bytes and its records; both 0 of a refusal.
+pub struct BodyAnswer {
+    pub refusal: Refusal,
+    pub body: usize,
+    pub records: usize,
+}
+
+// The answer of a refused body.
+pub fn body_refused(refusal: Refusal) -> BodyAnswer
+    ensures { λ a. ⌜ a ≡ bodyRefused refusal ⌝ }
+{
+    BodyAnswer {
+        refusal,
+        body: 0,
+        records: 0,
+    }
+}
+
+// Why a raster with an area of room bytes is refused, or none.
+fn raster_refusal(r: Raster, room: usize) -> Refusal
+    ensures { λ w. ⌜ w ≡ rasterRefusal r room ⌝ }
+{
+    if packbits::width_out_of_range(r.row_bytes()) {
+        return outcome::refuse(OUT_OF_RANGE);
+    }
+    if room < r.bytes() {
+        return outcome::refuse(AREA_TOO_SHORT);
+    }
+    outcome::none()
+}
+
+// Unpacks each plane row into a buffer of its width, and puts it to where it belongs in the area, until all are whole
+// or a record is at fault.
+fn put_rows(file: &[u8], at: usize, r: Raster, row: &mut [u8], area: &mut [u8]) -> BodyAnswer
+    requires { ⌜ (length (now row) ≡ rowBytes r) × (bytes r ≤ length (now area)) ⌝ }
+    ensures answer { λ a. ⌜ a ≡ unpackedAnswer (unpackBody (now (file .entry)) at r) ⌝ }
+    ensures area { λ _. ⌜ now (area .exit) ≡ withRows r (wholeRows (now (file .entry)) at r) (now (area .entry)) ⌝ }
+{
+    let rows = r.rows();
+    let mut used: usize = 0;
+    let mut records: usize = 0;
+    let mut n: usize = 0;
+    while n < rows {
+        let answer = unpack::unpack_into(file, at + used, row);
+        if answer.refusal.number != 0 {
+            return body_refused(answer.refusal);
+        }
+        raster::put_row(area, r, n, row);
+        used += answer.bytes;
+        records += answer.records;
+        n += 1;
+    }
+    BodyAnswer {
+        refusal: outcome::none(),
+        body: used,
+        records,
+    }
+}
+
+// Unpacks the body that starts at an offset of a file into an area. After a record at fault the area holds the rows
+// before it: a caller that must leave an area as it was lends a buffer of its own.
+pub fn unpack_body(file: &[u8], at: usize, r: Raster, area: &mut [u8]) -> BodyAnswer
+    ensures answer { λ a. ⌜ a
+        ≡ unpackedAnswer (judgeRaster r (length (now (area .entry))) (unpackBody (now (file .entry)) at r)) ⌝ }
+    ensures area { λ _. ⌜ now (area .exit) ≡ unpackedArea (now (file .entry)) at r (now (area .entry)) ⌝ }
+{
+    let refusal = raster_refusal(r, area.len());
+    if refusal.number != 0 {
+        return body_refused(refusal);
+    }
+    let width = r.row_bytes();
+    let mut row = [0u8; MAX_WIDTH];
+    put_rows(file, at, r, &mut row[..width], area)
+}
+
+// The length of plane row n's least body; the row is taken into a buffer of its width.
+fn least_row_len(area: &[u8], r: Raster, n: usize, row: &mut [u8]) -> usize
+    requires { ⌜ RowRoom r (now area) (now row) × (n < rows r) ⌝ }
+    ensures { λ l. ⌜ l ≡ length (least (planeRow (now (area .entry)) r n)) ⌝ }
+{
+    raster::take_row(area, r, n, row);
+    pack::least_len(row)
+}
+
+// Plane row n's least body to the front of out.
+fn pack_plane_row(area: &[u8], r: Raster, n: usize, row: &mut [u8], out: &mut [u8]) -> RowAnswer
+    requires { ⌜ RowRoom r (now area) (now row) × (n < rows r) ⌝ }
+    requires { ⌜ length (least (planeRow (now area) r n)) ≤ length (now out) ⌝ }
+    ensures answer { λ a. ⌜ a ≡ rowAnswer (packedRow (now (area .entry)) r n) ⌝ }
+    ensures out { λ _. ⌜ now (out .exit) ≡ over (least (planeRow (now (area .entry)) r n)) (now (out .entry)) ⌝ }
+{
+    raster::take_row(area, r, n, row);
+    pack::pack_into(row, out)
+}
+
+// Whether the least body is not below a limit. Each row's saving is taken off the most that the body can have, until
+// that is below the limit.
+fn body_too_long(area: &[u8], r: Raster, limit: usize, row: &mut [u8]) -> bool
+    requires { ⌜ RowRoom r (now area) (now row) ⌝ }
+    ensures { λ l. ⌜ l ≡ leb limit (length (leastBody r (now (area .entry)))) ⌝ }
+{
+    let rows = r.rows();
+    let longest = r.row_bytes() + 1;
+    let mut most = rows * longest;
+    let mut n = 0;
+    while n < rows {
+        most -= longest - least_row_len(area, r, n, row);
+        if most < limit {
+            return false;
+        }
+        n += 1;
+    }
+    limit <= most
+}
+
+// The whole body to the front of out. Each row's body goes to the part of out that starts where the one before it
+// ended.
+fn put_body(area: &[u8], r: Raster, row: &mut [u8], out: &mut [u8]) -> BodyAnswer
+    requires { ⌜ RowRoom r (now area) (now row) ⌝ }
+    requires { ⌜ length (leastBody r (now area)) ≤ length (now out) ⌝ }
+    ensures answer { λ a. ⌜ a
+        ≡ bodyDone (length (leastBody r (now (area .entry)))) (leastBodyRecords r (now (area .entry))) ⌝ }
+    ensures out { λ _. ⌜ now (out .exit) ≡ over (leastBody r (now (area .entry))) (now (out .entry)) ⌝ }
+{
+    let rows = r.rows();
+    let mut n = 0;
+    let mut end = 0;
+    let mut records = 0;
+    while n < rows {
+        let packed = pack_plane_row(area, r, n, row, &mut out[end..]);
+        end += packed.bytes;
+        records += packed.records;
+        n += 1;
+    }
+    BodyAnswer {
+        refusal: outcome::none(),
+        body: end,
+        records,
+    }
+}
+
+// The least body to the front of out, where it is below a limit.
+fn pack_below(area: &[u8], r: Raster, limit: usize, row: &mut [u8], out: &mut [u8]) -> BodyAnswer
+    requires { ⌜ RowRoom r (now area) (now row) ⌝ }
+    requires { ⌜ limit - 1 ≤ length (now out) ⌝ }
+    ensures answer { λ a. ⌜ a ≡ packedAnswer (belowLimit r (now (area .entry)) limit) ⌝ }
+    ensures out { λ _. ⌜ now (out .exit) ≡ packedOutput (belowLimit r (now (area .entry)) limit) (now (out .entry)) ⌝ }
+{
+    if body_too_long(area, r, limit, row) {
+        return body_refused(outcome::refuse(NO_PACKED_BODY));
+    }
+    put_body(area, r, row, out)
+}
+
+// The length of the longest string below a limit.
+fn longest_below(limit: usize) -> usize
+    ensures { λ n. ⌜ n ≡ limit - 1 ⌝ }
+{
+    if limit == 0 {
+        return 0;
+    }
+    limit - 1
+}
+
+// Packs an area to its least body below a limit, to the front of out, which must have room for every body below the
+// limit. All is judged and decided before the first byte is written.
+pub fn pack_body(area: &[u8], r: Raster, limit: usize, out: &mut [u8]) -> BodyAnswer
+    ensures answer { λ a. ⌜ a ≡ packedAnswer (packBody r (now (area .entry)) limit (length (now (out .entry)))) ⌝ }
+    ensures out { λ _. ⌜ now (out .exit)
+        ≡ packedOutput (packBody r (now (area .entry)) limit (length (now (out .entry)))) (now (out .entry)) ⌝ }
+{
+    let refusal = raster_refusal(r, area.len());
+    if refusal.number != 0 {
+        return body_refused(refusal);
+    }
+    if out.len() < longest_below(limit) {
+        return body_refused(outcome::refuse(AREA_TOO_SHORT));
+    }
+    let width = r.row_bytes();
+    let mut row = [0u8; MAX_WIDTH];
+    pack_below(area, r, limit, &mut row[..width], out)
+}

@@ -1,0 +1,9 @@
+pub mod Acceptance
+pub mod FileLayout
+pub mod LeastBody
+pub mod Opening
+pub mod ReadDegas
+pub mod RoundTrip
+pub mod ScreenRaster
+pub mod Whole
+pub mod WriteDegas

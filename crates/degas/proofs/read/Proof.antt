@@ -1,0 +1,77 @@
+-- `degas::read` meets its contract: the area's length and the opened file pick the case of `readDegas`.
+use mathlib.Core.Path.{refl, sym, ap, _∙_}
+use denote.Ref.{now}
+use lib.ListN.{length}
+use Rattle.outcome.specs.declared.Refusal.{Refusal}
+use Rattle.outcome.specs.Outcome.{refused}
+use Rattle.picture.specs.Reading.{readAnswer}
+use Rattle.degas.specs.Opening.{opening}
+use Rattle.degas.proofs.Opening.{file-opened, refused-opened}
+use Rattle.degas.proofs.ReadDegas.{read-short, read-fits}
+use borrow.Author.Needs.{needs}
+use Rattle.degas.proofs.read.Statement.{statement}
+use Rattle.degas.proofs.read.Tie as tie
+
+refuse-requires : tie.Need-refuse-requires
+refuse-requires c κs = search needs
+
+read-refused-requires : tie.Need-read-refused-requires
+read-refused-requires c κs = search needs
+
+returns : tie.Need-returns
+returns c =
+    let a = c .before .before .before .before .before .args in
+    rw (read-short (now (a .file)) (length (now (a .area))) (c .before .before .if1 .taken))
+    (c .read-refused .ensures ∙ ap (λ (w : Refusal). readAnswer (refused w)) (c .before .refuse .ensures), refl)
+
+open-file-requires : tie.Need-open-file-requires
+open-file-requires c κs = search needs
+
+enum-known-h : tie.Need-enum-known-h
+enum-known-h c = search needs
+
+read-opened-requires : tie.Need-read-opened-requires
+read-opened-requires c κs = search needs
+
+enum-known-why : tie.Need-enum-known-why
+enum-known-why c = search needs
+
+read-refused-requires-2 : tie.Need-read-refused-requires-2
+read-refused-requires-2 c κs = search needs
+
+same-length : tie.Need-same-length
+same-length c = search needs
+
+returns-2 : tie.Need-returns-2
+returns-2 c =
+    let m = c .before .before .before .before .before in
+    let a = m .before .before .before .before .before .before .args in
+    let is = sym (m .h .given .1) ∙ m .before .before .open-file .ensures in
+    let o = file-opened (opening (now (a .file))) _ is in
+    rw (read-fits (now (a .file)) (length (now (a .area))) (m .before .before .before .if1 .left), o)
+    (c .before .before .read-opened .ensures)
+
+returns-3 : tie.Need-returns-3
+returns-3 c =
+    let m = c .before .before in
+    let a = m .before .before .before .before .before .before .args in
+    let is = sym (m .why .given .1) ∙ m .before .before .open-file .ensures in
+    let o = refused-opened (opening (now (a .file))) _ is in
+    rw (read-fits (now (a .file)) (length (now (a .area))) (m .before .before .before .if1 .left), o)
+    (c .read-refused2 .ensures, refl)
+
+pub read-spec : {M : Type 1} → statement M
+read-spec =
+    tie.close
+    (tie.spec
+    refuse-requires
+    read-refused-requires
+    returns
+    open-file-requires
+    enum-known-h
+    read-opened-requires
+    enum-known-why
+    read-refused-requires-2
+    same-length
+    returns-2
+    returns-3)

@@ -1,0 +1,46 @@
+-- `degas::reading::copy_screen` meets its contract: what `copy` wrote is the part that was lent.
+use mathlib.Core.Path.{refl}
+use denote.Ref.{now}
+use Rattle.lists.proofs.Parts.{copied-part}
+use Rattle.resolution.specs.Shapes.{screenBytes}
+use Rattle.degas.specs.Layout.{headerLength}
+use borrow.Author.Needs.{needs}
+use Rattle.degas.proofs.reading.copy_screen.Statement.{statement}
+use Rattle.degas.proofs.reading.copy_screen.Tie as tie
+
+sub-copy : tie.Need-sub-copy
+sub-copy c = search needs
+
+part-copy-start : tie.Need-part-copy-start
+part-copy-start c = search needs
+
+part-copy-end : tie.Need-part-copy-end
+part-copy-end c = search needs
+
+copy-requires : tie.Need-copy-requires
+copy-requires c κs = search needs
+
+read-done-requires : tie.Need-read-done-requires
+read-done-requires c κs = search needs
+
+same-length : tie.Need-same-length
+same-length c = search needs
+
+returns : tie.Need-returns
+returns c =
+    let d = c .before .before .before in
+    let a = d .before .before .before .before .before .args in
+    let part = copied-part (now (a .file)) (now (a .area)) _ headerLength screenBytes _ refl (d .copy .ensures .1) in
+    (c .read-done .ensures, part)
+
+pub copy-screen-spec : {M : Type 1} → statement M
+copy-screen-spec =
+    tie.close
+    (tie.spec
+    sub-copy
+    part-copy-start
+    part-copy-end
+    copy-requires
+    read-done-requires
+    same-length
+    returns)

@@ -1,0 +1,78 @@
+-- `degas::writing::put_header` meets its contract: the palette follows the word.
+use mathlib.Core.Path.{_≡_, ap₂, _∙_}
+use mathlib.Core.List.{_++_}
+use native.Mathlib.Omega.{arith}
+use denote.Ref.{now}
+use lib.ListN.{length}
+use Rattle.lists.proofs.Parts.{copied-over}
+use Rattle.lists.proofs.Pieces.{written-copied, written-as, written-more}
+use Rattle.degas.specs.Layout.{header}
+use borrow.Author.Needs.{needs}
+use Rattle.degas.proofs.writing.put_header.Statement.{statement}
+use Rattle.degas.proofs.writing.put_header.Tie as tie
+
+word-bytes-requires : tie.Need-word-bytes-requires
+word-bytes-requires c κs = search needs
+
+palette-bytes-requires : tie.Need-palette-bytes-requires
+palette-bytes-requires c κs = search needs
+
+slice-aggregate-copy : tie.Need-slice-aggregate-copy
+slice-aggregate-copy c = search needs
+
+copy-requires : tie.Need-copy-requires
+copy-requires c κs = search needs
+
+slice-aggregate-copy-2 : tie.Need-slice-aggregate-copy-2
+slice-aggregate-copy-2 c = search needs
+
+sub-copy : tie.Need-sub-copy
+sub-copy c = search needs
+
+part-copy-start : tie.Need-part-copy-start
+part-copy-start c = search needs
+
+part-copy-end : tie.Need-part-copy-end
+part-copy-end c = search needs
+
+copy-requires-2 : tie.Need-copy-requires-2
+copy-requires-2 c κs = search needs
+
+add-result : tie.Need-add-result
+add-result c = search needs
+
+same-length : tie.Need-same-length
+same-length c = search needs
+
+returns : tie.Need-returns
+returns c =
+    let d = c .before .before .before .before .before .before .before in
+    let b = d .before .before .before in
+    let a = b .before .before .before .before .args in
+    let first = b .before .word-bytes .result in
+    let words = b .palette-bytes .result in
+    let m : length first ≡ 2 = search needs in
+    let n : length words ≡ 32 = search needs in
+    let e = c .before .before .copy2 .ensures in
+    let w = written-copied first (now (a .out)) _ _ (d .copy .ensures .0) (d .copy .ensures .1) in (
+      written-as (header (a .word) (a .picture)) (ap₂ _++_ (b .before .word-bytes .ensures) (b .palette-bytes .ensures))
+          (written-more w words _ _ (e .0) (e .1 ∙ copied-over words _)),
+      omega (arith, d .copy .ensures .0, e .0),
+    )
+
+pub put-header-spec : {M : Type 1} → statement M
+put-header-spec =
+    tie.close
+    (tie.spec
+    word-bytes-requires
+    palette-bytes-requires
+    slice-aggregate-copy
+    copy-requires
+    slice-aggregate-copy-2
+    sub-copy
+    part-copy-start
+    part-copy-end
+    copy-requires-2
+    add-result
+    same-length
+    returns)

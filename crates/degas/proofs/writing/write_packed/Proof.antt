@@ -1,0 +1,136 @@
+-- `degas::writing::write_packed` meets its contract: the body picks the case; the header is put before it, and the tail
+-- after it.
+use mathlib.Core.Path.{_≡_, refl, _∙_}
+use Prim.Native.Nat.{_+_, _-_, _<_}
+use native.Mathlib.Omega.{arith}
+use borrow.Rule.Slice.PartMut.{putMid}
+use denote.Ref.{now}
+use lib.ListN.{length}
+use Rattle.resolution.proofs.Choice.{known-le}
+use Rattle.degas.specs.Layout.{headerLength, plainLength}
+use Rattle.degas.proofs.WriteDegas.{BodyPacked, packed-refused, packed-body, packed-written}
+use borrow.Author.Needs.{needs}
+use Rattle.degas.proofs.writing.write_packed.Statement.{statement}
+use Rattle.degas.proofs.writing.write_packed.Tie as tie
+
+-- the body, packed into the part after the header
+here : (j : tie.After-pack-body)
+    → let a = j .before .before .before .before .before .args in let last = j .pack-body .last .1 .1 .1 .0 in
+    BodyPacked (a .r) (now (a .screen)) (now (a .out))
+    (putMid headerLength (length (now (a .out)) - headerLength) (now (a .out)) last)
+    (j .pack-body .result)
+here j = record {
+  full = j .before .before .before .before .before .pre .1 .0;
+  room = j .before .before .before .before .before .pre .1 .1;
+  last = j .pack-body .last .1 .1 .1 .0;
+  back = refl;
+  answer = rw (j .before .before .raster .ensures) at (j .pack-body .ensures .0);
+  made = rw (j .before .before .raster .ensures) at (j .pack-body .ensures .1);
+}
+
+-- it ends where a plain file's screen would, or before
+ends : (h : tie.After-put-header)
+    → let j = h .before .before .before .before .before .before .before .before in
+    h .put-header .result + j .pack-body .result .body < plainLength
+ends h =
+    let j = h .before .before .before .before .before .before .before .before in
+    let a = j .before .before .before .before .before .args in
+    let body = packed-body (a .picture) (here j) (omega (arith, h .before .before .before .before .if1 .left)) in
+    omega (arith, body .below, h .put-header .ensures .1)
+
+raster-requires : tie.Need-raster-requires
+raster-requires c κs = search needs
+
+sub-pack-body : tie.Need-sub-pack-body
+sub-pack-body c = search needs
+
+part-pack-body-start : tie.Need-part-pack-body-start
+part-pack-body-start c = search needs
+
+part-pack-body-end : tie.Need-part-pack-body-end
+part-pack-body-end c = search needs
+
+pack-body-requires : tie.Need-pack-body-requires
+pack-body-requires c κs = search needs
+
+write-refused-requires : tie.Need-write-refused-requires
+write-refused-requires c κs = search needs
+
+same-length : tie.Need-same-length
+same-length c = search needs
+
+returns : tie.Need-returns
+returns c =
+    let j = c .before .before .before .before .before in
+    let a = j .before .before .before .before .before .args in
+    let d = packed-refused (a .picture) (here j) (c .before .if1 .taken) in
+    (c .write-refused .ensures ∙ d .0, d .1)
+
+add-put-header : tie.Need-add-put-header
+add-put-header c =
+    let s = c .before .before .before .before .before .before .before .before .before .before .before in
+    omega (arith, known-le (s .args .picture .resolution) (s .args .r) (s .pre .0))
+
+put-header-requires : tie.Need-put-header-requires
+put-header-requires c κs = search needs
+
+add-end : tie.Need-add-end
+add-end c = omega (arith, ends (c .before .before .before))
+
+sub-put-tail : tie.Need-sub-put-tail
+sub-put-tail c = omega (arith, ends (c .before .before .before))
+
+part-put-tail-start : tie.Need-part-put-tail-start
+part-put-tail-start c = omega (arith, ends (c .before .before .before))
+
+part-put-tail-end : tie.Need-part-put-tail-end
+part-put-tail-end c = search needs
+
+put-tail-requires : tie.Need-put-tail-requires
+put-tail-requires c κs = omega (arith, ends (c .before .before .before .before))
+
+add-length : tie.Need-add-length
+add-length c =
+    let h = c .before .before .before .before .before .before .before in
+    omega (arith, ends h, c .before .before .put-tail .ensures .1)
+
+write-done-requires : tie.Need-write-done-requires
+write-done-requires c κs = search needs
+
+same-length-2 : tie.Need-same-length-2
+same-length-2 c = search needs
+
+returns-2 : tie.Need-returns-2
+returns-2 c =
+    let h = c .before .before .before .before .before .before .before .before in
+    let j = h .before .before .before .before .before .before .before .before in
+    let e = h .put-header .ensures in
+    let a = j .before .before .before .before .before .args in
+    let ok : j .pack-body .result .refusal .number ≡ 0 = omega (arith, h .before .before .before .before .if1 .left) in
+    packed-written (a .picture) (here j) ok _ _ _ _ (e .0) (e .1)
+    (c .before .before .before .put-tail .ensures .0)
+    (c .write-done .ensures)
+
+pub write-packed-spec : {M : Type 1} → statement M
+write-packed-spec =
+    tie.close
+    (tie.spec
+    raster-requires
+    sub-pack-body
+    part-pack-body-start
+    part-pack-body-end
+    pack-body-requires
+    write-refused-requires
+    same-length
+    returns
+    add-put-header
+    put-header-requires
+    add-end
+    sub-put-tail
+    part-put-tail-start
+    part-put-tail-end
+    put-tail-requires
+    add-length
+    write-done-requires
+    same-length-2
+    returns-2)

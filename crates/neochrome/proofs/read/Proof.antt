@@ -1,0 +1,77 @@
+-- `neochrome::read` meets its contract: the area and the opening pick the case.
+use mathlib.Core.Path.{refl, sym, ap, _∙_}
+use native.Mathlib.Omega.{arith}
+use denote.Ref.{now}
+use Rattle.outcome.specs.declared.Refusal.{Refusal}
+use Rattle.outcome.specs.Outcome.{refused}
+use Rattle.outcome.proofs.Outcome.{judged-value}
+use Rattle.picture.specs.Reading.{readAnswer}
+use Rattle.neochrome.specs.Opening.{opening}
+use Rattle.neochrome.proofs.Opening.{Passes, opening-judged, file-opened, refused-opened}
+use Rattle.neochrome.proofs.Reading.{read-short, read-refused, read-opened}
+use borrow.Author.Needs.{needs}
+use Rattle.neochrome.proofs.read.Statement.{statement}
+use Rattle.neochrome.proofs.read.Tie as tie
+
+refuse-requires : tie.Need-refuse-requires
+refuse-requires c κs = search needs
+
+read-refused-requires : tie.Need-read-refused-requires
+read-refused-requires c κs = search needs
+
+returns : tie.Need-returns
+returns c =
+    rw (read-short _ _ (c .before .before .if1 .taken))
+    (c .read-refused .ensures ∙ ap (λ (why : Refusal). readAnswer (refused why)) (c .before .refuse .ensures), refl)
+
+open-file-requires : tie.Need-open-file-requires
+open-file-requires c κs = search needs
+
+enum-known-r : tie.Need-enum-known-r
+enum-known-r c = search needs
+
+read-opened-requires : tie.Need-read-opened-requires
+read-opened-requires c κs =
+    let m = c .before .before in
+    let file = now (m .before .before .before .before .before .before .args .file) in
+    let e = file-opened (opening file) _ (sym (m .r .given .1) ∙ m .before .before .open-file .ensures) in
+    (judged-value (Passes file) (opening file) _ (opening-judged file) e .0 .fits, omega arith)
+
+enum-known-why : tie.Need-enum-known-why
+enum-known-why c = search needs
+
+read-refused-requires-2 : tie.Need-read-refused-requires-2
+read-refused-requires-2 c κs = search needs
+
+same-length : tie.Need-same-length
+same-length c = search needs
+
+returns-2 : tie.Need-returns-2
+returns-2 c =
+    let m = c .before .before .before .before .before in
+    let file = now (m .before .before .before .before .before .before .args .file) in
+    let e = file-opened (opening file) _ (sym (m .r .given .1) ∙ m .before .before .open-file .ensures) in
+    rw (read-opened _ _ (m .before .before .before .if1 .left) _ e) (c .before .before .read-opened .ensures)
+
+returns-3 : tie.Need-returns-3
+returns-3 c =
+    let m = c .before .before in
+    let file = now (m .before .before .before .before .before .before .args .file) in
+    let e = refused-opened (opening file) _ (sym (m .why .given .1) ∙ m .before .before .open-file .ensures) in
+    rw (read-refused _ _ (m .before .before .before .if1 .left) _ e) (c .read-refused2 .ensures, refl)
+
+pub read-spec : {M : Type 1} → statement M
+read-spec =
+    tie.close
+    (tie.spec
+    refuse-requires
+    read-refused-requires
+    returns
+    open-file-requires
+    enum-known-r
+    read-opened-requires
+    enum-known-why
+    read-refused-requires-2
+    same-length
+    returns-2
+    returns-3)

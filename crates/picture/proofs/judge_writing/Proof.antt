@@ -1,0 +1,71 @@
+-- `picture::judge_writing` meets its contract: each test is the definition's.
+use mathlib.Core.Path.{sym, ap, _∙_}
+use native.Mathlib.Omega.{arith}
+use Rattle.picture.specs.declared.Writable.the-variants.{Refused}
+use Rattle.picture.specs.Writing.{writableAs}
+use Rattle.picture.proofs.Writing.{judge-screen, judge-output, judge-unknown, judge-passed}
+use borrow.Author.Needs.{needs}
+use Rattle.picture.proofs.judge_writing.Statement.{statement}
+use Rattle.picture.proofs.judge_writing.Tie as tie
+
+refuse-requires : tie.Need-refuse-requires
+refuse-requires c κs = search needs
+
+returns : tie.Need-returns
+returns c =
+    let a = c .before .before .args in
+    ap Refused (c .refuse .ensures)
+    ∙ sym (ap writableAs (judge-screen (a .screen) (a .out) (a .resolution) (omega arith)))
+
+refuse-requires-2 : tie.Need-refuse-requires-2
+refuse-requires-2 c κs = search needs
+
+returns-2 : tie.Need-returns-2
+returns-2 c =
+    let a = c .before .before .before .args in
+    ap Refused (c .refuse2 .ensures)
+    ∙ sym (ap writableAs (judge-output (a .screen) (a .out) (a .resolution) (omega arith) (omega arith)))
+
+from-number-requires : tie.Need-from-number-requires
+from-number-requires c κs = search needs
+
+enum-known-r : tie.Need-enum-known-r
+enum-known-r c = search needs
+
+enum-told : tie.Need-enum-told
+enum-told c = search needs
+
+refuse-requires-3 : tie.Need-refuse-requires-3
+refuse-requires-3 c κs = search needs
+
+returns-3 : tie.Need-returns-3
+returns-3 c =
+    let a = c .before .before .before .before .before .before .args in
+    let k = sym (c .before .before .before .from-number .ensures) ∙ c .before .r .given .1 in
+    sym (
+    ap writableAs
+    (judge-passed (a .screen) (a .out) (a .resolution) _
+    (record { screen-fits = omega arith; output-fits = omega arith; known = k }))
+    )
+
+returns-4 : tie.Need-returns-4
+returns-4 c =
+    let a = c .before .before .before .before .before .before .args in
+    let k = sym (c .before .before .before .from-number .ensures) ∙ c .before .enum-told .given .1 in
+    ap Refused (c .refuse3 .ensures)
+    ∙ sym (ap writableAs (judge-unknown (a .screen) (a .out) (a .resolution) (omega arith) (omega arith) k))
+
+pub judge-writing-spec : {M : Type 1} → statement M
+judge-writing-spec =
+    tie.close
+    (tie.spec
+    refuse-requires
+    returns
+    refuse-requires-2
+    returns-2
+    from-number-requires
+    enum-known-r
+    enum-told
+    refuse-requires-3
+    returns-3
+    returns-4)

@@ -1,0 +1,30 @@
+-- `picture::parts::palette_bytes` meets its contract: the bytes are written over the whole of an array as long.
+use mathlib.Core.Path.{_≡_, _∙_}
+use native.Mathlib.Omega.{arith}
+use lib.ListN.{length}
+use Rattle.lists.proofs.Over.{over-whole}
+use Rattle.words.specs.Word.{wordsBytes}
+use Rattle.words.proofs.Word.{length-wordsBytes}
+use borrow.Author.Needs.{needs}
+use Rattle.picture.proofs.parts.palette_bytes.Statement.{statement}
+use Rattle.picture.proofs.parts.palette_bytes.Tie as tie
+
+slice-aggregate-put-words : tie.Need-slice-aggregate-put-words
+slice-aggregate-put-words c = search needs
+
+slice-aggregate-put-words-2 : tie.Need-slice-aggregate-put-words-2
+slice-aggregate-put-words-2 c = search needs
+
+put-words-requires : tie.Need-put-words-requires
+put-words-requires c κs = search needs
+
+returns : tie.Need-returns
+returns c =
+    let a = c .before .before .before .before .args in
+    let n : length (a .t1) ≡ 16 = search needs in
+    c .before .put-words .ensures ∙ over-whole (wordsBytes (a .t1)) _ (omega (arith, length-wordsBytes (a .t1)))
+
+pub palette-bytes-spec : {M : Type 1} → statement M
+palette-bytes-spec =
+    tie.close
+    (tie.spec slice-aggregate-put-words slice-aggregate-put-words-2 put-words-requires returns)

@@ -1,0 +1,101 @@
+-- `picture::parts::put_words` meets its contract: after i turns the first i words stand at the front.
+use mathlib.Core.Path.{_≡_, refl, ap, _∙_}
+use mathlib.Core.List.{List, flatten}
+use Prim.Native.Nat.{ℕ, _*_, _-_, _≤_, _<_}
+use native.Mathlib.Omega.{arith}
+use denote.Ref.{now}
+use lib.ListN.{length, take}
+use lib.Seq.{take-all, length-take-le}
+use Rattle.lists.specs.Over.{over}
+use Rattle.words.specs.Word.{wordBytes, wordsBytes}
+use Rattle.lists.proofs.Flatten.{flatten-turn}
+use Rattle.words.proofs.Word.{length-wordsBytes}
+use borrow.Author.Needs.{needs}
+use Rattle.picture.proofs.parts.put_words.Statement.{statement}
+use Rattle.picture.proofs.parts.put_words.Tie as tie
+
+abbrev Inv-loop : tie.InvT-loop
+Inv-loop words out₀ i₀ i-end out i =
+    (i ≤ length words) × (i-end ≡ length words) × (length out ≡ length out₀)
+    × (out ≡ over (wordsBytes (take i words)) out₀)
+
+abbrev μ-loop : tie.MeasureT-loop
+μ-loop words out₀ i₀ i-end out i = length words - i
+
+loop-holds : tie.Need-loop-holds Inv-loop μ-loop
+unfolding wordsBytes flatten
+loop-holds c = (omega arith, refl, refl, refl)
+
+mul-put-word : tie.Need-mul-put-word Inv-loop μ-loop
+mul-put-word c = search needs
+
+shared-slice-read-put-word : tie.Need-shared-slice-read-put-word Inv-loop μ-loop
+shared-slice-read-put-word c = search needs
+
+mul-put-word-2 : tie.Need-mul-put-word-2 Inv-loop μ-loop
+mul-put-word-2 c = search needs
+
+sub-put-word : tie.Need-sub-put-word Inv-loop μ-loop
+sub-put-word c = search needs
+
+part-put-word-start : tie.Need-part-put-word-start Inv-loop μ-loop
+part-put-word-start c = search needs
+
+part-put-word-end : tie.Need-part-put-word-end Inv-loop μ-loop
+part-put-word-end c = search needs
+
+put-word-requires : tie.Need-put-word-requires Inv-loop μ-loop
+put-word-requires c κs = search needs
+
+add-i : tie.Need-add-i Inv-loop μ-loop
+add-i c = search needs
+
+loop-less : tie.Need-loop-less Inv-loop μ-loop
+loop-less c = search needs
+
+loop-again : tie.Need-loop-again Inv-loop μ-loop
+unfolding wordsBytes
+loop-again c =
+    let l = c .before .before .before .before .before .before .loop in
+    let a = c .before .before .before .before .before .before .before .before .before .args in
+    let h : l .i < length (now (a .words)) = omega arith in
+    let n : length (wordsBytes (take (l .i) (now (a .words)))) ≡ l .i * 2 =
+    length-wordsBytes (take (l .i) (now (a .words)))
+    ∙ ap (λ (k : ℕ). k * 2) (length-take-le (l .i) (now (a .words)) (omega arith))
+    in (
+      omega arith,
+      l .inv .1,
+      search needs,
+      flatten-turn wordBytes (now (a .words)) 0 (l .i) h (now (a .out)) (l .out) _ (l .i * 2) (l .inv .3) n
+          (c .before .before .put-word .ensures),
+    )
+
+same-length : tie.Need-same-length Inv-loop μ-loop
+same-length c = search needs
+
+returns : tie.Need-returns Inv-loop μ-loop
+returns c =
+    let l = c .before .loop in
+    let a = c .before .before .before .before .args in
+    l .inv .3
+    ∙ ap (λ (ws : List ℕ). over (wordsBytes ws) (now (a .out))) (take-all (l .i) (now (a .words)) (omega arith))
+
+pub put-words-spec : {M : Type 1} → statement M
+put-words-spec =
+    tie.close
+    (tie.spec
+    Inv-loop
+    μ-loop
+    loop-holds
+    mul-put-word
+    shared-slice-read-put-word
+    mul-put-word-2
+    sub-put-word
+    part-put-word-start
+    part-put-word-end
+    put-word-requires
+    add-i
+    loop-less
+    loop-again
+    same-length
+    returns)

@@ -1,0 +1,16 @@
+-- `picture::parts::tail_at` meets its contract by its callees'.
+use borrow.Author.Needs.{needs}
+use Rattle.picture.proofs.parts.tail_at.Statement.{statement}
+use Rattle.picture.proofs.parts.tail_at.Tie as tie
+
+tables-at-requires : tie.Need-tables-at-requires
+tables-at-requires c κs = search needs
+
+hold-requires : tie.Need-hold-requires
+hold-requires c κs = search needs
+
+returns : tie.Need-returns
+returns c = simp (c .hold .ensures, c .before .tables-at .ensures)
+
+pub tail-at-spec : {M : Type 1} → statement M
+tail-at-spec = tie.close (tie.spec tables-at-requires hold-requires returns)

@@ -1,0 +1,119 @@
+-- `raster::copy_row` meets its contract: the loop has written the first g words of the row.
+use mathlib.Core.Path.{_≡_, refl}
+use Prim.Native.Nat.{_*_, _≤_, _-_}
+use native.Mathlib.Omega.{arith}
+use borrow.Author.Needs.{needs}
+use lib.ListN.{length, take, length-set}
+use Rattle.lists.specs.Over.{over}
+use Rattle.raster.proofs.Strides.{AtWord, next-word, at-within, RowWords, row-bytes, first-word}
+use Rattle.raster.proofs.Strides.{wordsOf, copy-turn, copy-done}
+use Rattle.raster.proofs.copy_row.Statement.{statement}
+use Rattle.raster.proofs.copy_row.Tie as tie
+
+abbrev Inv-loop : tie.InvT-loop
+Inv-loop area n row₀ groups stride at₀ g₀ row at g =
+    AtWord at₀ stride groups (length area) at g × (groups * 2 ≤ length row₀) × (length row ≡ length row₀)
+    × (row ≡ over (take (g * 2) (wordsOf area at₀ stride groups)) row₀)
+
+abbrev μ-loop : tie.MeasureT-loop
+μ-loop area n row₀ groups stride at₀ g₀ row at g = groups - g
+
+cast-groups : tie.Need-cast-groups Inv-loop μ-loop
+cast-groups c = search needs
+
+cast-stride : tie.Need-cast-stride Inv-loop μ-loop
+cast-stride c = search needs
+
+mul-stride : tie.Need-mul-stride Inv-loop μ-loop
+mul-stride c = search needs
+
+row-start-requires : tie.Need-row-start-requires Inv-loop μ-loop
+row-start-requires c κs = search needs
+
+words : (c : tie.After-row-start Inv-loop μ-loop) → let a = c .before .before .before .before .before .args in
+    RowWords (a .r) (a .n) (c .row-start .result) (a .r .planes * 2) (a .r .groups)
+words c = record { first = c .row-start .ensures; apart = refl; count = refl }
+
+loop-holds : tie.Need-loop-holds Inv-loop μ-loop
+loop-holds c =
+    let b = c .before .before .before .before .before in
+    let w = first-word (words c) (length (b .args .area .now)) (omega arith) (b .pre .0) (b .pre .1) in
+    (w, omega (arith, row-bytes (words c)), refl, refl)
+
+shared-slice-read-high : tie.Need-shared-slice-read-high Inv-loop μ-loop
+shared-slice-read-high c = omega (arith, at-within (c .before .before .loop .inv .0) (omega arith))
+
+add-low : tie.Need-add-low Inv-loop μ-loop
+add-low c = omega (arith, at-within (c .before .before .loop .inv .0) (omega arith))
+
+shared-slice-read-low : tie.Need-shared-slice-read-low Inv-loop μ-loop
+shared-slice-read-low c = omega (arith, at-within (c .before .before .before .loop .inv .0) (omega arith))
+
+mul-row : tie.Need-mul-row Inv-loop μ-loop
+mul-row c = omega arith
+
+slice-write-row : tie.Need-slice-write-row Inv-loop μ-loop
+slice-write-row c = omega arith
+
+mul-row-2 : tie.Need-mul-row-2 Inv-loop μ-loop
+mul-row-2 c = omega arith
+
+add-row : tie.Need-add-row Inv-loop μ-loop
+add-row c = omega arith
+
+slice-write-row-2 : tie.Need-slice-write-row-2 Inv-loop μ-loop
+slice-write-row-2 c = simp length-set (omega arith)
+
+add-at : tie.Need-add-at Inv-loop μ-loop
+add-at c = omega (arith, at-within (c .before .before .before .loop .inv .0) (omega arith))
+
+add-g : tie.Need-add-g Inv-loop μ-loop
+add-g c = omega arith
+
+loop-less : tie.Need-loop-less Inv-loop μ-loop
+loop-less c = omega arith
+
+loop-again : tie.Need-loop-again Inv-loop μ-loop
+loop-again c =
+    let l = c .before .before .before .loop in
+    let a = c .before .before .before .before .before .before .before .before .before .args in (
+      next-word (l .inv .0) (omega arith),
+      l .inv .1,
+      simp length-set (l .inv .2),
+      copy-turn (l .inv .0) (a .area .now) (a .row .now) (l .row) (omega arith) (l .inv .1) (l .inv .3),
+    )
+
+same-length : tie.Need-same-length Inv-loop μ-loop
+same-length c = search needs
+
+returns : tie.Need-returns Inv-loop μ-loop
+returns c =
+    let l = c .before .loop in
+    let a = c .before .before .before .before .before .before .before .args in
+    copy-done (words (c .before .before)) (a .area .now) (a .row .now) (l .row) (l .g) (omega arith) (l .inv .3)
+
+pub copy-row-spec : {M : Type 1} → statement M
+copy-row-spec =
+    tie.close
+    (tie.spec
+    Inv-loop
+    μ-loop
+    cast-groups
+    cast-stride
+    mul-stride
+    row-start-requires
+    loop-holds
+    shared-slice-read-high
+    add-low
+    shared-slice-read-low
+    mul-row
+    slice-write-row
+    mul-row-2
+    add-row
+    slice-write-row-2
+    add-at
+    add-g
+    loop-less
+    loop-again
+    same-length
+    returns)

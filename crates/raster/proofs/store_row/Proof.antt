@@ -1,0 +1,121 @@
+-- `raster::store_row` meets its contract: the loop has stored the first g words of the row.
+use mathlib.Core.Path.{_≡_, refl}
+use Prim.Native.Nat.{_*_, _≤_, _-_}
+use native.Mathlib.Omega.{arith}
+use borrow.Author.Needs.{needs}
+use lib.ListN.{length, getD, length-set}
+use Rattle.lists.specs.Stores.{stores}
+use Rattle.raster.proofs.Strides.{AtWord, next-word, at-within, RowWords, row-bytes, first-word}
+use Rattle.raster.proofs.Strides.{strided, store-turn, store-done}
+use Rattle.raster.proofs.store_row.Statement.{statement}
+use Rattle.raster.proofs.store_row.Tie as tie
+
+abbrev Inv-loop : tie.InvT-loop
+Inv-loop area₀ n row groups stride at₀ g₀ area at g =
+    AtWord at₀ stride groups (length area₀) at g × (groups * 2 ≤ length row) × (length area ≡ length area₀)
+    × (area ≡ stores (g * 2) (strided at₀ stride) (λ c. getD row c 0) area₀)
+
+abbrev μ-loop : tie.MeasureT-loop
+μ-loop area₀ n row groups stride at₀ g₀ area at g = groups - g
+
+cast-groups : tie.Need-cast-groups Inv-loop μ-loop
+cast-groups c = search needs
+
+cast-stride : tie.Need-cast-stride Inv-loop μ-loop
+cast-stride c = search needs
+
+mul-stride : tie.Need-mul-stride Inv-loop μ-loop
+mul-stride c = search needs
+
+row-start-requires : tie.Need-row-start-requires Inv-loop μ-loop
+row-start-requires c κs = search needs
+
+words : (c : tie.After-row-start Inv-loop μ-loop) → let a = c .before .before .before .before .before .args in
+    RowWords (a .r) (a .n) (c .row-start .result) (a .r .planes * 2) (a .r .groups)
+words c = record { first = c .row-start .ensures; apart = refl; count = refl }
+
+loop-holds : tie.Need-loop-holds Inv-loop μ-loop
+unfolding stores
+loop-holds c =
+    let b = c .before .before .before .before .before in
+    let w = first-word (words c) (length (b .args .area .now)) (omega arith) (b .pre .0) (b .pre .1) in
+    (w, omega (arith, row-bytes (words c)), refl, refl)
+
+mul-high : tie.Need-mul-high Inv-loop μ-loop
+mul-high c = omega arith
+
+shared-slice-read-high : tie.Need-shared-slice-read-high Inv-loop μ-loop
+shared-slice-read-high c = omega arith
+
+mul-low : tie.Need-mul-low Inv-loop μ-loop
+mul-low c = omega arith
+
+add-low : tie.Need-add-low Inv-loop μ-loop
+add-low c = omega arith
+
+shared-slice-read-low : tie.Need-shared-slice-read-low Inv-loop μ-loop
+shared-slice-read-low c = omega arith
+
+slice-write-area : tie.Need-slice-write-area Inv-loop μ-loop
+slice-write-area c = omega (arith, at-within (c .before .before .before .loop .inv .0) (omega arith))
+
+add-area : tie.Need-add-area Inv-loop μ-loop
+add-area c = omega (arith, at-within (c .before .before .before .loop .inv .0) (omega arith))
+
+slice-write-area-2 : tie.Need-slice-write-area-2 Inv-loop μ-loop
+slice-write-area-2 c =
+    simp length-set (omega (arith, at-within (c .before .before .before .loop .inv .0) (omega arith)))
+
+add-at : tie.Need-add-at Inv-loop μ-loop
+add-at c = omega (arith, at-within (c .before .before .before .loop .inv .0) (omega arith))
+
+add-g : tie.Need-add-g Inv-loop μ-loop
+add-g c = omega arith
+
+loop-less : tie.Need-loop-less Inv-loop μ-loop
+loop-less c = omega arith
+
+loop-again : tie.Need-loop-again Inv-loop μ-loop
+loop-again c =
+    let l = c .before .before .before .loop in
+    let a = c .before .before .before .before .before .before .before .before .before .args in (
+      next-word (l .inv .0) (omega arith),
+      l .inv .1,
+      simp length-set (l .inv .2),
+      store-turn (l .inv .0) (a .row .now) (a .area .now) (l .area) (l .inv .3),
+    )
+
+same-length : tie.Need-same-length Inv-loop μ-loop
+same-length c = search needs
+
+returns : tie.Need-returns Inv-loop μ-loop
+returns c =
+    let l = c .before .loop in
+    let a = c .before .before .before .before .before .before .before .args in
+    store-done (words (c .before .before)) (a .row .now) (a .area .now) (l .area) (l .g) (omega arith) (l .inv .3)
+
+pub store-row-spec : {M : Type 1} → statement M
+store-row-spec =
+    tie.close
+    (tie.spec
+    Inv-loop
+    μ-loop
+    cast-groups
+    cast-stride
+    mul-stride
+    row-start-requires
+    loop-holds
+    mul-high
+    shared-slice-read-high
+    mul-low
+    add-low
+    shared-slice-read-low
+    slice-write-area
+    add-area
+    slice-write-area-2
+    add-at
+    add-g
+    loop-less
+    loop-again
+    same-length
+    returns)

@@ -1,2 +1,0 @@
-pub mod PlaneRows
-pub mod Registers

@@ -1,0 +1,33 @@
+-- `tally::count_two` meets its contract: the sets' sizes are the numbers of pixels.
+use mathlib.Core.Path.{refl, _∙_}
+use native.Mathlib.Omega.{arith}
+use denote.Ref.{now}
+use borrow.Author.Needs.{needs}
+use Rattle.lists.specs.Tabulate.{tabulate}
+use Rattle.tally.specs.Blocks.{blockOf, registerSet}
+use Rattle.tally.proofs.Blocks.{counted-block, below-4}
+use Rattle.tally.proofs.count_two.Statement.{statement}
+use Rattle.tally.proofs.count_two.Tie as tie
+
+part-digits-requires : tie.Need-part-digits-requires
+part-digits-requires c κs = search needs
+
+slice-aggregate-count-sets : tie.Need-slice-aggregate-count-sets
+slice-aggregate-count-sets c = search needs
+
+count-sets-requires : tie.Need-count-sets-requires
+count-sets-requires c κs = search needs
+
+returns : tie.Need-returns
+unfolding tabulate registerSet
+returns c =
+    let q = c .before .before .before in
+    let a = q .before .args in
+    c .count-sets .ensures
+    ∙ counted-block (blockOf (a .p0) (a .p1)) (omega arith) 4 (omega arith) (below-4 (a .p0) (a .p1))
+    (now (a .counts)) _ (q .part-digits .result) (a .m) (a .t) (omega arith) (q .part-digits .ensures) refl
+
+pub count-two-spec : {M : Type 1} → statement M
+count-two-spec =
+    tie.close
+    (tie.spec part-digits-requires slice-aggregate-count-sets count-sets-requires returns)

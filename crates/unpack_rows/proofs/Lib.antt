@@ -1,5 +1,0 @@
-pub mod Exact
-pub mod Judging
-pub mod Next
-pub mod UnpackRows
-pub mod UnpacksRows

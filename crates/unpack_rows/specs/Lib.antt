@@ -1,2 +1,0 @@
-pub mod UnpackRows
-pub mod UnpacksRows
