@@ -16,8 +16,10 @@ use Rattle.degas.proofs.Whole.{degas-whole}
 use Rattle.neochrome.specs.Reading.{readNeochrome}
 use Rattle.neochrome.proofs.Acceptance as neochrome-laws
 use Rattle.reader.specs.Reading.{readFile}
-use Rattle.reader.proofs.Choice.{file-degas, file-neochrome, readFile-judged}
-use Rattle.demands.specs.Accepted.{Accepts, degas, neochrome, given}
+use Rattle.tiny.specs.Reading.{readTiny}
+use Rattle.tiny.proofs.Acceptance as tiny-laws
+use Rattle.reader.proofs.Choice.{file-degas, file-neochrome, file-tiny, readFile-judged}
+use Rattle.demands.specs.Accepted.{Accepts, degas, neochrome, tiny, given}
 
 -- an answer's refusal is the outcome's
 answer-refusal : (o : Outcome Reading) → readAnswer o .refusal ≡ refusalOf o
@@ -39,18 +41,23 @@ module _ (kind : ℕ) (file : List ℕ) (area : ℕ) where
       judged-map (neochrome-laws.Given file area) Given (readNeochrome file area)
       (neochrome-laws.neochrome-judged file area)
       (λ q g. (neochrome k (g .0), g .1)))
+      (λ k.
+      judged-map (tiny-laws.Given file area) Given (readTiny file area) (tiny-laws.tiny-judged file area bytes)
+      (λ q g. (tiny k (g .0), g .1)))
 
   -- an accepted reading has a whole picture of a known resolution, and a whole screen
   pub file-whole : Judged WholeReading (readFile kind file area)
   file-whole =
       readFile-judged kind file area WholeReading (λ _. degas-whole file area)
       (λ _. neochrome-laws.neochrome-whole file area)
+      (λ _. tiny-laws.tiny-whole file area)
 
   module _ (room : screenBytes ≤ area) where
     -- a file that fits is accepted, with what its parts give
     pub file-complete : (a : Accepts kind file) → readFile kind file area ≡ accepted (given a)
     file-complete (degas k a) = file-degas kind file area k ∙ degas-laws.degas-complete file area room a
     file-complete (neochrome k a) = file-neochrome kind file area k ∙ neochrome-laws.neochrome-complete file area room a
+    file-complete (tiny k a) = file-tiny kind file area k ∙ tiny-laws.tiny-complete file area room a
 
     -- "Given a lent area of the stated size, a file of a known kind is accepted exactly when its flag and resolution
     -- are allowed, its parts fit and its runs fill every plane row exactly."

@@ -2,20 +2,25 @@
 use mathlib.Core.Path.{_≡_, refl, sym, ap, _∙_}
 use mathlib.Core.Bool.{Bool, true, false, true≢false, false≢true}
 use mathlib.Core.List.{List}
-use Prim.Native.Nat.{ℕ, _+_, _*_, _≤_, _<_}
+use Prim.Native.Nat.{ℕ, _+_, _*_, _/_, _%_, _^_, _≤_, _<_}
 use native.Mathlib.Omega.{arith}
 use lib.ListN.{length, getD, take, drop}
 use lib.Seq.{getD-take, drop-at}
 use Rattle.lists.specs.Over.{over}
+use Rattle.lists.specs.Sum.{sum}
 use Rattle.lists.proofs.Over.{getD-over-in}
+use Rattle.lists.proofs.Sum.{sum-ext}
 use Rattle.outcome.specs.Outcome.{Outcome}
 use Rattle.outcome.proofs.Outcome.{judged-value}
+use Rattle.words.specs.Word.{wordAt}
+use Rattle.raster.specs.Offsets.{groupOffset, wordOffset}
 use Rattle.raster.specs.PlaneRows.{planeRow, planeRows}
 use Rattle.raster.proofs.PlaneRows.{planeRows-front}
 use Rattle.resolution.specs.declared.Resolution.{Resolution}
-use Rattle.resolution.specs.Shapes.{screenBytes, widthOf, heightOf, planesOf, rasterOf}
+use Rattle.resolution.specs.declared.Resolution.the-variants.{Low, Medium, High}
+use Rattle.resolution.specs.Shapes.{screenBytes, widthOf, heightOf, planesOf, groupsOf, rasterOf}
 use Rattle.resolution.proofs.Rasters.{raster-bytes}
-use Rattle.lines.specs.Registers.{register, rowsRegister}
+use Rattle.lines.specs.Registers.{pixelBit, register, rowsRegister}
 use Rattle.lines.proofs.PlaneRegisters.{register-of-rows, register-front}
 use Rattle.picture.specs.Reading.{Reading, readArea}
 use Rattle.picture.specs.Whole.{WholeReading}
@@ -25,8 +30,12 @@ use Rattle.degas.specs.Accepts.{PackedFits, Fits, plain, elite, packed, Accepts
 use Rattle.degas.proofs.Acceptance.{packed-unique}
 use Rattle.neochrome.specs.Layout.{screenStart}
 use Rattle.neochrome.specs.Accepts.{AcceptsNeochrome}
-use Rattle.reader.specs.Reading.{kindDegas, kindNeochrome, readFile}
-use Rattle.demands.specs.Accepted.{Accepts, degas, neochrome, given}
+use Rattle.tiny.specs.Accepts.{AcceptsTiny, tinyGiven}
+use Rattle.tiny.specs.Expansion.{screenWords}
+use Rattle.tiny.specs.ScreenWords.{expandedWord}
+use Rattle.tiny.proofs.Acceptance.{tiny-word-back}
+use Rattle.reader.specs.Reading.{kindDegas, kindNeochrome, kindTiny, readFile}
+use Rattle.demands.specs.Accepted.{Accepts, degas, neochrome, tiny, given}
 use Rattle.demands.proofs.Acceptance.{file-complete, file-whole}
 
 -- a raw file's screen stands in it; a packed file's is the one that its body unpacks to
@@ -78,6 +87,24 @@ module _ (kind : ℕ) (file area : List ℕ) (room : screenBytes ≤ length area
       ap (drop screenBytes) area-over ∙ drop-at screen (drop (length screen) area) screenBytes size
       ∙ ap (λ (n : ℕ). drop n area) size
 
+-- ---- the words of a screen by their numbers
+
+-- the number of the word of plane p that holds the pixel in column x of scan line y
+abbrev wordNumber : Resolution → ℕ → ℕ → ℕ → ℕ
+wordNumber r x y p = (y * groupsOf r + x / 16) * planesOf r + p
+
+number-offset : (r : Resolution) (x y p : ℕ) → wordOffset (rasterOf r) y (x / 16) p ≡ wordNumber r x y p * 2
+unfolding wordOffset groupOffset
+number-offset Low x y p = omega arith
+number-offset Medium x y p = omega arith
+number-offset High x y p = omega arith
+
+number-lt : (r : Resolution) (x y p : ℕ) → x < widthOf r → y < heightOf r → p < planesOf r
+    → wordNumber r x y p < screenWords
+number-lt Low x y p hx hy hp = omega arith
+number-lt Medium x y p hx hy hp = omega arith
+number-lt High x y p hx hy hp = omega arith
+
 -- ---- "every register of every pixel"
 
 module _ (file area : List ℕ) (room : screenBytes ≤ length area) (x y : ℕ) where
@@ -116,3 +143,16 @@ module _ (file area : List ℕ) (room : screenBytes ≤ length area) (x y : ℕ)
   neochrome-register n hx hy =
       area-register kindNeochrome file area room (neochrome refl n) (n .resolution) x y hx hy
       ∙ raw-front screenStart (n .resolution) hx hy
+
+  -- a Tiny file: one bit from each of the group's words, each of them one of the words that the runs make
+  pub tiny-register : (t : AcceptsTiny file) (r : Resolution) → x < widthOf r → y < heightOf r
+      → register (read kindTiny) r x y
+      ≡ sum (planesOf r) (λ p. pixelBit (getD (t .words) (expandedWord (wordNumber r x y p)) 0) (x % 16) * 2 ^ p)
+  unfolding register
+  tiny-register t r hx hy =
+      area-register kindTiny file area room (tiny refl t) r x y hx hy
+      ∙ sum-ext (planesOf r) _ _
+      (λ p hp.
+      ap (λ (w : ℕ). pixelBit w (x % 16) * 2 ^ p)
+      (ap (wordAt (tinyGiven t .screen)) (number-offset r x y p)
+      ∙ tiny-word-back t (wordNumber r x y p) (number-lt r x y p hx hy hp)))

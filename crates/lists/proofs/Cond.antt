@@ -1,6 +1,7 @@
--- A choice by a test: what holds on both sides of the test holds of what is chosen; and two tests that both hold.
+-- A choice by a test: what holds on both sides of the test holds of what is chosen; two tests that both hold, or both
+-- fail.
 use mathlib.Core.Path.{_≡_, refl}
-use mathlib.Core.Bool.{Bool, true, false, cond, _&&_}
+use mathlib.Core.Bool.{Bool, true, false, cond, _&&_, _||_}
 use Prim.Native.Nat.{ℕ, _≤_, _<_}
 use native.Mathlib.Omega.{arith}
 use lib.Dec.{ltb, leb, eqb}
@@ -28,3 +29,7 @@ map-cond f false a b = refl
 pub and-true : (s t : Bool) → s && t ≡ true → (s ≡ true) × (t ≡ true)
 and-true true t e = (refl, e)
 and-true false t e = let z : _≡_ {A = ℕ} 0 1 = cc in absurd (omega arith)
+
+pub or-false : (s t : Bool) → s || t ≡ false → (s ≡ false) × (t ≡ false)
+or-false true t e = let z : _≡_ {A = ℕ} 0 1 = cc in absurd (omega arith)
+or-false false t e = (refl, e)

@@ -3,7 +3,7 @@ use mathlib.Core.Path.{_≡_, refl, subst}
 use mathlib.Core.Bool.{Bool, true, false}
 use Prim.Native.Nat.{ℕ}
 use native.Mathlib.Omega.{arith}
-use Rattle.outcome.specs.Outcome.{Outcome, accepted, refused, refuseIf, map, bind, later, refusalOf, Judged}
+use Rattle.outcome.specs.Outcome.{Outcome, accepted, refused, refuseIf, bind, later, refusalOf, Judged}
 
 -- what is accepted was not refused by the first test
 pub passed : {A : Type 0} (t : Bool) (n : ℕ) (further : Outcome A) (a : A) → refuseIf t n further ≡ accepted a
@@ -41,12 +41,3 @@ pub judged-bind : {A B : Type 0} (P : A → Type 0) (Q : B → Type 0) (o : Outc
     → Judged P o → ((a : A) → P a → Judged Q (further a)) → Judged Q (bind o further)
 judged-bind P Q (accepted a) further p f = f a p
 judged-bind P Q (refused why) further p f = p
-
-pub map-refusal : {A B : Type 0} (f : A → B) (o : Outcome A) → refusalOf (map f o) ≡ refusalOf o
-map-refusal f (accepted a) = refl
-map-refusal f (refused why) = refl
-
-pub bind-assoc : {A B C : Type 0} (o : Outcome A) (f : A → Outcome B) (g : B → Outcome C)
-    → bind (bind o f) g ≡ bind o (λ a. bind (f a) g)
-bind-assoc (accepted a) f g = refl
-bind-assoc (refused why) f g = refl

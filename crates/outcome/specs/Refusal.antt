@@ -1,4 +1,4 @@
--- Refusal numbers (document 01, "Numbers given back"). 0 is an acceptance.
+-- Refusal numbers (document 01, "Numbers given back"; from 11 on document 02). 0 is an acceptance.
 use Prim.Native.Nat.{ℕ}
 
 -- a lent area too short
@@ -40,3 +40,15 @@ noPackedBody = 9
 -- a number out of range
 abbrev pub outOfRange : ℕ
 outOfRange = 10
+
+-- a control byte or a count that is not defined
+abbrev pub undefinedControl : ℕ
+undefinedControl = 11
+
+-- a count cut short, or a run past the words to make or the data
+abbrev pub runTooLong : ℕ
+runTooLong = 12
+
+-- after the last run, data left or words missing
+abbrev pub sizeMismatch : ℕ
+sizeMismatch = 13

@@ -32,6 +32,15 @@ pub const NO_PACKED_BODY: u8 = 9;
 // A number is out of range.
 pub const OUT_OF_RANGE: u8 = 10;
 
+// A control byte or a count is not defined.
+pub const UNDEFINED_CONTROL: u8 = 11;
+
+// A count is cut short, or a run goes past the words to make or the data.
+pub const RUN_TOO_LONG: u8 = 12;
+
+// After the last run there is data left, or words are missing.
+pub const SIZE_MISMATCH: u8 = 13;
+
 // Why an input is refused: a number and a place. Both are 0 where it is accepted.
 #[repr(C)]
 pub struct Refusal {

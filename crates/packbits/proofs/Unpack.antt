@@ -1,4 +1,4 @@
--- Laws of `progress` and `unpack`: equations, induction record by record, bounds.
+-- Laws of `progress`: equations, induction record by record, bounds.
 use mathlib.Core.Path.{_≡_, refl, sym, ap, _∙_, subst}
 use Prim.Native.Nat.{ℕ, zero, suc, _-_, _≤_, _<_}
 use native.Mathlib.Omega.{arith}
@@ -7,12 +7,9 @@ use mathlib.Core.List.{List}
 use lib.ListN.{length, drop, length-drop, length-append}
 use lib.Dec.{eqb}
 use borrow.Author.Tests.{eq-eqb, ne-eqb, eqb-true, eqb-false}
-use Rattle.lists.proofs.Cond.{cond-eqb}
-use Rattle.outcome.specs.Outcome.{Outcome, accepted, refused}
 use Rattle.packbits.specs.declared.Record.{Record}
 use Rattle.packbits.specs.Records.{packedLen, rowLen, rowBytes, fault, recordAt}
-use Rattle.packbits.specs.Row.{Row}
-use Rattle.packbits.specs.Unpack.{Progress, stopped, after, step, progressWithin, progress, outcomeOf, unpack}
+use Rattle.packbits.specs.Unpack.{Progress, stopped, after, step, progressWithin, progress}
 use Rattle.packbits.proofs.Records.{Whole, is-whole}
 
 -- ---- the equations of `progress`, in which no bound on the recursion stands
@@ -122,16 +119,3 @@ bounded =
     by-records Bounded (λ input. record { used = omega arith; counted = omega arith; fits = omega arith; full = λ e. refl })
     (λ input room e. record { used = omega arith; counted = omega arith; fits = omega arith; full = λ f. absurd (e f) })
     (λ input room h e p b. bounded-after input room (recordAt input room) (is-whole input room e) p b)
-
--- the same of the outcome: an accepted row has the width that was asked; a refusal has a number, and a place in the
--- input or at its end
-abbrev pub RowBounded : List ℕ → ℕ → Outcome Row → Type 0
-RowBounded input width (accepted r) = (length (r .made) ≡ width) × (r .bytes ≤ length input) × (r .records ≤ r .bytes)
-RowBounded input width (refused why) = (why .number ≡ 0 → ⊥) × (why .place ≤ length input)
-
-pub row-bounded : (input : List ℕ) (width : ℕ) → RowBounded input width (unpack input width)
-unfolding outcomeOf
-row-bounded input width =
-    let b = bounded input width in
-    cond-eqb (RowBounded input width) (progress input width .fault) 0 (λ e. (b .full e, b .used, b .counted))
-    (λ e. (e, b .used))

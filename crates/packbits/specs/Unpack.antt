@@ -25,7 +25,7 @@ pub record Progress : Type 0 where
 abbrev pub stopped : ℕ → Progress
 stopped number = record { bytes = 0; records = 0; made = []; fault = number }
 
--- a whole record of so many packed bytes, which makes these bytes of the row, before further progress
+-- a whole record of `bytes` packed bytes, which makes these bytes of the row, before further progress
 abbrev pub after : ℕ → List ℕ → Progress → Progress
 after bytes made p =
     record { bytes = bytes + p .bytes; records = suc (p .records); made = made ++ p .made; fault = p .fault }
@@ -44,7 +44,7 @@ progressWithin (suc bound) input zero = stopped 0
 progressWithin (suc bound) input (suc room) =
     step (recordAt input (suc room)) input (suc room) (λ i r. progressWithin bound i r)
 
--- how far unpacking a row of so many bytes from the front of the input comes
+-- how far unpacking a row of `width` bytes from the front of the input comes
 unfoldable pub progress : List ℕ → ℕ → Progress
 progress input width = progressWithin (suc (length input)) input width
 
@@ -52,7 +52,7 @@ progress input width = progressWithin (suc (length input)) input width
 unfoldable pub outcomeOf : Progress → Outcome Row
 outcomeOf p = cond (eqb (p .fault) 0) (done (p .bytes) (p .records) (p .made)) (refused (refusal (p .fault) (p .bytes)))
 
--- a row of so many bytes, unpacked from the front of the input; places count from the input's start
+-- a row of `width` bytes, unpacked from the front of the input; places count from the input's start
 abbrev pub unpack : List ℕ → ℕ → Outcome Row
 unpack input width = outcomeOf (progress input width)
 
@@ -60,7 +60,7 @@ unpack input width = outcomeOf (progress input width)
 abbrev pub unpackAt : List ℕ → ℕ → ℕ → Outcome Row
 unpackAt file at width = placed at (unpack (drop at file) width)
 
--- Row unpack: to a named width, into an output of so many bytes. Input left after the full row is allowed.
+-- Row unpack: to a named width, into an output of `room` bytes. Input left after the full row is allowed.
 unfoldable pub unpackRow : List ℕ → ℕ → ℕ → Outcome Row
 unpackRow packed width room =
     refuseIf (widthOutOfRange width) outOfRange

@@ -1,6 +1,6 @@
 // The parts of a picture as bytes of a file, read and written: the palette, and the tail's four tables of four words.
 ghost use mathlib.Core.Path.{_≡_};
-ghost use Prim.Native.Nat.{_*_, _<_, _≤_};
+ghost use Prim.Native.Nat.{_<_, _≤_};
 ghost use lib.ListN.{length};
 ghost use Rattle.lists.specs.Over.{over};
 ghost use Rattle.words.specs.Word.{wordBytes, wordsAt, wordsBytes};
@@ -71,32 +71,13 @@ pub fn tail_at(file: &[u8], at: u32) -> [Table; 4]
 
 // ---- written
 
-// A word, its high byte first.
-fn put_word(word: u16, out: &mut [u8])
-    requires { ⌜ 2 ≤ length (now out) ⌝ }
-    ensures { λ _. ⌜ now (out .exit) ≡ over (wordBytes word) (now (out .entry)) ⌝ }
-{
-    out[0] = (word / 256) as u8;
-    out[1] = (word % 256) as u8;
-}
-
-// Words, one after the other.
-fn put_words(words: &[u16], out: &mut [u8])
-    requires { ⌜ length (now words) * 2 ≤ length (now out) ⌝ }
-    ensures { λ _. ⌜ now (out .exit) ≡ over (wordsBytes (now (words .entry))) (now (out .entry)) ⌝ }
-{
-    for i in 0..words.len() {
-        put_word(words[i], &mut out[i * 2..]);
-    }
-}
-
 // One table of the tail. It also says what its type says, that the table has four words.
 fn put_table(table: [u16; 4], out: &mut [u8])
     requires { ⌜ 8 ≤ length (now out) ⌝ }
     ensures { λ _. ⌜ now (out .exit) ≡ over (wordsBytes table) (now (out .entry)) ⌝ }
     ensures { λ _. ⌜ length (wordsBytes table) ≡ 8 ⌝ }
 {
-    put_words(&table, out);
+    words::put_words(&table, out);
 }
 
 // The tail's four tables of four words.
@@ -130,9 +111,7 @@ fn tables_of(t: [Table; 4]) -> [[u16; 4]; 4]
 pub fn word_bytes(word: u16) -> [u8; 2]
     ensures { λ r. ⌜ r ≡ wordBytes word ⌝ }
 {
-    let mut out = [0u8; 2];
-    put_word(word, &mut out);
-    out
+    [(word / 256) as u8, (word % 256) as u8]
 }
 
 // The bytes of a palette.
@@ -140,7 +119,7 @@ pub fn palette_bytes(palette: [u16; 16]) -> [u8; 32]
     ensures { λ r. ⌜ r ≡ wordsBytes palette ⌝ }
 {
     let mut out = [0u8; 32];
-    put_words(&palette, &mut out);
+    words::put_words(&palette, &mut out);
     out
 }
 

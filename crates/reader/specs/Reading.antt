@@ -9,6 +9,7 @@ use Rattle.outcome.specs.Refusal.{unknownKind}
 use Rattle.picture.specs.Reading.{Reading, judgeArea}
 use Rattle.degas.specs.Reading.{readDegas}
 use Rattle.neochrome.specs.Reading.{readNeochrome}
+use Rattle.tiny.specs.Reading.{readTiny}
 
 -- the kinds
 abbrev pub kindDegas : ℕ
@@ -17,9 +18,13 @@ kindDegas = 1
 abbrev pub kindNeochrome : ℕ
 kindNeochrome = 2
 
+abbrev pub kindTiny : ℕ
+kindTiny = 3
+
 -- a file of a kind into an area of `area` bytes; an unknown kind is refused after a short area
 unfoldable pub readFile : ℕ → List ℕ → ℕ → Outcome Reading
 readFile kind file area =
     cond (eqb kind kindDegas) (readDegas file area)
     (cond (eqb kind kindNeochrome) (readNeochrome file area)
-    (judgeArea area (refuse unknownKind)))
+    (cond (eqb kind kindTiny) (readTiny file area)
+    (judgeArea area (refuse unknownKind))))

@@ -18,11 +18,6 @@ planes-pos Low = omega arith
 planes-pos Medium = omega arith
 planes-pos High = omega arith
 
-pub rowBytes-pos : (r : Resolution) → 0 < rowBytesOf r
-rowBytes-pos Low = omega arith
-rowBytes-pos Medium = omega arith
-rowBytes-pos High = omega arith
-
 -- numbers that no shape exceeds
 pub width-le : (r : Resolution) → widthOf r ≤ 640
 width-le Low = omega arith
@@ -33,11 +28,6 @@ pub height-le : (r : Resolution) → heightOf r ≤ 400
 height-le Low = omega arith
 height-le Medium = omega arith
 height-le High = omega arith
-
-pub rowBytes-le : (r : Resolution) → rowBytesOf r ≤ 80
-rowBytes-le Low = omega arith
-rowBytes-le Medium = omega arith
-rowBytes-le High = omega arith
 
 pub planes-le : (r : Resolution) → planesOf r ≤ 4
 planes-le Low = omega arith

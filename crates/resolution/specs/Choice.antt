@@ -1,4 +1,5 @@
--- The resolution that a number names, and what is judged with it (document 01, "Numbers given back": 5 for a number above 2).
+-- The resolution that a number names, and what is judged with it (document 01, "Numbers given back": 5 for a number
+-- above 2).
 use Prim.Native.Nat.{ℕ}
 use mathlib.Core.Bool.{cond}
 use lib.Dec.{ltb, eqb}

@@ -1,14 +1,13 @@
 -- Laws of words and their bytes: each is made from the other, and words that were written as bytes are read again from
 -- where they stand.
---
 use mathlib.Core.Path.{_≡_, refl, sym, ap, _∙_}
 use mathlib.Core.List.{List, _∷_, _++_}
-use Prim.Native.Nat.{ℕ, zero, suc, _+_, _*_, _/_, _%_, _<_}
+use Prim.Native.Nat.{ℕ, zero, suc, _+_, _*_, _/_, _%_, _≤_, _<_}
 use native.Mathlib.Nat.{add-zero, div-add-mod'}
 use native.Mathlib.Omega.{arith}
 use lib.Arith.{digits-div, digits-mod}
-use lib.ListN.{length, getD}
-use lib.Seq.{getD-at, getD-append-add}
+use lib.ListN.{length, getD, take}
+use lib.Seq.{take-all, getD-at, getD-append-add}
 use Rattle.lists.specs.Bytes.{Bytes}
 use Rattle.lists.specs.Tabulate.{tabulate}
 use Rattle.lists.proofs.Flatten.{length-flatten, piece-back}
@@ -31,6 +30,10 @@ module _ (s : List ℕ) (bytes : Bytes s) where
 pub length-wordsBytes : (ws : List ℕ) → length (wordsBytes ws) ≡ length ws * 2
 unfolding wordBytes wordsBytes
 length-wordsBytes ws = length-flatten wordBytes 2 ws 0 (λ j h. refl)
+
+-- an output of at least their length has room for all words
+pub words-room : (ws out : List ℕ) → length ws * 2 ≤ length out → take (length out / 2) ws ≡ ws
+words-room ws out h = take-all (length out / 2) ws (omega arith)
 
 pub word-back : (before : List ℕ) (w : ℕ) (rest : List ℕ) (at : ℕ) → length before ≡ at
     → wordAt (before ++ (wordBytes w ++ rest)) at ≡ w

@@ -4,7 +4,7 @@ use Rattle.outcome.specs.declared.Refusal.{Refusal}
 use Rattle.outcome.specs.Outcome.{refused}
 use Rattle.picture.specs.Reading.{readAnswer}
 use Rattle.picture.proofs.Reading.{area-short, area-fits}
-use Rattle.reader.proofs.Choice.{file-degas, file-neochrome, file-unknown}
+use Rattle.reader.proofs.Choice.{file-degas, file-neochrome, file-tiny, file-unknown}
 use borrow.Author.Needs.{needs}
 use Rattle.reader.proofs.read.Statement.{statement}
 use Rattle.reader.proofs.read.Tie as tie
@@ -31,16 +31,30 @@ returns-2 c =
     let d = c .before .before in
     rw (file-neochrome _ _ _ (d .before .before .if2 .taken)) (d .read2 .ensures)
 
+read-requires-3 : tie.Need-read-requires-3
+read-requires-3 c κs = search needs
+
+same-length-3 : tie.Need-same-length-3
+same-length-3 c = search needs
+
+returns-3 : tie.Need-returns-3
+returns-3 c =
+    let d = c .before .before in
+    rw (file-tiny _ _ _ (d .before .before .if3 .taken)) (d .read3 .ensures)
+
 refuse-requires : tie.Need-refuse-requires
 refuse-requires c κs = search needs
 
 read-refused-requires : tie.Need-read-refused-requires
 read-refused-requires c κs = search needs
 
-returns-3 : tie.Need-returns-3
-returns-3 c =
+returns-4 : tie.Need-returns-4
+returns-4 c =
     let t = c .before .before in
-    rw (file-unknown _ _ _ (t .before .before .if1 .left) (t .before .if2 .left), area-short _ _ (t .if3 .taken))
+    rw (
+      file-unknown _ _ _ (t .before .before .before .if1 .left) (t .before .before .if2 .left) (t .before .if3 .left),
+      area-short _ _ (t .if4 .taken),
+    )
     (c .read-refused .ensures ∙ ap (λ (why : Refusal). readAnswer (refused why)) (c .before .refuse .ensures), refl)
 
 refuse-requires-2 : tie.Need-refuse-requires-2
@@ -49,10 +63,13 @@ refuse-requires-2 c κs = search needs
 read-refused-requires-2 : tie.Need-read-refused-requires-2
 read-refused-requires-2 c κs = search needs
 
-returns-4 : tie.Need-returns-4
-returns-4 c =
+returns-5 : tie.Need-returns-5
+returns-5 c =
     let t = c .before .before in
-    rw (file-unknown _ _ _ (t .before .before .if1 .left) (t .before .if2 .left), area-fits _ _ (t .if3 .left))
+    rw (
+      file-unknown _ _ _ (t .before .before .before .if1 .left) (t .before .before .if2 .left) (t .before .if3 .left),
+      area-fits _ _ (t .if4 .left),
+    )
     (c .read-refused2 .ensures ∙ ap (λ (why : Refusal). readAnswer (refused why)) (c .before .refuse2 .ensures), refl)
 
 pub read-spec : {M : Type 1} → statement M
@@ -65,9 +82,12 @@ read-spec =
     read-requires-2
     same-length-2
     returns-2
+    read-requires-3
+    same-length-3
+    returns-3
     refuse-requires
     read-refused-requires
-    returns-3
+    returns-4
     refuse-requires-2
     read-refused-requires-2
-    returns-4)
+    returns-5)

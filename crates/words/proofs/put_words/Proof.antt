@@ -1,30 +1,52 @@
--- `picture::parts::put_words` meets its contract: after i turns the first i words stand at the front.
-use mathlib.Core.Path.{_≡_, refl, ap, _∙_}
+-- `words::put_words` meets its contract: after i turns the first i words stand at the front.
+use mathlib.Core.Path.{_≡_, refl, sym, ap, _∙_}
+use mathlib.Core.Bool.{cond}
 use mathlib.Core.List.{List, flatten}
-use Prim.Native.Nat.{ℕ, _*_, _-_, _≤_, _<_}
+use Prim.Native.Nat.{ℕ, _*_, _/_, _-_, _≤_, _<_}
 use native.Mathlib.Omega.{arith}
 use denote.Ref.{now}
 use lib.ListN.{length, take}
-use lib.Seq.{take-all, length-take-le}
+use lib.Dec.{ltb}
+use lib.Seq.{take-all, take-length, length-take-le}
+use Rattle.lists.proofs.Cond.{cond-ltb}
 use Rattle.lists.specs.Over.{over}
 use Rattle.words.specs.Word.{wordBytes, wordsBytes}
 use Rattle.lists.proofs.Flatten.{flatten-turn}
 use Rattle.words.proofs.Word.{length-wordsBytes}
 use borrow.Author.Needs.{needs}
-use Rattle.picture.proofs.parts.put_words.Statement.{statement}
-use Rattle.picture.proofs.parts.put_words.Tie as tie
+use Rattle.words.proofs.put_words.Statement.{statement}
+use Rattle.words.proofs.put_words.Tie as tie
+
+-- the number of turns is that of the words for which there is room
+take-least : (l : List ℕ) (n : ℕ) → take (cond (ltb (length l) n) (length l) n) l ≡ take n l
+take-least l n =
+    cond-ltb (λ (k : ℕ). take k l ≡ take n l) (length l) n
+    (λ h. take-length l ∙ sym (take-all n l (omega arith)))
+    (λ h. refl)
 
 abbrev Inv-loop : tie.InvT-loop
-Inv-loop words out₀ i₀ i-end out i =
-    (i ≤ length words) × (i-end ≡ length words) × (length out ≡ length out₀)
-    × (out ≡ over (wordsBytes (take i words)) out₀)
+Inv-loop words out₀ count i₀ out i =
+    (i ≤ count) × (count ≤ length words) × (count ≤ length out₀ / 2) × (take count words ≡ take (length out₀ / 2) words)
+    × (length out ≡ length out₀) × (out ≡ over (wordsBytes (take i words)) out₀)
 
 abbrev μ-loop : tie.MeasureT-loop
-μ-loop words out₀ i₀ i-end out i = length words - i
+μ-loop words out₀ count i₀ out i = count - i
+
+least-requires : tie.Need-least-requires Inv-loop μ-loop
+least-requires c κs = search needs
 
 loop-holds : tie.Need-loop-holds Inv-loop μ-loop
 unfolding wordsBytes flatten
-loop-holds c = (omega arith, refl, refl, refl)
+loop-holds c =
+    let a = c .before .before .before .args in
+    let n = c .least .ensures in (
+      omega arith,
+      n .1 .0,
+      n .1 .1,
+      ap (λ (k : ℕ). take k (now (a .words))) (n .0) ∙ take-least (now (a .words)) (length (now (a .out)) / 2),
+      refl,
+      refl,
+    )
 
 mul-put-word : tie.Need-mul-put-word Inv-loop μ-loop
 mul-put-word c = search needs
@@ -57,16 +79,18 @@ loop-again : tie.Need-loop-again Inv-loop μ-loop
 unfolding wordsBytes
 loop-again c =
     let l = c .before .before .before .before .before .before .loop in
-    let a = c .before .before .before .before .before .before .before .before .before .args in
-    let h : l .i < length (now (a .words)) = omega arith in
+    let a = c .before .before .before .before .before .before .before .before .before .before .args in
+    let h : l .i < length (now (a .words)) = omega (arith, l .inv .1) in
     let n : length (wordsBytes (take (l .i) (now (a .words)))) ≡ l .i * 2 =
     length-wordsBytes (take (l .i) (now (a .words)))
     ∙ ap (λ (k : ℕ). k * 2) (length-take-le (l .i) (now (a .words)) (omega arith))
     in (
       omega arith,
       l .inv .1,
+      l .inv .2,
+      l .inv .3,
       search needs,
-      flatten-turn wordBytes (now (a .words)) 0 (l .i) h (now (a .out)) (l .out) _ (l .i * 2) (l .inv .3) n
+      flatten-turn wordBytes (now (a .words)) 0 (l .i) h (now (a .out)) (l .out) _ (l .i * 2) (l .inv .5) n
           (c .before .before .put-word .ensures),
     )
 
@@ -76,9 +100,11 @@ same-length c = search needs
 returns : tie.Need-returns Inv-loop μ-loop
 returns c =
     let l = c .before .loop in
-    let a = c .before .before .before .before .args in
-    l .inv .3
-    ∙ ap (λ (ws : List ℕ). over (wordsBytes ws) (now (a .out))) (take-all (l .i) (now (a .words)) (omega arith))
+    let a = c .before .before .before .before .before .args in
+    let all : l .i ≡ c .before .before .least .result = omega arith in
+    l .inv .5
+    ∙ ap (λ (ws : List ℕ). over (wordsBytes ws) (now (a .out)))
+    (ap (λ (k : ℕ). take k (now (a .words))) all ∙ l .inv .3)
 
 pub put-words-spec : {M : Type 1} → statement M
 put-words-spec =
@@ -86,6 +112,7 @@ put-words-spec =
     (tie.spec
     Inv-loop
     μ-loop
+    least-requires
     loop-holds
     mul-put-word
     shared-slice-read-put-word

@@ -1,12 +1,12 @@
--- `picture::parts::put_word` meets its contract: the two stores are the word's bytes.
+-- `words::put_word` meets its contract: the two stores are the word's bytes.
 use mathlib.Core.List.{[], _∷_}
 use Prim.Native.Nat.{_/_, _%_}
 use denote.Ref.{now}
 use lib.Seq.{sets-eq}
 use Rattle.words.specs.Word.{wordBytes}
 use borrow.Author.Needs.{needs}
-use Rattle.picture.proofs.parts.put_word.Statement.{statement}
-use Rattle.picture.proofs.parts.put_word.Tie as tie
+use Rattle.words.proofs.put_word.Statement.{statement}
+use Rattle.words.proofs.put_word.Tie as tie
 
 cast-out : tie.Need-cast-out
 cast-out c = search needs

@@ -1,0 +1,231 @@
+-- Sections expanded run by run into a screen: the loop's invariant and its laws.
+use mathlib.Core.Path.{_≡_, refl, sym, ap, _∙_}
+use Prim.Native.Nat.{ℕ, zero, suc, _+_, _-_, _*_, _≤_, _<_}
+use native.Mathlib.Nat.{add-zero}
+use native.Mathlib.Omega.{arith}
+use mathlib.Core.Bool.{Bool, true, false, cond}
+use mathlib.Core.List.{List, _++_}
+use lib.ListN.{length, getD, take, drop, set, replicate, length-append, length-drop, getD-replicate}
+use lib.ListN.{drop-of-length-le, List·getD-append}
+use lib.Seq.{drop-drop, drop-at, getD-take, getD-drop}
+use Rattle.lists.specs.Stores.{stores}
+use Rattle.lists.specs.Tabulate.{tabulate}
+use Rattle.lists.proofs.Stores.{length-stores, stores-ext}
+use Rattle.lists.proofs.Tabulate.{length-tabulate, getD-tabulate}
+use Rattle.words.specs.Word.{wordAt, wordsAt}
+use Rattle.tiny.specs.declared.Run.{Run}
+use Rattle.tiny.specs.Runs.{runAt, wordsMade, sourceOf}
+use Rattle.tiny.specs.Expansion.{Expansion, screenWords, noRun, runBefore, expand, expandSection, counted}
+use Rattle.tiny.specs.ScreenWords.{screenWord, storedFrom, storedWords}
+use Rattle.tiny.proofs.Runs.{RunFits, sound-fits}
+use Rattle.tiny.proofs.Expansion.{expand-none, expand-whole, expand-fault}
+
+-- ---- stores after stores
+
+stores-more : (m n : ℕ) (at v : ℕ → ℕ) (d : List ℕ)
+    → stores n (λ i. at (m + i)) (λ i. v (m + i)) (stores m at v d) ≡ stores (m + n) at v d
+unfolding stores
+stores-more m zero at v d = ap (λ (k : ℕ). stores k at v d) (sym (add-zero m))
+stores-more m (suc n) at v d =
+    let e : m + suc n ≡ suc (m + n) = omega arith in
+    ap (λ (l : List ℕ). set l (at (m + n)) (v (m + n))) (stores-more m n at v d)
+    ∙ ap (λ (k : ℕ). stores k at v d) (sym e)
+
+-- ---- the words of a run, from the data section
+
+pub length-wordsAt : (n : ℕ) (section : List ℕ) (at : ℕ) → length (wordsAt n section at) ≡ n
+unfolding wordsAt
+length-wordsAt n section at = length-tabulate n _
+
+module _ (n : ℕ) (section : List ℕ) (taken : ℕ) where
+  -- word k of the data words that are left
+  data-at : (k : ℕ) → taken + k < n → getD (drop taken (wordsAt n section 0)) k 0 ≡ wordAt section ((taken + k) * 2)
+  unfolding wordsAt
+  data-at k h =
+      getD-drop taken (tabulate n (λ i. wordAt section (0 + i * 2))) k 0
+      ∙ getD-tabulate n (λ i. wordAt section (0 + i * 2)) (taken + k) 0 h
+      ∙ ap (wordAt section) (omega arith)
+
+  made-at : (count i : ℕ) (repeats : Bool) → i < count → taken + cond repeats 1 count ≤ n
+      → getD (cond repeats (replicate count (getD (drop taken (wordsAt n section 0)) 0 0))
+      (take count (drop taken (wordsAt n section 0)))) i 0
+      ≡ wordAt section (sourceOf repeats taken i * 2)
+  made-at count i true h k =
+      getD-replicate count i _ 0 h
+      ∙ data-at 0 (omega arith)
+      ∙ ap (λ (j : ℕ). wordAt section (j * 2)) (add-zero taken)
+  made-at count i false h k =
+      getD-take count (drop taken (wordsAt n section 0)) i 0 h ∙ data-at i (omega arith)
+
+-- ---- the invariant
+
+-- what expanding comes to once `used` control bytes and `taken` data words are used and `to` words are made
+abbrev left : List ℕ → List ℕ → ℕ → ℕ → ℕ → ℕ → Expansion
+left controls section n used taken to =
+    expand (drop used controls) (drop taken (wordsAt n section 0)) (screenWords - to)
+
+-- `used` and `taken` of the sections are used by `runs` runs, the `to` words that they make are stored, and what is
+-- left gives the rest of the whole
+pub record Expanding (controls section : List ℕ) (n : ℕ) (screen₀ screen : List ℕ) (used taken runs to : ℕ) :
+    Type 0 where
+  pub inside : to ≤ screenWords
+  pub within : used ≤ length controls
+  pub given : taken ≤ n
+  pub few : runs ≤ used
+  pub bytes : used + left controls section n used taken to .controls ≡ expandSection controls section n .controls
+  pub words : taken + left controls section n used taken to .datas ≡ expandSection controls section n .datas
+  pub total : runs + left controls section n used taken to .runs ≡ expandSection controls section n .runs
+  pub fault : left controls section n used taken to .fault ≡ expandSection controls section n .fault
+  pub rest : drop to (expandSection controls section n .made) ≡ left controls section n used taken to .made
+  pub long : to + length (left controls section n used taken to .made) ≡ length (expandSection controls section n .made)
+  pub stored : screen ≡ stores to screenWord (λ k. getD (expandSection controls section n .made) k 0) screen₀
+
+pub expanding-start : (controls section : List ℕ) (n : ℕ) (screen : List ℕ)
+    → Expanding controls section n screen screen 0 0 0 0
+unfolding stores
+expanding-start controls section n screen = record {
+  inside = omega arith;
+  within = omega arith;
+  given = omega arith;
+  few = omega arith;
+  bytes = omega arith;
+  words = omega arith;
+  total = omega arith;
+  fault = refl;
+  rest = refl;
+  long = omega arith;
+  stored = refl;
+}
+
+pub expanding-length : {controls section : List ℕ} {n : ℕ} {screen₀ screen : List ℕ} {used taken runs to : ℕ}
+    → Expanding controls section n screen₀ screen used taken runs to → length screen ≡ length screen₀
+expanding-length {screen₀ = screen₀} {to = to} p = ap length (p .stored) ∙ length-stores to screenWord _ screen₀
+
+module _ {controls section : List ℕ} {n : ℕ} {screen₀ screen : List ℕ} {used taken runs to : ℕ}
+    (p : Expanding controls section n screen₀ screen used taken runs to) where
+  abbrev datas : List ℕ
+  datas = wordsAt n section 0
+
+  -- expanded word k
+  abbrev word : ℕ → ℕ
+  word k = getD (expandSection controls section n .made) k 0
+
+  -- the next run, judged against the data words that are left
+  module _ {r : Run} (is : r ≡ runAt (drop used controls) (n - taken) (screenWords - to))
+      (h : used < length controls) where
+    is-left : r ≡ runAt (drop used controls) (length (drop taken datas)) (screenWords - to)
+    is-left =
+        is
+        ∙ ap (λ (k : ℕ). runAt (drop used controls) k (screenWords - to))
+        (omega (arith, length-drop taken datas, length-wordsAt n section 0))
+
+    some : 0 < length (drop used controls)
+    some = omega (arith, length-drop used controls)
+
+    pub left-fault : (r .fault ≡ 0 → ⊥) → left controls section n used taken to ≡ noRun (r .fault)
+    left-fault e = expand-fault (drop used controls) (drop taken datas) (screenWords - to) r is-left some e
+
+    module _ (ok : r .fault ≡ 0) where
+      next-whole : RunFits r (drop used controls) (drop taken datas) (screenWords - to)
+      next-whole =
+          rw is-left (sound-fits (drop used controls) (drop taken datas) (screenWords - to) (rw is-left at ok))
+
+      -- the run ends within both sections and the screen
+      pub next-fits : (0 < r .controls .0) × (used + r .controls .0 ≤ length controls) × (taken + r .datas .0 ≤ n)
+          × (to + r .count ≤ screenWords)
+      next-fits =
+          let w = next-whole in
+          let lc : length (drop used controls) ≡ length controls - used = length-drop used controls in
+          let ld : length (drop taken datas) ≡ length datas - taken = length-drop taken datas in
+          let ln : length datas ≡ n = length-wordsAt n section 0 in (
+            w .takes,
+            omega (arith, w .has, p .within),
+            omega (arith, w .given, p .given),
+            omega (arith, w .fits, p .inside),
+          )
+
+      abbrev made : List ℕ
+      made = wordsMade r (drop taken datas)
+
+      abbrev then : Expansion
+      then = left controls section n (used + r .controls .0) (taken + r .datas .0) (to + r .count)
+
+      left-whole : left controls section n used taken to ≡ runBefore r made then
+      left-whole =
+          let room : screenWords - to - r .count ≡ screenWords - (to + r .count) = omega arith in
+          expand-whole (drop used controls) (drop taken datas) (screenWords - to) r is-left some ok
+          ∙ rw (drop-drop (r .controls .0) used controls, drop-drop (r .datas .0) taken datas, room)
+
+      rest-is : drop to (expandSection controls section n .made) ≡ made ++ then .made
+      rest-is = p .rest ∙ ap (λ (q : Expansion). q .made) left-whole
+
+      -- word i of the run
+      value-is : (i : ℕ) → i < r .count
+          → wordAt section (sourceOf (r .repeats) taken i * 2) ≡ word (to + i)
+      unfolding wordsMade
+      value-is i l =
+          sym (made-at n section taken (r .count) i (r .repeats) l
+          (omega (arith, next-fits .2, next-whole .uses)))
+          ∙ sym (List·getD-append made (then .made) 0 i (omega (arith, next-whole .makes)))
+          ∙ sym (ap (λ (l : List ℕ). getD l i 0) rest-is)
+          ∙ getD-drop to (expandSection controls section n .made) i 0
+
+      pub expanding-turn : (last : List ℕ)
+          → last ≡ storedFrom to (r .count) (λ i. wordAt section (sourceOf (r .repeats) taken i * 2)) screen
+          → Expanding controls section n screen₀ last (used + r .controls .0) (taken + r .datas .0) (runs + 1)
+          (to + r .count)
+      expanding-turn last e =
+          let w = next-whole in
+          let lm : length (made ++ then .made) ≡ length made + length (then .made) = length-append made (then .made) in
+          record {
+            inside = next-fits .3;
+            within = next-fits .1;
+            given = next-fits .2;
+            few = omega (arith, w .takes, p .few);
+            bytes = omega (arith, ap (λ (q : Expansion). q .controls) left-whole, p .bytes);
+            words = omega (arith, ap (λ (q : Expansion). q .datas) left-whole, p .words);
+            total = omega (arith, ap (λ (q : Expansion). q .runs) left-whole, p .total);
+            fault = sym (ap (λ (q : Expansion). q .fault) left-whole) ∙ p .fault;
+            rest =
+                sym (drop-drop (r .count) to (expandSection controls section n .made))
+                ∙ ap (drop (r .count)) rest-is
+                ∙ drop-at made (then .made) (r .count) (w .makes);
+            long = omega (arith, ap (λ (q : Expansion). length (q .made)) left-whole, lm, w .makes, p .long);
+            stored =
+                e
+                ∙ stores-ext (r .count) (λ i. screenWord (to + i)) _ (λ i. word (to + i)) screen value-is
+                ∙ ap (storedFrom to (r .count) (λ i. word (to + i))) (p .stored)
+                ∙ stores-more to (r .count) screenWord word screen₀;
+          }
+
+  -- no control byte is left
+  pub left-none : length controls ≤ used → left controls section n used taken to ≡ noRun 0
+  left-none h = rw (drop-of-length-le controls h) (expand-none (drop taken datas) (screenWords - to))
+
+  -- the answer, where no control byte is left or the next run is at fault
+  module _ (number : ℕ) (stop : left controls section n used taken to ≡ noRun number) where
+    words-is : length (expandSection controls section n .made) ≡ to
+    words-is = omega (arith, ap (λ (q : Expansion). length (q .made)) stop, p .long)
+
+    pub counts-done : record {
+      fault = number;
+      controls = record { 0 = used };
+      datas = record { 0 = taken };
+      runs = runs;
+      words = to;
+    } ≡ counted (expandSection controls section n)
+    counts-done =
+        let f : number ≡ expandSection controls section n .fault =
+        sym (ap (λ (q : Expansion). q .fault) stop) ∙ p .fault in
+        let b : used ≡ expandSection controls section n .controls =
+        omega (arith, ap (λ (q : Expansion). q .controls) stop, p .bytes) in
+        let d : taken ≡ expandSection controls section n .datas =
+        omega (arith, ap (λ (q : Expansion). q .datas) stop, p .words) in
+        let t : runs ≡ expandSection controls section n .runs =
+        omega (arith, ap (λ (q : Expansion). q .runs) stop, p .total) in
+        let w : to ≡ length (expandSection controls section n .made) = sym words-is in
+        cc
+
+    pub stored-done : screen ≡ storedWords (expandSection controls section n) screen₀
+    unfolding storedWords
+    stored-done = p .stored ∙ ap (λ (k : ℕ). stores k screenWord word screen₀) (sym words-is)

@@ -1,0 +1,131 @@
+-- `tiny::expand` meets its contract. The invariant is `Expanding`, and the measure what is left of the control bytes.
+use mathlib.Core.Path.{ap, _∙_}
+use Prim.Native.Nat.{_+_, _-_, _≤_, _<_}
+use native.Mathlib.Omega.{arith}
+use lib.ListN.{length}
+use Rattle.tiny.specs.declared.ControlBytes.{ControlBytes}
+use denote.Ref.{now}
+use borrow.Author.Needs.{needs}
+use Rattle.tiny.specs.Expansion.{screenWords}
+use Rattle.tiny.proofs.Expanding.{Expanding, expanding-start, expanding-length, expanding-turn, next-fits}
+use Rattle.tiny.proofs.Expanding.{left-fault, left-none, counts-done, stored-done}
+use Rattle.tiny.proofs.expand.Statement.{statement}
+use Rattle.tiny.proofs.expand.Tie as tie
+
+abbrev Inv-loop : tie.InvT-loop
+Inv-loop controls section datas screen₀ used₀ taken₀ runs₀ to₀ screen used taken runs to =
+    Expanding controls section (datas .0) screen₀ screen (used .0) (taken .0) runs to
+
+abbrev μ-loop : tie.MeasureT-loop
+μ-loop controls section datas screen₀ used₀ taken₀ runs₀ to₀ screen used taken runs to = length controls - used .0
+
+-- in a turn that goes on the run ends within both sections and the screen
+fits-here : (c : tie.Else2 Inv-loop μ-loop)
+    → let l = c .before .before .before .before .before .loop in
+    let a = c .before .before .before .before .before .before .before .before .before .args in
+    let r = c .before .before .run-at .result in
+    (0 < r .controls .0) × (l .used .0 + r .controls .0 ≤ length (now (a .controls)))
+    × (l .taken .0 + r .datas .0 ≤ a .datas .0) × (l .to + r .count ≤ screenWords)
+fits-here c =
+    let l = c .before .before .before .before .before .loop in
+    let a = c .before .before .before .before .before .before .before .before .before .args in
+    let run = c .before .before .run-at in
+    next-fits (l .inv) (run .ensures) (c .before .before .before .if1 .taken) (c .if2 .left)
+
+loop-holds : tie.Need-loop-holds Inv-loop μ-loop
+loop-holds c =
+    let a = c .before .before .before .args in
+    expanding-start (now (a .controls)) (now (a .section)) (a .datas .0) (now (a .screen))
+
+run-at-requires : tie.Need-run-at-requires Inv-loop μ-loop
+run-at-requires c κs =
+    let l = c .before .before .loop in
+    (c .if1 .taken, l .inv .given, l .inv .inside)
+
+ended-requires : tie.Need-ended-requires Inv-loop μ-loop
+ended-requires c κs = search needs
+
+same-length : tie.Need-same-length Inv-loop μ-loop
+same-length c =
+    let l = c .before .before .before .before .before .before .loop in
+    expanding-length (l .inv)
+
+returns : tie.Need-returns Inv-loop μ-loop
+returns c =
+    let l = c .before .before .before .before .before .before .loop in
+    let run = c .before .before .before .run-at in
+    let more = c .before .before .before .before .if1 .taken in
+    let stop = left-fault (l .inv) (run .ensures) more (c .before .if2 .taken) in (
+      c .ended .ensures ∙ counts-done (l .inv) (run .result .fault) stop,
+      stored-done (l .inv) (run .result .fault) stop,
+    )
+
+put-run-requires : tie.Need-put-run-requires Inv-loop μ-loop
+put-run-requires c κs =
+    let l = c .before .before .before .before .before .before in
+    let f = fits-here (c .before) in
+    (omega (arith, f .2), f .3, expanding-length (l .loop .inv) ∙ l .before .before .before .before .pre .2)
+
+controls-after-requires : tie.Need-controls-after-requires Inv-loop μ-loop
+controls-after-requires c κs = let f = fits-here (c .before .before .before .before) in omega (arith, f .1)
+
+datas-after-requires : tie.Need-datas-after-requires Inv-loop μ-loop
+datas-after-requires c κs = let f = fits-here (c .before .before .before .before .before) in omega (arith, f .2)
+
+add-to : tie.Need-add-to Inv-loop μ-loop
+add-to c = let f = fits-here (c .before .before .before .before .before .before .before) in omega (arith, f .3)
+
+add-runs : tie.Need-add-runs Inv-loop μ-loop
+add-runs c =
+    let l = c .before .before .before .before .before .before .before .before .before .before .before .before in
+    omega (arith, l .loop .inv .few, l .loop .inv .within, l .before .before .before .before .pre .0)
+
+loop-less : tie.Need-loop-less Inv-loop μ-loop
+loop-less c =
+    let f = fits-here (c .before .before .before .before .before .before .before) in
+    omega (arith, f .0, f .1, ap (λ (u : ControlBytes). u .0) (c .before .before .controls-after .ensures))
+
+loop-again : tie.Need-loop-again Inv-loop μ-loop
+loop-again c =
+    let t = c .before .before .before .before .before .before .before in
+    let l = t .before .before .before .before .before .loop in
+    let run = t .before .before .run-at .ensures in
+    rw (c .before .before .controls-after .ensures, c .before .datas-after .ensures)
+    (expanding-turn (l .inv) run (t .before .before .before .if1 .taken) (t .if2 .left) _
+    (c .before .before .before .before .before .put-run .ensures))
+
+ended-requires-2 : tie.Need-ended-requires-2 Inv-loop μ-loop
+ended-requires-2 c κs = search needs
+
+same-length-2 : tie.Need-same-length-2 Inv-loop μ-loop
+same-length-2 c =
+    let l = c .before .before .before .loop in
+    expanding-length (l .inv)
+
+returns-2 : tie.Need-returns-2 Inv-loop μ-loop
+returns-2 c =
+    let l = c .before .before .before .loop in
+    let stop = left-none (l .inv) (c .before .if1 .left) in
+    (c .ended2 .ensures ∙ counts-done (l .inv) 0 stop, stored-done (l .inv) 0 stop)
+
+pub expand-spec : {M : Type 1} → statement M
+expand-spec =
+    tie.close
+    (tie.spec
+    Inv-loop
+    μ-loop
+    loop-holds
+    run-at-requires
+    ended-requires
+    same-length
+    returns
+    put-run-requires
+    controls-after-requires
+    datas-after-requires
+    add-to
+    add-runs
+    loop-less
+    loop-again
+    ended-requires-2
+    same-length-2
+    returns-2)

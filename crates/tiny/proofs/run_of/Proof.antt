@@ -1,0 +1,50 @@
+-- `tiny::run_of` meets its contract: each test picks a case of `runOf`.
+use mathlib.Core.Path.{sym, _∙_}
+use native.Mathlib.Omega.{arith}
+use Rattle.tiny.proofs.Runs.{run-long, run-repeat, run-undefined, run-literal}
+use borrow.Author.Needs.{needs}
+use Rattle.tiny.proofs.run_of.Statement.{statement}
+use Rattle.tiny.proofs.run_of.Tie as tie
+
+long-run-requires : tie.Need-long-run-requires
+long-run-requires c κs = search needs
+
+returns : tie.Need-returns
+returns c = c .long-run .ensures ∙ sym (run-long _ _ (c .before .if1 .taken))
+
+defined-requires : tie.Need-defined-requires
+defined-requires c κs = search needs
+
+returns-2 : tie.Need-returns-2
+returns-2 c = c .defined .ensures ∙ sym (run-repeat _ _ (omega arith) (omega arith))
+
+faulty-requires : tie.Need-faulty-requires
+faulty-requires c κs = search needs
+
+returns-3 : tie.Need-returns-3
+returns-3 c = c .faulty .ensures ∙ sym (run-undefined _ _ (c .before .if3 .taken))
+
+sub-defined : tie.Need-sub-defined
+sub-defined c = search needs
+
+defined-requires-2 : tie.Need-defined-requires-2
+defined-requires-2 c κs = search needs
+
+returns-4 : tie.Need-returns-4
+returns-4 c =
+    let a = c .before .before .before .before .before .args in
+    c .defined2 .ensures ∙ sym (run-literal (a .x) _ (omega arith))
+
+pub run-of-spec : {M : Type 1} → statement M
+run-of-spec =
+    tie.close
+    (tie.spec
+    long-run-requires
+    returns
+    defined-requires
+    returns-2
+    faulty-requires
+    returns-3
+    sub-defined
+    defined-requires-2
+    returns-4)

@@ -1,0 +1,461 @@
+// Tiny files, read (document 02, ticket 1; source 001, <Tiny>). Definitions: specs/.
+ghost use mathlib.Core.Path.{_≡_};
+ghost use Prim.Native.Nat.{_+_, _-_, _*_, _≤_, _<_};
+ghost use lib.ListN.{length, drop};
+ghost use Rattle.words.specs.Word.{wordAt};
+ghost use Rattle.resolution.specs.Shapes.{screenBytes};
+ghost use Rattle.picture.specs.Reading.{readAnswer, readArea};
+ghost use Rattle.tiny.specs.Layout.{resolutionByte, paletteStart, controlCount, dataCount, controlStart};
+ghost use Rattle.tiny.specs.Layout.{bodyLength};
+ghost use Rattle.tiny.specs.Runs.{defined, faulty, longRun, runOf, fitted, runAt, sourceOf};
+ghost use Rattle.tiny.specs.Expansion.{expandSection, screenWords, counted};
+ghost use Rattle.tiny.specs.ScreenWords.{screenWord, nextPlace, storedFrom, storedWords};
+ghost use Rattle.tiny.specs.Reading.{expanded, tinyPicture, readRuns, readSections, readTiny};
+use outcome::AREA_TOO_SHORT;
+use outcome::RUN_TOO_LONG;
+use outcome::SIZE_MISMATCH;
+use outcome::UNDEFINED_CONTROL;
+use outcome::UNKNOWN_RESOLUTION;
+use outcome::WRONG_LENGTH;
+use picture::Picture;
+use picture::ReadAnswer;
+use resolution::SCREEN_BYTES;
+
+// The shortest header: the resolution byte, the palette and the two counts.
+pub const SHORTEST_LENGTH: usize = 37;
+
+// The highest resolution byte, and the highest of a file without rotation bytes.
+pub const HIGHEST_BYTE: u8 = 5;
+
+pub const HIGHEST_PLAIN: u8 = 2;
+
+// There are as many resolutions.
+const RESOLUTIONS: u8 = 3;
+
+// Where the palette stands: after the resolution byte, or after that and four rotation bytes.
+pub const PLAIN_PALETTE: u32 = 1;
+
+pub const ROTATED_PALETTE: u32 = 5;
+
+// From the palette's start on: the count of control bytes, the count of data words, the control bytes.
+const CONTROL_COUNT_OFFSET: usize = 32;
+
+const DATA_COUNT_OFFSET: usize = 34;
+
+const CONTROL_OFFSET: usize = 36;
+
+// The long counts.
+const LEAST_COUNT: u16 = 128;
+
+const MOST_COUNT: u16 = 32767;
+
+// Words of a screen, of a line, of a column and of a set; each set has every fourth column.
+const SCREEN_WORDS: usize = 16000;
+
+const LINE_WORDS: usize = 80;
+
+const COLUMN_WORDS: usize = 200;
+
+const SETS: usize = 4;
+
+const SET_WORDS: usize = 4000;
+
+// Where the last line starts, and in a line the last columns of the sets.
+const LAST_LINE: usize = 15920;
+
+const LAST_COLUMNS: usize = 76;
+
+// A count of control bytes.
+struct ControlBytes(usize);
+
+// A count of data words.
+struct DataWords(usize);
+
+// What stands at a control byte: its fault, or 0; whether it repeats one data word; the words it makes; and what it
+// takes of each section.
+struct Run {
+    fault: u8,
+    repeats: bool,
+    count: usize,
+    controls: ControlBytes,
+    datas: DataWords,
+}
+
+// How far expanding came: the fault of the run at which it ended, or 0; what was used of each section; the runs, and
+// the words they make.
+struct Expanded {
+    fault: u8,
+    controls: ControlBytes,
+    datas: DataWords,
+    runs: usize,
+    words: usize,
+}
+
+// ---- the header
+
+// The first byte; 0 of an empty file.
+fn resolution_byte(file: &[u8]) -> u8
+    ensures { λ r. ⌜ r ≡ resolutionByte (now (file .entry)) ⌝ }
+{
+    if 0 < file.len() { file[0] } else { 0 }
+}
+
+// Where the palette starts.
+fn palette_start(file: &[u8]) -> u32
+    ensures { λ r. ⌜ r ≡ paletteStart (now (file .entry)) ⌝ }
+{
+    if HIGHEST_PLAIN < resolution_byte(file) {
+        return ROTATED_PALETTE;
+    }
+    PLAIN_PALETTE
+}
+
+// The count of control bytes.
+fn control_count(file: &[u8]) -> ControlBytes
+    ensures { λ r. ⌜ r .0 ≡ controlCount (now (file .entry)) ⌝ }
+    ensures { λ r. ⌜ r .0 < 65536 ⌝ }
+{
+    let at = palette_start(file) as usize + CONTROL_COUNT_OFFSET;
+    ControlBytes(words::word_at(file, at) as usize)
+}
+
+// The count of data words.
+fn data_count(file: &[u8]) -> DataWords
+    ensures { λ r. ⌜ r .0 ≡ dataCount (now (file .entry)) ⌝ }
+    ensures { λ r. ⌜ r .0 < 65536 ⌝ }
+{
+    let at = palette_start(file) as usize + DATA_COUNT_OFFSET;
+    DataWords(words::word_at(file, at) as usize)
+}
+
+// Where the control bytes start.
+fn control_start(file: &[u8]) -> usize
+    ensures { λ r. ⌜ r ≡ controlStart (now (file .entry)) ⌝ }
+{
+    palette_start(file) as usize + CONTROL_OFFSET
+}
+
+// The length of both sections.
+fn body_length(file: &[u8]) -> usize
+    ensures { λ r. ⌜ r ≡ bodyLength (now (file .entry)) ⌝ }
+    ensures { λ r. ⌜ r < 196608 ⌝ }
+{
+    let controls = control_count(file);
+    let datas = data_count(file);
+    controls.0 + datas.0 * 2
+}
+
+// The resolution and the palette.
+fn picture_of(file: &[u8]) -> Picture
+    ensures { λ p. ⌜ p ≡ tinyPicture (now (file .entry)) ⌝ }
+{
+    let number = resolution_byte(file) % RESOLUTIONS;
+    let palette = picture::parts::palette_at(file, palette_start(file));
+    picture::without_tail(number as u16, palette)
+}
+
+// ---- a run
+
+// A run that is defined, of `count` words from `controls` control bytes.
+fn defined(repeats: bool, count: usize, controls: usize) -> Run
+    ensures { λ r. ⌜ r ≡ defined repeats count controls ⌝ }
+{
+    if repeats {
+        return Run {
+            fault: 0,
+            repeats: true,
+            count,
+            controls: ControlBytes(controls),
+            datas: DataWords(1),
+        };
+    }
+    Run {
+        fault: 0,
+        repeats: false,
+        count,
+        controls: ControlBytes(controls),
+        datas: DataWords(count),
+    }
+}
+
+// A run at fault.
+fn faulty(number: u8) -> Run
+    ensures { λ r. ⌜ r ≡ faulty number ⌝ }
+{
+    Run {
+        fault: number,
+        repeats: false,
+        count: 0,
+        controls: ControlBytes(0),
+        datas: DataWords(0),
+    }
+}
+
+// A long run: its count is the control word at `from`.
+fn long_run(repeats: bool, controls: &[u8], from: usize) -> Run
+    requires { ⌜ from ≤ length (now controls) ⌝ }
+    ensures { λ r. ⌜ r ≡ longRun repeats (drop from (now (controls .entry))) ⌝ }
+{
+    if controls.len() - from < 2 {
+        return faulty(RUN_TOO_LONG);
+    }
+    let count = words::word_at(controls, from);
+    if count < LEAST_COUNT {
+        return faulty(UNDEFINED_CONTROL);
+    }
+    if MOST_COUNT < count {
+        return faulty(UNDEFINED_CONTROL);
+    }
+    defined(repeats, count as usize, 3)
+}
+
+// The run that control byte x begins; the control bytes behind it start at `from`.
+fn run_of(x: u8, controls: &[u8], from: usize) -> Run
+    requires { ⌜ from ≤ length (now controls) ⌝ }
+    ensures { λ r. ⌜ r ≡ runOf x (drop from (now (controls .entry))) ⌝ }
+{
+    if x < 2 {
+        return long_run(x == 0, controls, from);
+    }
+    if x < 128 {
+        return defined(true, x as usize, 1);
+    }
+    if x == 128 {
+        return faulty(UNDEFINED_CONTROL);
+    }
+    defined(false, 256 - x as usize, 1)
+}
+
+// A run judged against the data words that are left and the room for words.
+fn fitted(r: Run, left: DataWords, room: usize) -> Run
+    ensures { λ s. ⌜ s ≡ fitted r (left .0) room ⌝ }
+{
+    if room < r.count {
+        return faulty(RUN_TOO_LONG);
+    }
+    if left.0 < r.datas.0 {
+        return faulty(RUN_TOO_LONG);
+    }
+    r
+}
+
+// The run at a control byte, judged, once `taken` of the data words are taken and `to` words are made.
+fn run_at(controls: &[u8], used: ControlBytes, datas: DataWords, taken: DataWords, to: usize) -> Run
+    requires { ⌜ (used .0 < length (now controls)) × (taken .0 ≤ datas .0) × (to ≤ screenWords) ⌝ }
+    ensures { λ r. ⌜ r ≡ runAt (drop (used .0) (now (controls .entry))) (datas .0 - taken .0) (screenWords - to) ⌝ }
+{
+    let at = used.0;
+    let r = run_of(controls[at], controls, at + 1);
+    let left = DataWords(datas.0 - taken.0);
+    fitted(r, left, SCREEN_WORDS - to)
+}
+
+// The control bytes used once a run is.
+fn controls_after(used: ControlBytes, run: Run) -> ControlBytes
+    requires { ⌜ used .0 + run .controls .0 < 65536 ⌝ }
+    ensures { λ r. ⌜ r ≡ record { 0 = used .0 + run .controls .0 } ⌝ }
+{
+    ControlBytes(used.0 + run.controls.0)
+}
+
+// The data words taken once a run is.
+fn datas_after(taken: DataWords, run: Run) -> DataWords
+    requires { ⌜ taken .0 + run .datas .0 < 65536 ⌝ }
+    ensures { λ r. ⌜ r ≡ record { 0 = taken .0 + run .datas .0 } ⌝ }
+{
+    DataWords(taken.0 + run.datas.0)
+}
+
+// ---- the words of a run put into a screen
+
+// The screen word of expanded word k.
+fn screen_word(k: usize) -> usize
+    requires { ⌜ k ≤ screenWords ⌝ }
+    ensures { λ p. ⌜ p ≡ screenWord k ⌝ }
+{
+    let r = k % SET_WORDS;
+    LINE_WORDS * (r % COLUMN_WORDS) + k / SET_WORDS + SETS * (r / COLUMN_WORDS)
+}
+
+// The screen word of the expanded word behind that of screen word `place`.
+fn next_place(place: usize) -> usize
+    requires { ⌜ place < screenWords ⌝ }
+    ensures { λ p. ⌜ p ≡ nextPlace place ⌝ }
+{
+    if place < LAST_LINE {
+        return place + LINE_WORDS;
+    }
+    let column = place - LAST_LINE;
+    if column < LAST_COLUMNS {
+        return column + SETS;
+    }
+    column - LAST_COLUMNS + 1
+}
+
+// Stores a word as the expanded words from `to` on, `count` times.
+fn put_repeat(word: u16, count: usize, to: usize, screen: &mut [u16])
+    requires { ⌜ (to + count ≤ screenWords) × (length (now screen) ≡ screenWords) ⌝ }
+    ensures { λ _. ⌜ now (screen .exit) ≡ storedFrom to count (λ i. word) (now (screen .entry)) ⌝ }
+{
+    let mut place = screen_word(to);
+    let mut k: usize = 0;
+    while k < count {
+        screen[place] = word;
+        place = next_place(place);
+        k += 1;
+    }
+}
+
+// Stores `count` words of a section, from word `taken` on, as the expanded words from `to` on.
+fn put_literal(section: &[u8], taken: usize, count: usize, to: usize, screen: &mut [u16])
+    requires { ⌜ (taken < 65536) × (to + count ≤ screenWords) × (length (now screen) ≡ screenWords) ⌝ }
+    ensures { λ _.
+        ⌜ now (screen .exit)
+        ≡ storedFrom to count (λ i. wordAt (now (section .entry)) ((taken + i) * 2)) (now (screen .entry)) ⌝ }
+{
+    let mut place = screen_word(to);
+    let mut k: usize = 0;
+    while k < count {
+        screen[place] = words::word_at(section, (taken + k) * 2);
+        place = next_place(place);
+        k += 1;
+    }
+}
+
+// Stores the words of a run as the expanded words from `to` on.
+fn put_run(run: Run, section: &[u8], taken: DataWords, to: usize, screen: &mut [u16])
+    requires { ⌜ (taken .0 < 65536) × (to + run .count ≤ screenWords) × (length (now screen) ≡ screenWords) ⌝ }
+    ensures { λ _.
+        ⌜ now (screen .exit)
+        ≡ storedFrom to (run .count)
+        (λ i. wordAt (now (section .entry)) (sourceOf (run .repeats) (taken .0) i * 2)) (now (screen .entry)) ⌝ }
+{
+    let start = taken.0;
+    if run.repeats {
+        put_repeat(words::word_at(section, start * 2), run.count, to, screen);
+        return;
+    }
+    put_literal(section, start, run.count, to, screen);
+}
+
+// ---- the sections expanded
+
+// The counts where expanding ends.
+fn ended(fault: u8, used: ControlBytes, taken: DataWords, runs: usize, words: usize) -> Expanded
+    ensures { λ r. ⌜ r ≡ record { fault = fault; controls = used; datas = taken; runs = runs; words = words } ⌝ }
+{
+    Expanded {
+        fault,
+        controls: used,
+        datas: taken,
+        runs,
+        words,
+    }
+}
+
+// Expands the control bytes and the first data words of a section into a screen, until no control byte is left or a run
+// is at fault.
+fn expand(controls: &[u8], section: &[u8], datas: DataWords, screen: &mut [u16]) -> Expanded
+    requires { ⌜ (length (now controls) < 65536) × (datas .0 < 65536) × (length (now screen) ≡ screenWords) ⌝ }
+    ensures answer { λ r. ⌜ r ≡ counted (expandSection (now (controls .entry)) (now (section .entry)) (datas .0)) ⌝ }
+    ensures screen { λ _.
+        ⌜ now (screen .exit)
+        ≡ storedWords (expandSection (now (controls .entry)) (now (section .entry)) (datas .0))
+        (now (screen .entry)) ⌝ }
+{
+    let mut used = ControlBytes(0);
+    let mut taken = DataWords(0);
+    let mut runs: usize = 0;
+    let mut to: usize = 0;
+    while used.0 < controls.len() {
+        let run = run_at(controls, used, datas, taken, to);
+        if run.fault != 0 {
+            return ended(run.fault, used, taken, runs, to);
+        }
+        put_run(run, section, taken, to, screen);
+        used = controls_after(used, run);
+        taken = datas_after(taken, run);
+        to += run.count;
+        runs += 1;
+    }
+    ended(0, used, taken, runs, to)
+}
+
+// Expands the sections of a file into a screen.
+fn expand_sections(file: &[u8], screen: &mut [u16]) -> Expanded
+    requires { ⌜ length (now file) ≡ controlStart (now file) + bodyLength (now file) ⌝ }
+    requires { ⌜ length (now screen) ≡ screenWords ⌝ }
+    ensures answer { λ r. ⌜ r ≡ counted (expanded (now (file .entry))) ⌝ }
+    ensures screen { λ _. ⌜ now (screen .exit) ≡ storedWords (expanded (now (file .entry))) (now (screen .entry)) ⌝ }
+    ensures used { λ r. ⌜ r .controls .0 < 65536 ⌝ }
+{
+    let start = control_start(file);
+    let controls = control_count(file);
+    let datas = data_count(file);
+    let middle = start + controls.0;
+    expand(&file[start..middle], &file[middle..], datas, screen)
+}
+
+// ---- the file read
+
+// The runs of a file whose sections have their lengths, expanded into a screen of the reader's own and then put into
+// the area.
+fn read_runs(file: &[u8], area: &mut [u8]) -> ReadAnswer
+    requires { ⌜ length (now file) ≡ controlStart (now file) + bodyLength (now file) ⌝ }
+    requires { ⌜ screenBytes ≤ length (now area) ⌝ }
+    ensures answer { λ r. ⌜ r ≡ readAnswer (readRuns (now (file .entry)) (expanded (now (file .entry)))) ⌝ }
+    ensures area { λ _.
+        ⌜ now (area .exit)
+        ≡ readArea (readRuns (now (file .entry)) (expanded (now (file .entry)))) (now (area .entry)) ⌝ }
+{
+    let start = control_start(file);
+    let datas = data_count(file);
+    let mut screen = [0u16; SCREEN_WORDS];
+    let done = expand_sections(file, &mut screen);
+    if done.fault != 0 {
+        return picture::read_refused(outcome::refuse_at(done.fault, start + done.controls.0));
+    }
+    if done.datas.0 < datas.0 {
+        return picture::read_refused(outcome::refuse(SIZE_MISMATCH));
+    }
+    if done.words < SCREEN_WORDS {
+        return picture::read_refused(outcome::refuse(SIZE_MISMATCH));
+    }
+    words::put_words(&screen, area);
+    picture::read_done(picture_of(file), file.len() - start, done.runs)
+}
+
+// A file with an allowed resolution byte: the length that its counts give is judged.
+fn read_sections(file: &[u8], area: &mut [u8]) -> ReadAnswer
+    requires { ⌜ screenBytes ≤ length (now area) ⌝ }
+    ensures answer { λ r. ⌜ r ≡ readAnswer (readSections (now (file .entry))) ⌝ }
+    ensures area { λ _. ⌜ now (area .exit) ≡ readArea (readSections (now (file .entry))) (now (area .entry)) ⌝ }
+{
+    let start = control_start(file);
+    if file.len() < start {
+        return picture::read_refused(outcome::refuse(WRONG_LENGTH));
+    }
+    if file.len() - start != body_length(file) {
+        return picture::read_refused(outcome::refuse(WRONG_LENGTH));
+    }
+    read_runs(file, area)
+}
+
+// Reads a file into the first 32,000 bytes of an area. All is judged before the first byte is written.
+pub fn read(file: &[u8], area: &mut [u8]) -> ReadAnswer
+    ensures answer { λ r. ⌜ r ≡ readAnswer (readTiny (now (file .entry)) (length (now (area .entry)))) ⌝ }
+    ensures area { λ _.
+        ⌜ now (area .exit)
+        ≡ readArea (readTiny (now (file .entry)) (length (now (area .entry)))) (now (area .entry)) ⌝ }
+{
+    if area.len() < SCREEN_BYTES {
+        return picture::read_refused(outcome::refuse(AREA_TOO_SHORT));
+    }
+    if file.len() < SHORTEST_LENGTH {
+        return picture::read_refused(outcome::refuse(WRONG_LENGTH));
+    }
+    if HIGHEST_BYTE < resolution_byte(file) {
+        return picture::read_refused(outcome::refuse(UNKNOWN_RESOLUTION));
+    }
+    read_sections(file, area)
+}
