@@ -36,7 +36,7 @@ echo "counts each byte of a rep movsb as one instruction)"
 echo
 echo "| operation | screen | resolution | library | Rust or memcpy | ratio | per byte |"
 echo "|---|---|---|---|---|---|---|"
-for operation in raw-read packed-read form3-write lines-out tally; do
+for operation in raw-read packed-read tiny-read form3-write lines-out tally; do
     baseline=rust-$operation
     if [ $operation = raw-read ]; then baseline=memcpy; fi
     for screen in map blank noise worst; do

@@ -1,13 +1,17 @@
 /*
- * Kutimuq: Atari ST pictures (DEGAS, DEGAS Elite, NEOchrome).
+ * Kutimuq: Atari ST pictures (DEGAS, DEGAS Elite, NEOchrome, Tiny).
  *
- * Every function takes every input and answers. The number 0 means accepted;
- * any other number is a refusal. A refusal gives its number, a place, and zero
- * in all else, and no byte of any lent area has changed. An accepted answer's
- * place is 0.
+ * **NO POINTER MAY BE NULL, NOT EVEN ONE WITH LENGTH 0.** The proofs cover
+ * memory that exists; they promise nothing for a null pointer. For no bytes
+ * pass the address of any object and length 0.
+ * **AREAS LENT TO ONE CALL MUST NOT OVERLAP**, a pointer must point to as many
+ * bytes as the length after it says, and nothing else may write to them before
+ * the call returns.
  *
- * A pointer must point to as many bytes as the length after it says; with
- * length 0 it must still not be null. Areas lent to one call must not overlap.
+ * Every function takes every other input and answers. The number 0 means
+ * accepted; any other number is a refusal. A refusal gives its number, a place,
+ * and zero in all else, and no byte of any lent area has changed. An accepted
+ * answer's place is 0.
  *
  * Resolutions: 0 low (320 x 200, 4 planes), 1 medium (640 x 200, 2 planes),
  * 2 high (640 x 400, 1 plane). A screen is the first 32,000 bytes of the area
@@ -25,38 +29,88 @@
 extern "C" {
 #endif
 
-/* The numbers given back. */
-enum {
-    /* Accepted. */
+#define KUTIMUQ_VERSION_MAJOR 0
+#define KUTIMUQ_VERSION_MINOR 1
+#define KUTIMUQ_VERSION_PATCH 0
+#define KUTIMUQ_VERSION "0.1.0"
+
+/* The answer must be looked at; no pointer may be null. */
+#ifdef __GNUC__
+#define KUTIMUQ_MUST_USE __attribute__((warn_unused_result))
+#define KUTIMUQ_NONNULL __attribute__((nonnull))
+#else
+#define KUTIMUQ_MUST_USE
+#define KUTIMUQ_NONNULL
+#endif
+
+/* The numbers given back. The place is 0 where nothing else is said. */
+enum KutimuqNumber {
     KUTIMUQ_ACCEPTED = 0,
-    /* A lent area is too short. Place 0. */
     KUTIMUQ_AREA_TOO_SHORT = 1,
-    /* Unknown kind (reading) or form (writing). Place 0. */
-    KUTIMUQ_UNKNOWN_KIND_OR_FORM = 2,
-    /* The file's length is not allowed. Place 0. */
-    KUTIMUQ_FILE_LENGTH = 3,
-    /* The NEOchrome flag word is not 0. Place 0. */
-    KUTIMUQ_NEO_FLAG = 4,
-    /* The resolution is above 2. Place 0. */
-    KUTIMUQ_RESOLUTION = 5,
-    /* The input ends before the screen or row is full. Place: the offset of the
-       control byte at fault, or the input's length if no byte is left. */
+    /* Unknown kind (reading) or form (writing). */
+    KUTIMUQ_UNKNOWN_KIND = 2,
+    KUTIMUQ_WRONG_LENGTH = 3,
+    KUTIMUQ_WRONG_FLAG = 4,
+    KUTIMUQ_UNKNOWN_RESOLUTION = 5,
+    /* Place: the offset of the control byte at fault, or the input's length if
+       no byte is left. */
     KUTIMUQ_INPUT_ENDS = 6,
-    /* A record crosses its row's end. Place: its control byte's offset. In one
-       record this is judged before missing input. */
-    KUTIMUQ_RECORD_CROSSES_ROW = 7,
-    /* After the body stand not exactly 32 bytes. Place: the offset after the
-       body. */
-    KUTIMUQ_NOT_32_AFTER_BODY = 8,
-    /* The screen has no packed body below 32,000 bytes. Place 0. */
+    /* Place: the record's control byte's offset. In one record this is judged
+       before missing input. */
+    KUTIMUQ_RECORD_CROSSES = 7,
+    /* Place: the offset after the body. */
+    KUTIMUQ_WRONG_TAIL = 8,
     KUTIMUQ_NO_PACKED_BODY = 9,
-    /* A number is out of range: row width, line, register, rectangle, floor or
-       confidence. Place 0. */
-    KUTIMUQ_OUT_OF_RANGE = 10
+    /* Of a row width, line, register, rectangle, floor or confidence. */
+    KUTIMUQ_OUT_OF_RANGE = 10,
+    /* Of a Tiny file. Place: the control byte's offset, here and for 12. */
+    KUTIMUQ_UNDEFINED_CONTROL = 11,
+    /* Of a Tiny file. At one control byte a count cut short is judged before 11,
+       a run too long after it. */
+    KUTIMUQ_RUN_TOO_LONG = 12,
+    /* Of a Tiny file. */
+    KUTIMUQ_SIZE_MISMATCH = 13
 };
 
+/* What a number means, in words; never null. */
+static inline const char *kutimuq_meaning(uint8_t number)
+{
+    switch (number) {
+    case KUTIMUQ_ACCEPTED:
+        return "accepted";
+    case KUTIMUQ_AREA_TOO_SHORT:
+        return "a lent area too short";
+    case KUTIMUQ_UNKNOWN_KIND:
+        return "unknown kind or form";
+    case KUTIMUQ_WRONG_LENGTH:
+        return "file length not allowed";
+    case KUTIMUQ_WRONG_FLAG:
+        return "NEOchrome flag not 0";
+    case KUTIMUQ_UNKNOWN_RESOLUTION:
+        return "resolution above 2";
+    case KUTIMUQ_INPUT_ENDS:
+        return "input ends before the screen or row is full";
+    case KUTIMUQ_RECORD_CROSSES:
+        return "a record crosses its row's end";
+    case KUTIMUQ_WRONG_TAIL:
+        return "after the body not exactly 32 bytes";
+    case KUTIMUQ_NO_PACKED_BODY:
+        return "no packed body below 32,000 exists";
+    case KUTIMUQ_OUT_OF_RANGE:
+        return "a number out of range";
+    case KUTIMUQ_UNDEFINED_CONTROL:
+        return "a control byte or a count that is not defined";
+    case KUTIMUQ_RUN_TOO_LONG:
+        return "a count cut short, or a run past the words to make or the data";
+    case KUTIMUQ_SIZE_MISMATCH:
+        return "data left or words missing after the last run";
+    default:
+        return "unknown refusal";
+    }
+}
+
 /* What can be read. */
-enum { KUTIMUQ_KIND_DEGAS = 1, KUTIMUQ_KIND_NEO = 2 };
+enum { KUTIMUQ_KIND_DEGAS = 1, KUTIMUQ_KIND_NEO = 2, KUTIMUQ_KIND_TINY = 3 };
 
 /* What can be written. */
 enum {
@@ -66,16 +120,42 @@ enum {
     KUTIMUQ_FORM_NEO = 4           /* NEOchrome, 32,128 bytes */
 };
 
-/* A number and a place, no more. */
-typedef struct KutimuqAnswer {
+/* Sizes in bytes. */
+enum {
+    KUTIMUQ_SCREEN_BYTES = 32000,      /* a screen */
+    KUTIMUQ_LONGEST_FILE = 32128,      /* a DEGAS or NEOchrome file that can be accepted */
+    KUTIMUQ_LONGEST_TINY_FILE = 48041, /* a Tiny file that can be accepted: a run for each word */
+    KUTIMUQ_WRITE_AREA_BYTES = 32128,  /* the output lent for any form */
+    KUTIMUQ_WIDEST_LINE = 640,         /* the registers of a scan line */
+    KUTIMUQ_WIDEST_ROW = 128,          /* a row to pack or unpack */
+    KUTIMUQ_PACK_AREA_BYTES = 129      /* the output lent for a packed row */
+};
+
+/* What a resolution stands for. Its registers are 0 to 2^planes - 1. */
+typedef struct KutimuqShape {
+    size_t width;
+    size_t height;
+    size_t planes;
+    size_t row_bytes; /* of one plane of one scan line */
+} KutimuqShape;
+
+/* The shape of a resolution; all zero for one above 2. */
+static inline KutimuqShape kutimuq_shape(uint16_t resolution)
+{
+    static const KutimuqShape shapes[] = {
+        {320, 200, 4, 40}, {640, 200, 2, 80}, {640, 400, 1, 80}, {0, 0, 0, 0}};
+    return shapes[resolution < 3 ? resolution : 3];
+}
+
+/* A number and a place; both 0 in an accepted answer. */
+typedef struct KutimuqRefusal {
     uint8_t number;
     size_t place;
-} KutimuqAnswer;
+} KutimuqRefusal;
 
 /* Packed bytes used or written, and records, do-nothing ones included. */
 typedef struct KutimuqRowAnswer {
-    uint8_t number;
-    size_t place;
+    KutimuqRefusal refusal;
     size_t bytes;
     size_t records;
 } KutimuqRowAnswer;
@@ -90,15 +170,15 @@ typedef struct KutimuqTable {
 typedef struct KutimuqPicture {
     uint16_t resolution;
     uint16_t palette[16];
-    bool tailed;
+    bool tail_present;
     KutimuqTable tail[4];
 } KutimuqPicture;
 
 /* Body: the packed body's bytes; records: its records, do-nothing ones
-   included. Both are 0 for a raw file. */
+   included. For a Tiny file the bytes of both sections and the runs. Both are 0
+   for a raw file. */
 typedef struct KutimuqReadAnswer {
-    uint8_t number;
-    size_t place;
+    KutimuqRefusal refusal;
     KutimuqPicture picture;
     size_t body;
     size_t records;
@@ -106,8 +186,7 @@ typedef struct KutimuqReadAnswer {
 
 /* Length: the file's bytes. Body and records are 0 except for form 3. */
 typedef struct KutimuqWriteAnswer {
-    uint8_t number;
-    size_t place;
+    KutimuqRefusal refusal;
     size_t length;
     size_t body;
     size_t records;
@@ -124,15 +203,13 @@ typedef struct KutimuqRectangle {
 
 /* Pixels of each register. */
 typedef struct KutimuqTallyAnswer {
-    uint8_t number;
-    size_t place;
+    KutimuqRefusal refusal;
     uint32_t counts[16];
 } KutimuqTallyAnswer;
 
 /* Each colour from 0 to 255. */
 typedef struct KutimuqColourAnswer {
-    uint8_t number;
-    size_t place;
+    KutimuqRefusal refusal;
     uint8_t red;
     uint8_t green;
     uint8_t blue;
@@ -147,8 +224,7 @@ typedef struct KutimuqLegend {
 /* Pixels of the class at or above the floor, of the class below the floor, and
    of any other class. They add up to the rectangle's pixels. */
 typedef struct KutimuqPondAnswer {
-    uint8_t number;
-    size_t place;
+    KutimuqRefusal refusal;
     uint32_t sure;
     uint32_t unsure;
     uint32_t other;
@@ -165,6 +241,7 @@ typedef struct KutimuqPalette {
  * Refusals in order: 10 width, 1 output below the width, 6 or 7 at the first
  * record at fault. Offsets count from the start of `packed`.
  */
+KUTIMUQ_MUST_USE KUTIMUQ_NONNULL
 KutimuqRowAnswer kutimuq_unpack_row(const uint8_t *packed, size_t packed_len, size_t width,
                                     uint8_t *out, size_t out_len);
 
@@ -174,6 +251,7 @@ KutimuqRowAnswer kutimuq_unpack_row(const uint8_t *packed, size_t packed_len, si
  * of unsigned bytes. Output past that string is unchanged.
  * Refusals in order: 10 width, 1 output below 129 bytes.
  */
+KUTIMUQ_MUST_USE KUTIMUQ_NONNULL
 KutimuqRowAnswer kutimuq_pack_row(const uint8_t *row, size_t row_len, uint8_t *out,
                                   size_t out_len);
 
@@ -183,8 +261,9 @@ KutimuqRowAnswer kutimuq_pack_row(const uint8_t *row, size_t row_len, uint8_t *o
  * Refusals in order: 1 screen below 32,000 bytes, 5, 10 line not below the
  * height, 1 output below the width.
  */
-KutimuqAnswer kutimuq_line_out(const uint8_t *screen, size_t screen_len, uint16_t resolution,
-                               size_t line, uint8_t *out, size_t out_len);
+KUTIMUQ_MUST_USE KUTIMUQ_NONNULL
+KutimuqRefusal kutimuq_line_out(const uint8_t *screen, size_t screen_len, uint16_t resolution,
+                                size_t line, uint8_t *out, size_t out_len);
 
 /*
  * Puts the registers of one scan line, one byte a pixel, into a screen. All
@@ -192,21 +271,24 @@ KutimuqAnswer kutimuq_line_out(const uint8_t *screen, size_t screen_len, uint16_
  * Refusals in order: 1 screen below 32,000 bytes, 5, 10 line not below the
  * height, 1 registers below the width, 10 a register not below 2^planes.
  */
-KutimuqAnswer kutimuq_line_in(uint8_t *screen, size_t screen_len, uint16_t resolution,
-                              size_t line, const uint8_t *registers, size_t registers_len);
+KUTIMUQ_MUST_USE KUTIMUQ_NONNULL
+KutimuqRefusal kutimuq_line_in(uint8_t *screen, size_t screen_len, uint16_t resolution,
+                               size_t line, const uint8_t *registers, size_t registers_len);
 
 /*
  * Counts the pixels of each register in a rectangle.
  * Refusals in order: 1 screen below 32,000 bytes, 5, 10 rectangle.
  */
+KUTIMUQ_MUST_USE KUTIMUQ_NONNULL
 KutimuqTallyAnswer kutimuq_tally(const uint8_t *screen, size_t screen_len,
-                                 uint16_t resolution, KutimuqRectangle area);
+                                 uint16_t resolution, KutimuqRectangle rectangle);
 
 /*
  * The colour of a register. At high resolution register 0 is white and
  * register 1 black, whatever the palette.
  * Refusals in order: 5, 10 register not below 2^planes.
  */
+KUTIMUQ_MUST_USE
 KutimuqColourAnswer kutimuq_colour(uint16_t resolution, KutimuqPalette palette,
                                    uint8_t register_number);
 
@@ -215,19 +297,24 @@ KutimuqColourAnswer kutimuq_colour(uint16_t resolution, KutimuqPalette palette,
  * Refusals in order: 1 screen below 32,000 bytes, 5, 10 rectangle, or the floor
  * or any of the 16 confidences above 100.
  */
+KUTIMUQ_MUST_USE KUTIMUQ_NONNULL
 KutimuqPondAnswer kutimuq_pond(const uint8_t *screen, size_t screen_len, uint16_t resolution,
-                               KutimuqRectangle area, uint8_t class_number, uint8_t floor,
+                               KutimuqRectangle rectangle, uint8_t class_number, uint8_t floor,
                                KutimuqLegend legend);
 
 /*
- * Reads a DEGAS (kind 1) or NEOchrome (kind 2) file: the screen goes to the
- * first 32,000 bytes of `area`, later bytes are unchanged.
+ * Reads a DEGAS (kind 1), NEOchrome (kind 2) or Tiny (kind 3) file: the screen
+ * goes to the first 32,000 bytes of `area`, later bytes are unchanged. A Tiny
+ * file's rotation bytes are skipped; its picture has no tail.
  * Refusals in order: 1 area below 32,000 bytes, 2, 3 (DEGAS under 34 bytes,
- * NEOchrome not 32,128), 4, 5, 3 (raw not 32,034 or 32,066, packed above
- * 32,065), 6 or 7 at the first record at fault, 8. Offsets count from the
- * file's start. A packed file takes about 33,000 bytes of stack, 32,000 of them
- * for a screen that is copied to `area` once all is judged.
+ * NEOchrome not 32,128, Tiny under 37), 4, 5, 3 (raw not 32,034 or 32,066,
+ * packed above 32,065, Tiny under 41 with rotation bytes or not what its counts
+ * give), 6 or 7 at the first record at fault or 11 or 12 at the first control
+ * byte at fault, 8 or 13. Offsets count from the file's start. A call takes about
+ * 33,000 bytes of stack, whatever the file: 32,000 of them are the screen into
+ * which a packed DEGAS or a Tiny file is unpacked until all is judged.
  */
+KUTIMUQ_MUST_USE KUTIMUQ_NONNULL
 KutimuqReadAnswer kutimuq_read(uint8_t kind, const uint8_t *file, size_t file_len,
                                uint8_t *area, size_t area_len);
 
@@ -238,6 +325,7 @@ KutimuqReadAnswer kutimuq_read(uint8_t kind, const uint8_t *file, size_t file_le
  * Refusals in order: 1 screen below 32,000 or output below 32,128 bytes, 2, 5,
  * 9 (form 3 only).
  */
+KUTIMUQ_MUST_USE KUTIMUQ_NONNULL
 KutimuqWriteAnswer kutimuq_write(uint8_t form, KutimuqPicture picture, const uint8_t *screen,
                                  size_t screen_len, uint8_t *out, size_t out_len);
 

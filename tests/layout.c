@@ -1,26 +1,35 @@
-/* Prints size and field offsets of each struct of kutimuq.h, named without its
-   prefix, as `kutimuq-tests --layout` does for the Rust side. */
+/* Prints what kutimuq.h declares, without its prefix, as `kutimuq-tests --layout`
+   does for the Rust side: each struct with its fields, the version, refusal
+   numbers with their meanings, kinds and forms, sizes and shapes. */
 
 #include <stdalign.h>
 #include <stddef.h>
 #include <stdio.h>
+#include <string.h>
 
 #include "kutimuq.h"
 
 #define STRUCT(name) \
     printf("%s size %zu align %zu\n", #name, sizeof(Kutimuq##name), (size_t)alignof(Kutimuq##name))
 #define FIELD(name, field) \
-    printf("%s.%s offset %zu\n", #name, #field, offsetof(Kutimuq##name, field))
+    printf("%s.%s offset %zu size %zu\n", #name, #field, offsetof(Kutimuq##name, field), \
+           sizeof(((Kutimuq##name *)NULL)->field))
+#define REFUSAL(name) \
+    FIELD(name, refusal.number); \
+    FIELD(name, refusal.place)
+#define CONSTANT(name) printf("%s is %d\n", #name, KUTIMUQ_##name)
+#define NAME(name) \
+    case KUTIMUQ_##name: \
+        return #name
 
-static void print_answers(void)
+static void print_refusals(void)
 {
-    STRUCT(Answer);
-    FIELD(Answer, number);
-    FIELD(Answer, place);
+    STRUCT(Refusal);
+    FIELD(Refusal, number);
+    FIELD(Refusal, place);
 
     STRUCT(RowAnswer);
-    FIELD(RowAnswer, number);
-    FIELD(RowAnswer, place);
+    REFUSAL(RowAnswer);
     FIELD(RowAnswer, bytes);
     FIELD(RowAnswer, records);
 }
@@ -33,19 +42,17 @@ static void print_files(void)
     STRUCT(Picture);
     FIELD(Picture, resolution);
     FIELD(Picture, palette);
-    FIELD(Picture, tailed);
+    FIELD(Picture, tail_present);
     FIELD(Picture, tail);
 
     STRUCT(ReadAnswer);
-    FIELD(ReadAnswer, number);
-    FIELD(ReadAnswer, place);
+    REFUSAL(ReadAnswer);
     FIELD(ReadAnswer, picture);
     FIELD(ReadAnswer, body);
     FIELD(ReadAnswer, records);
 
     STRUCT(WriteAnswer);
-    FIELD(WriteAnswer, number);
-    FIELD(WriteAnswer, place);
+    REFUSAL(WriteAnswer);
     FIELD(WriteAnswer, length);
     FIELD(WriteAnswer, body);
     FIELD(WriteAnswer, records);
@@ -60,13 +67,11 @@ static void print_pixels(void)
     FIELD(Rectangle, lines);
 
     STRUCT(TallyAnswer);
-    FIELD(TallyAnswer, number);
-    FIELD(TallyAnswer, place);
+    REFUSAL(TallyAnswer);
     FIELD(TallyAnswer, counts);
 
     STRUCT(ColourAnswer);
-    FIELD(ColourAnswer, number);
-    FIELD(ColourAnswer, place);
+    REFUSAL(ColourAnswer);
     FIELD(ColourAnswer, red);
     FIELD(ColourAnswer, green);
     FIELD(ColourAnswer, blue);
@@ -76,8 +81,7 @@ static void print_pixels(void)
     FIELD(Legend, confidences);
 
     STRUCT(PondAnswer);
-    FIELD(PondAnswer, number);
-    FIELD(PondAnswer, place);
+    REFUSAL(PondAnswer);
     FIELD(PondAnswer, sure);
     FIELD(PondAnswer, unsure);
     FIELD(PondAnswer, other);
@@ -86,10 +90,71 @@ static void print_pixels(void)
     FIELD(Palette, words);
 }
 
+/* The compiler warns where a number of the header is left out. */
+static const char *name_of(enum KutimuqNumber number)
+{
+    switch (number) {
+        NAME(ACCEPTED);
+        NAME(AREA_TOO_SHORT);
+        NAME(UNKNOWN_KIND);
+        NAME(WRONG_LENGTH);
+        NAME(WRONG_FLAG);
+        NAME(UNKNOWN_RESOLUTION);
+        NAME(INPUT_ENDS);
+        NAME(RECORD_CROSSES);
+        NAME(WRONG_TAIL);
+        NAME(NO_PACKED_BODY);
+        NAME(OUT_OF_RANGE);
+        NAME(UNDEFINED_CONTROL);
+        NAME(RUN_TOO_LONG);
+        NAME(SIZE_MISMATCH);
+    }
+    return NULL;
+}
+
+static void print_numbers(void)
+{
+    for (int number = 0; number <= UINT8_MAX; number++) {
+        const char *name = name_of((enum KutimuqNumber)number);
+        const char *meaning = kutimuq_meaning((uint8_t)number);
+        if (name != NULL || strcmp(meaning, "unknown refusal") != 0) {
+            printf("%s number %d: %s\n", name != NULL ? name : "-", number, meaning);
+        }
+    }
+}
+
+static void print_constants(void)
+{
+    CONSTANT(KIND_DEGAS);
+    CONSTANT(KIND_NEO);
+    CONSTANT(KIND_TINY);
+    CONSTANT(FORM_PLAIN);
+    CONSTANT(FORM_ELITE_RAW);
+    CONSTANT(FORM_ELITE_PACKED);
+    CONSTANT(FORM_NEO);
+    CONSTANT(SCREEN_BYTES);
+    CONSTANT(LONGEST_FILE);
+    CONSTANT(LONGEST_TINY_FILE);
+    CONSTANT(WRITE_AREA_BYTES);
+    CONSTANT(WIDEST_LINE);
+    CONSTANT(WIDEST_ROW);
+    CONSTANT(PACK_AREA_BYTES);
+    for (unsigned resolution = 0; resolution <= UINT16_MAX; resolution++) {
+        KutimuqShape shape = kutimuq_shape((uint16_t)resolution);
+        if (shape.width + shape.height + shape.planes + shape.row_bytes != 0) {
+            printf("resolution %u: %zu x %zu, %zu planes, %zu bytes a row\n", resolution,
+                   shape.width, shape.height, shape.planes, shape.row_bytes);
+        }
+    }
+}
+
 int main(void)
 {
-    print_answers();
+    print_refusals();
     print_files();
     print_pixels();
+    printf("version %s\n", KUTIMUQ_VERSION);
+    print_numbers();
+    print_constants();
     return 0;
 }

@@ -1,23 +1,36 @@
 #!/bin/sh
-# Compares the struct layouts of the C header with those of the Rust side.
-# KUTIMUQ_INCLUDE names the header's folder, default include/ of the repository.
+# Compares what the C header declares with the Rust side, the refusal numbers with Rattle's, and those,
+# their meanings and the version with Python's. KUTIMUQ_INCLUDE names the header's folder, default
+# include/ of the repository.
 set -eu
 
 here=$(cd "$(dirname "$0")" && pwd)
-include=${KUTIMUQ_INCLUDE:-$here/../include}
+root=$here/..
+include=${KUTIMUQ_INCLUDE:-$root/include}
 work=$(mktemp -d)
 trap 'rm -rf "$work"' EXIT
 
+# Counts the lines of two files that are to be equal: WHAT ONE OTHER.
+equal() {
+    if ! diff "$2" "$3"; then
+        echo "layout: $1 differ"
+        exit 1
+    fi
+    passed=$((passed + $(wc -l < "$2")))
+}
+passed=0
+
 gcc -std=c11 -Wall -Wextra -Werror -pedantic -I "$include" -o "$work/layout" "$here/layout.c"
-"$work/layout" > "$work/c.txt"
-
+"$work/layout" > "$work/c"
 cargo build -q --release --offline --manifest-path "$here/Cargo.toml" "$@"
-"${CARGO_TARGET_DIR:-$here/target}/release/kutimuq-tests" --layout > "$work/rust.txt"
+"${CARGO_TARGET_DIR:-$here/target}/release/kutimuq-tests" --layout > "$work/rust"
+equal "C and Rust" "$work/c" "$work/rust"
 
-lines=$(wc -l < "$work/c.txt")
-if diff "$work/c.txt" "$work/rust.txt"; then
-    echo "layout: $lines passed, 0 failed"
-else
-    echo "layout: C and Rust differ"
-    exit 1
-fi
+sed -n '/^ACCEPTED /d; s/ number \([0-9]*\):.*/ \1/p' "$work/rust" > "$work/numbers"
+sed -n 's/^pub const \([A-Z_0-9]*\): u8 = \([0-9]*\);.*/\1 \2/p' "$root/crates/outcome/src/lib.rt" > "$work/rattle"
+equal "the refusal numbers of Rust and Rattle" "$work/numbers" "$work/rattle"
+grep '^version \| number [0-9]*: ' "$work/rust" > "$work/named"
+PYTHONPATH=$root/bindings/python python3 "$here/layout.py" > "$work/python"
+equal "Rust and Python" "$work/named" "$work/python"
+
+echo "layout: $passed passed, 0 failed"

@@ -2,9 +2,11 @@
 
 use std::hint::black_box;
 
-use kutimuq_tests::ffi::Library;
+use kutimuq_tests::library::Library;
 use kutimuq_tests::operations::Operations;
-use kutimuq_tests::reference::{whole_screen, FORM_ELITE_PACKED, KIND_DEGAS, SCREEN_BYTES};
+use kutimuq_tests::reference::{
+    whole_screen, FORM_ELITE_PACKED, KIND_DEGAS, KIND_TINY, SCREEN_BYTES,
+};
 
 use crate::pictures::Subject;
 use crate::plain;
@@ -13,14 +15,16 @@ use crate::plain;
 pub enum Operation {
     RawRead,
     PackedRead,
+    TinyRead,
     PackedWrite,
     Lines,
     Tally,
 }
 
-pub const OPERATIONS: [(Operation, &str); 5] = [
+pub const OPERATIONS: [(Operation, &str); 6] = [
     (Operation::RawRead, "raw-read"),
     (Operation::PackedRead, "packed-read"),
+    (Operation::TinyRead, "tiny-read"),
     (Operation::PackedWrite, "form3-write"),
     (Operation::Lines, "lines-out"),
     (Operation::Tally, "tally"),
@@ -36,18 +40,19 @@ pub enum By {
 pub fn run(operation: Operation, by: By, subject: &mut Subject) {
     let subject = black_box(subject);
     match operation {
-        Operation::RawRead => read(by, &subject.raw_file, &mut subject.area),
-        Operation::PackedRead => read(by, &subject.packed_file, &mut subject.area),
+        Operation::RawRead => read(by, KIND_DEGAS, &subject.raw_file, &mut subject.area),
+        Operation::PackedRead => read(by, KIND_DEGAS, &subject.packed_file, &mut subject.area),
+        Operation::TinyRead => read(by, KIND_TINY, &subject.tiny_file, &mut subject.area),
         Operation::PackedWrite => write(by, subject),
         Operation::Lines => lines(by, subject),
         Operation::Tally => tally(by, subject),
     }
 }
 
-fn read(by: By, file: &[u8], area: &mut [u8]) {
+fn read(by: By, kind: u8, file: &[u8], area: &mut [u8]) {
     black_box(match by {
-        By::Library => Library.read(KIND_DEGAS, file, area),
-        By::Plain => plain::read(KIND_DEGAS, file, area),
+        By::Library => Library.read(kind, file, area),
+        By::Plain => plain::read(kind, file, area),
     });
 }
 
@@ -99,10 +104,15 @@ pub fn pack_row(by: By, row: &[u8], out: &mut [u8]) {
 /// Whether library and plain Rust answer alike and write the same bytes.
 pub fn agree(subject: &Subject) -> bool {
     let resolution = subject.picture.resolution;
-    let read_alike = [&subject.raw_file, &subject.packed_file].into_iter().all(|file| {
+    let files = [
+        (KIND_DEGAS, &subject.raw_file),
+        (KIND_DEGAS, &subject.packed_file),
+        (KIND_TINY, &subject.tiny_file),
+    ];
+    let read_alike = files.into_iter().all(|(kind, file)| {
         let mut areas = [vec![1; SCREEN_BYTES], vec![1; SCREEN_BYTES]];
-        let by_library = Library.read(KIND_DEGAS, file, &mut areas[0]);
-        by_library == plain::read(KIND_DEGAS, file, &mut areas[1]) && areas[0] == areas[1]
+        let by_library = Library.read(kind, file, &mut areas[0]);
+        by_library == plain::read(kind, file, &mut areas[1]) && areas[0] == areas[1]
     });
     let mut outs = [vec![1; subject.out.len()], vec![1; subject.out.len()]];
     let written = Library.write(FORM_ELITE_PACKED, subject.picture, &subject.screen, &mut outs[0]);

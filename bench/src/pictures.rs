@@ -1,9 +1,12 @@
 //! The pictures measured: four screens at three resolutions, and the files of each.
 
-use kutimuq_tests::generate::{even_file, padded_file, screen_with_body, shape_of};
+use kutimuq::ffi::Picture;
+use kutimuq::refusal::Refusal;
+use kutimuq_tests::generate::{
+    column_words, even_file, padded_file, screen_with_body, shape_of, TinyFile,
+};
 use kutimuq_tests::random::Random;
 use kutimuq_tests::reference::{Shape, PACKED_BODY_LIMIT, SCREEN_BYTES, WRITE_AREA_BYTES};
-use kutimuq_tests::types::{number, Picture};
 
 use crate::plain;
 
@@ -35,6 +38,8 @@ pub struct Subject {
     /// allowed, and for the worst case the most records that a body can have: one repeat a row and
     /// do-nothing records everywhere.
     pub packed_file: Vec<u8>,
+    /// The screen with equal neighbours as repeats; for the worst case with a run for each word.
+    pub tiny_file: Vec<u8>,
     pub area: Vec<u8>,
     pub out: Vec<u8>,
 }
@@ -46,7 +51,7 @@ impl Subject {
         let picture = Picture {
             resolution,
             palette: std::array::from_fn(|_| random.word()),
-            tailed: true,
+            tail_present: true,
             ..Picture::default()
         };
         let longest_body = (shape.row_bytes + 1) * shape.plane_rows();
@@ -67,12 +72,14 @@ impl Subject {
         let mut raw_file = packed_file[..34].to_vec();
         raw_file[0] = 0;
         raw_file.extend_from_slice(&screen);
+        let tiny_file = tiny(&mut random, kind, resolution, &screen);
         Subject {
             shape,
             picture,
             screen,
             raw_file,
             packed_file,
+            tiny_file,
             area: vec![0; SCREEN_BYTES],
             out: vec![0; WRITE_AREA_BYTES],
         }
@@ -89,9 +96,20 @@ impl Subject {
 fn packed(picture: &Picture, screen: &[u8]) -> Vec<u8> {
     let mut file = vec![0; WRITE_AREA_BYTES];
     let answer = plain::write_packed(picture, screen, &mut file);
-    assert_eq!(answer.number, number::ACCEPTED, "a screen with a packed body");
+    assert_eq!(answer.refusal, Refusal::default(), "a screen with a packed body");
     file.truncate(answer.length);
     file
+}
+
+fn tiny(random: &mut Random, kind: Kind, resolution: u16, screen: &[u8]) -> Vec<u8> {
+    let mut file = TinyFile::empty(random, resolution as u8);
+    let words = column_words(screen);
+    if kind == Kind::Worst {
+        words.iter().for_each(|word| file.put_unique(&[*word]));
+    } else {
+        file.put_greedily(&words);
+    }
+    file.bytes()
 }
 
 /// Blocks of 40 by 25 pixels, each of one register. From line to line each border moves by up to

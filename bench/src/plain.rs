@@ -2,42 +2,50 @@
 //!
 //! Each judges before it writes, as the library does.
 
+mod tiny;
+
+use kutimuq::ffi::*;
+use kutimuq::refusal::{self, Refusal};
 use kutimuq_tests::reference::{
-    Shape, DEGAS_HEADER_BYTES, ELITE_RAW_FILE_BYTES, KIND_DEGAS, LONGEST_PACKED_FILE,
+    Shape, DEGAS_HEADER_BYTES, ELITE_RAW_FILE_BYTES, KIND_DEGAS, KIND_TINY, LONGEST_PACKED_FILE,
     PACKED_BODY_LIMIT, PLAIN_FILE_BYTES, SCREEN_BYTES, TAIL_BYTES, WIDEST_ROW, WRITE_AREA_BYTES,
 };
-use kutimuq_tests::types::*;
 
 const PACKED_BIT: u16 = 0x8000;
 const WIDEST_LINE: usize = 640;
 /// The longest body: one literal for each of 800 rows of 40 bytes.
 const LONGEST_BODY: usize = 32_800;
 
-type Refusal = (u8, usize);
+/// A refusal whose place is 0.
+fn refused(number: u8) -> Refusal {
+    Refusal { number, place: 0 }
+}
 
 // ---------------------------------------------------------------------- read
 
-/// Reads a DEGAS file, raw or packed.
+/// Reads a DEGAS file, raw or packed, or a Tiny file.
 #[inline(never)]
 pub fn read(kind: u8, file: &[u8], area: &mut [u8]) -> ReadAnswer {
-    judge_read(kind, file, area).unwrap_or_else(|(number, place)| ReadAnswer {
-        number,
-        place,
-        ..ReadAnswer::default()
-    })
+    judge_read(kind, file, area)
+        .unwrap_or_else(|refusal| ReadAnswer { refusal, ..ReadAnswer::default() })
 }
 
 fn judge_read(kind: u8, file: &[u8], area: &mut [u8]) -> Result<ReadAnswer, Refusal> {
-    let screen = area.get_mut(..SCREEN_BYTES).ok_or((number::AREA_TOO_SHORT, 0))?;
-    if kind != KIND_DEGAS {
-        return Err((number::UNKNOWN_KIND_OR_FORM, 0));
+    let screen = area.get_mut(..SCREEN_BYTES).ok_or(refused(refusal::AREA_TOO_SHORT))?;
+    match kind {
+        KIND_DEGAS => read_degas(file, screen),
+        KIND_TINY => tiny::read(file, screen),
+        _ => Err(refused(refusal::UNKNOWN_KIND)),
     }
+}
+
+fn read_degas(file: &[u8], screen: &mut [u8]) -> Result<ReadAnswer, Refusal> {
     if file.len() < DEGAS_HEADER_BYTES {
-        return Err((number::FILE_LENGTH, 0));
+        return Err(refused(refusal::WRONG_LENGTH));
     }
     let first_word = word(file);
     let resolution = first_word & 3;
-    let shape = Shape::of(resolution).ok_or((number::RESOLUTION, 0))?;
+    let shape = Shape::of(resolution).ok_or(refused(refusal::UNKNOWN_RESOLUTION))?;
     if first_word & PACKED_BIT == 0 {
         read_raw(file, resolution, screen)
     } else {
@@ -47,7 +55,7 @@ fn judge_read(kind: u8, file: &[u8], area: &mut [u8]) -> Result<ReadAnswer, Refu
 
 fn read_raw(file: &[u8], resolution: u16, screen: &mut [u8]) -> Result<ReadAnswer, Refusal> {
     if file.len() != PLAIN_FILE_BYTES && file.len() != ELITE_RAW_FILE_BYTES {
-        return Err((number::FILE_LENGTH, 0));
+        return Err(refused(refusal::WRONG_LENGTH));
     }
     let (body, tail) = file[DEGAS_HEADER_BYTES..].split_at(SCREEN_BYTES);
     screen.copy_from_slice(body);
@@ -61,11 +69,11 @@ fn read_packed(
     screen: &mut [u8],
 ) -> Result<ReadAnswer, Refusal> {
     if file.len() > LONGEST_PACKED_FILE {
-        return Err((number::FILE_LENGTH, 0));
+        return Err(refused(refusal::WRONG_LENGTH));
     }
     let (end, records) = judge_body(file, shape)?;
     if file.len() - end != TAIL_BYTES {
-        return Err((number::NOT_32_AFTER_BODY, end));
+        return Err(Refusal { number: refusal::WRONG_TAIL, place: end });
     }
     unpack_body(&file[DEGAS_HEADER_BYTES..end], shape, screen);
     Ok(ReadAnswer {
@@ -83,17 +91,18 @@ fn judge_body(file: &[u8], shape: &Shape) -> Result<(usize, usize), Refusal> {
     for _ in 0..shape.plane_rows() {
         let mut room = shape.row_bytes;
         while room > 0 {
-            let control = *file.get(at).ok_or((number::INPUT_ENDS, at))?;
+            let input_ends = Refusal { number: refusal::INPUT_ENDS, place: at };
+            let control = *file.get(at).ok_or(input_ends)?;
             let (made, taken) = match control {
                 0..=127 => (usize::from(control) + 1, usize::from(control) + 2),
                 128 => (0, 1),
                 129..=255 => (257 - usize::from(control), 2),
             };
             if made > room {
-                return Err((number::RECORD_CROSSES_ROW, at));
+                return Err(Refusal { number: refusal::RECORD_CROSSES, place: at });
             }
             if taken > file.len() - at {
-                return Err((number::INPUT_ENDS, at));
+                return Err(input_ends);
             }
             room -= made;
             at += taken;
@@ -144,7 +153,7 @@ fn unpack_row<'a>(mut body: &'a [u8], row: &mut [u8]) -> &'a [u8] {
 
 /// The picture of a DEGAS file; `tail` is empty where there is none.
 fn picture(file: &[u8], resolution: u16, tail: &[u8]) -> Picture {
-    let mut picture = Picture { resolution, tailed: !tail.is_empty(), ..Picture::default() };
+    let mut picture = Picture { resolution, tail_present: !tail.is_empty(), ..Picture::default() };
     for (value, bytes) in picture.palette.iter_mut().zip(file[2..].chunks_exact(2)) {
         *value = word(bytes);
     }
@@ -166,23 +175,20 @@ fn word(bytes: &[u8]) -> u16 {
 /// changes nothing.
 #[inline(never)]
 pub fn write_packed(picture: &Picture, area: &[u8], out: &mut [u8]) -> WriteAnswer {
-    judge_write(picture, area, out).unwrap_or_else(|(number, place)| WriteAnswer {
-        number,
-        place,
-        ..WriteAnswer::default()
-    })
+    judge_write(picture, area, out)
+        .unwrap_or_else(|refusal| WriteAnswer { refusal, ..WriteAnswer::default() })
 }
 
 fn judge_write(picture: &Picture, area: &[u8], out: &mut [u8]) -> Result<WriteAnswer, Refusal> {
-    let screen = area.get(..SCREEN_BYTES).ok_or((number::AREA_TOO_SHORT, 0))?;
+    let screen = area.get(..SCREEN_BYTES).ok_or(refused(refusal::AREA_TOO_SHORT))?;
     if out.len() < WRITE_AREA_BYTES {
-        return Err((number::AREA_TOO_SHORT, 0));
+        return Err(refused(refusal::AREA_TOO_SHORT));
     }
-    let shape = Shape::of(picture.resolution).ok_or((number::RESOLUTION, 0))?;
+    let shape = Shape::of(picture.resolution).ok_or(refused(refusal::UNKNOWN_RESOLUTION))?;
     let mut body = [0; LONGEST_BODY];
     let (length, records) = pack_screen(&shape, screen, &mut body);
     if length >= PACKED_BODY_LIMIT {
-        return Err((number::NO_PACKED_BODY, 0));
+        return Err(refused(refusal::NO_PACKED_BODY));
     }
     let (header, rest) = out.split_at_mut(DEGAS_HEADER_BYTES);
     header[..2].copy_from_slice(&(PACKED_BIT | picture.resolution).to_be_bytes());
@@ -229,10 +235,10 @@ fn pack_screen(shape: &Shape, screen: &[u8], out: &mut [u8]) -> (usize, usize) {
 #[inline(never)]
 pub fn pack_row(row: &[u8], out: &mut [u8]) -> RowAnswer {
     if row.is_empty() || row.len() > WIDEST_ROW {
-        return RowAnswer { number: number::OUT_OF_RANGE, ..RowAnswer::default() };
+        return RowAnswer { refusal: refused(refusal::OUT_OF_RANGE), ..RowAnswer::default() };
     }
     if out.len() < WIDEST_ROW + 1 {
-        return RowAnswer { number: number::AREA_TOO_SHORT, ..RowAnswer::default() };
+        return RowAnswer { refusal: refused(refusal::AREA_TOO_SHORT), ..RowAnswer::default() };
     }
     let (bytes, records) = pack(row, out);
     RowAnswer { bytes, records, ..RowAnswer::default() }
@@ -301,20 +307,17 @@ fn choose_controls(row: &[u8]) -> [u8; WIDEST_ROW] {
 
 /// Takes the registers of one scan line, one byte a pixel.
 #[inline(never)]
-pub fn line_out(area: &[u8], resolution: u16, line: usize, out: &mut [u8]) -> Answer {
-    match judge_line(area, resolution, line, out) {
-        Ok(()) => Answer::default(),
-        Err((number, place)) => Answer { number, place },
-    }
+pub fn line_out(area: &[u8], resolution: u16, line: usize, out: &mut [u8]) -> Refusal {
+    judge_line(area, resolution, line, out).err().unwrap_or_default()
 }
 
 fn judge_line(area: &[u8], resolution: u16, line: usize, out: &mut [u8]) -> Result<(), Refusal> {
-    let screen = area.get(..SCREEN_BYTES).ok_or((number::AREA_TOO_SHORT, 0))?;
-    let shape = Shape::of(resolution).ok_or((number::RESOLUTION, 0))?;
+    let screen = area.get(..SCREEN_BYTES).ok_or(refused(refusal::AREA_TOO_SHORT))?;
+    let shape = Shape::of(resolution).ok_or(refused(refusal::UNKNOWN_RESOLUTION))?;
     if line >= shape.height {
-        return Err((number::OUT_OF_RANGE, 0));
+        return Err(refused(refusal::OUT_OF_RANGE));
     }
-    let out = out.get_mut(..shape.width).ok_or((number::AREA_TOO_SHORT, 0))?;
+    let out = out.get_mut(..shape.width).ok_or(refused(refusal::AREA_TOO_SHORT))?;
     take_line(&screen[line * shape.line_bytes()..][..shape.line_bytes()], shape.planes, out);
     Ok(())
 }
@@ -347,17 +350,17 @@ fn take_groups<const PLANES: usize>(line: &[u8], out: &mut [u8]) {
 pub fn tally(area: &[u8], resolution: u16, rectangle: &Rectangle) -> TallyAnswer {
     match judge_tally(area, resolution, rectangle) {
         Ok(counts) => TallyAnswer { counts, ..TallyAnswer::default() },
-        Err((number, place)) => TallyAnswer { number, place, ..TallyAnswer::default() },
+        Err(refusal) => TallyAnswer { refusal, ..TallyAnswer::default() },
     }
 }
 
 fn judge_tally(area: &[u8], resolution: u16, rectangle: &Rectangle) -> Result<[u32; 16], Refusal> {
-    let screen = area.get(..SCREEN_BYTES).ok_or((number::AREA_TOO_SHORT, 0))?;
-    let shape = Shape::of(resolution).ok_or((number::RESOLUTION, 0))?;
+    let screen = area.get(..SCREEN_BYTES).ok_or(refused(refusal::AREA_TOO_SHORT))?;
+    let shape = Shape::of(resolution).ok_or(refused(refusal::UNKNOWN_RESOLUTION))?;
     let right = rectangle.left.checked_add(rectangle.columns).filter(|x| *x <= shape.width);
     let bottom = rectangle.top.checked_add(rectangle.lines).filter(|y| *y <= shape.height);
     let (Some(right), Some(bottom)) = (right, bottom) else {
-        return Err((number::OUT_OF_RANGE, 0));
+        return Err(refused(refusal::OUT_OF_RANGE));
     };
     let mut counts = [0; 16];
     let mut registers = [0; WIDEST_LINE];

@@ -7,7 +7,7 @@
 use crate::operations::Operations;
 use crate::reference;
 use crate::report::Report;
-use crate::types::*;
+use kutimuq::ffi::*;
 use std::fmt::Debug;
 
 const GUARD: usize = 64;

@@ -1,10 +1,13 @@
-//! Every example of document 01, as a check of its own, on one implementation.
+//! Every example of document 01, as a check of its own, on one implementation; then Tiny files.
+
+mod tiny;
 
 use crate::generate::{blank_file, screen_of_rows, shape_of};
 use crate::operations::Operations;
 use crate::reference::{self, Shape, KIND_DEGAS, SCREEN_BYTES, WRITE_AREA_BYTES};
 use crate::report::Report;
-use crate::types::*;
+use kutimuq::ffi::*;
+use kutimuq::refusal::{self, Refusal};
 use std::fmt::Debug;
 
 const BLANK_SUMMARY: &str = "resolution 0
@@ -42,6 +45,8 @@ pub fn run(operations: &dyn Operations, report: &mut Report) {
     examples.greatest_least_bodies();
     examples.damaged_files();
     examples.blank_file();
+    examples.report.section(&format!("examples of Tiny: {}", operations.name()));
+    tiny::run(&mut examples);
 }
 
 impl Examples<'_> {
@@ -89,7 +94,7 @@ impl Examples<'_> {
     fn row_refused(&mut self, name: &str, packed: &[u8], number: u8, place: usize) {
         let mut out = [UNTOUCHED; 2];
         let answer = self.operations.unpack_row(packed, 2, &mut out);
-        let expected = RowAnswer { number, place, ..RowAnswer::default() };
+        let expected = RowAnswer { refusal: Refusal { number, place }, ..RowAnswer::default() };
         self.equal(name, (answer, out), (expected, [UNTOUCHED; 2]));
     }
 
@@ -127,12 +132,12 @@ impl Examples<'_> {
         screen[..8].copy_from_slice(&group);
         let mut registers = vec![UNTOUCHED; 320];
         let answer = self.operations.line_out(&screen, 0, 0, &mut registers);
-        self.equal(name, (answer, registers[0], registers[1]), (Answer::default(), register, 0));
+        self.equal(name, (answer, registers[0], registers[1]), (Refusal::default(), register, 0));
 
         let mut written = vec![0; SCREEN_BYTES];
         let answer = self.operations.line_in(&mut written, 0, 0, &registers);
         let same = written == screen;
-        self.equal(&format!("{name}, line in"), (answer, same), (Answer::default(), true));
+        self.equal(&format!("{name}, line in"), (answer, same), (Refusal::default(), true));
 
         let pixel = Rectangle { columns: 1, lines: 1, ..Rectangle::default() };
         let mut expected = TallyAnswer::default();
@@ -159,7 +164,8 @@ impl Examples<'_> {
     fn written(&mut self, name: &str, screen: &[u8], number: u8, body: usize) {
         let mut out = vec![UNTOUCHED; WRITE_AREA_BYTES];
         let answer = self.operations.write(3, Picture::default(), screen, &mut out);
-        let mut expected = WriteAnswer { number, ..WriteAnswer::default() };
+        let refusal = Refusal { number, place: 0 };
+        let mut expected = WriteAnswer { refusal, ..WriteAnswer::default() };
         if number == 0 {
             expected = WriteAnswer { length: 66 + body, body, records: 1600, ..expected };
         }
@@ -175,7 +181,7 @@ impl Examples<'_> {
         let mut area = vec![UNTOUCHED; SCREEN_BYTES];
         let answer = self.operations.read(KIND_DEGAS, file, &mut area);
         let name = format!("{name}, read back");
-        self.equal(&name, (answer.number, answer.records), (0, 1600));
+        self.equal(&name, (answer.refusal.number, answer.records), (0, 1600));
         self.equal(&name, area == screen, true);
     }
 
@@ -190,7 +196,8 @@ impl Examples<'_> {
             let picture = Picture { resolution, ..Picture::default() };
             let mut out = vec![UNTOUCHED; WRITE_AREA_BYTES];
             let answer = self.operations.write(3, picture, &screen, &mut out);
-            self.equal(&name, answer, WriteAnswer { number: 9, ..WriteAnswer::default() });
+            let refusal = Refusal { number: refusal::NO_PACKED_BODY, place: 0 };
+            self.equal(&name, answer, WriteAnswer { refusal, ..WriteAnswer::default() });
             self.equal(&name, out.iter().all(|byte| *byte == UNTOUCHED), true);
         }
     }
@@ -200,15 +207,19 @@ impl Examples<'_> {
     fn damaged_files(&mut self) {
         let mut file = vec![0x80, 0x00];
         file.resize(34, 0);
-        self.read_refused("DEGAS file of 34 bytes", &file, 6, 34);
+        self.degas_refused("DEGAS file of 34 bytes", &file, 6, 34);
         file.extend([0xD8, 0x00]);
-        self.read_refused("D8 and one byte", &file, 7, 34);
+        self.degas_refused("D8 and one byte", &file, 7, 34);
     }
 
-    fn read_refused(&mut self, name: &str, file: &[u8], number: u8, place: usize) {
+    fn degas_refused(&mut self, name: &str, file: &[u8], number: u8, place: usize) {
+        self.read_refused(name, KIND_DEGAS, file, Refusal { number, place });
+    }
+
+    fn read_refused(&mut self, name: &str, kind: u8, file: &[u8], refusal: Refusal) {
         let mut area = vec![UNTOUCHED; SCREEN_BYTES];
-        let answer = self.operations.read(KIND_DEGAS, file, &mut area);
-        self.equal(name, answer, ReadAnswer { number, place, ..ReadAnswer::default() });
+        let answer = self.operations.read(kind, file, &mut area);
+        self.equal(name, answer, ReadAnswer { refusal, ..ReadAnswer::default() });
         let kept = area.iter().all(|byte| *byte == UNTOUCHED);
         self.equal(&format!("{name}, area"), kept, true);
     }
@@ -218,7 +229,7 @@ impl Examples<'_> {
         self.equal("blank file's length", blank.len(), 1_666);
         let mut area = vec![UNTOUCHED; SCREEN_BYTES + 1];
         let answer = self.operations.read(KIND_DEGAS, &blank, &mut area);
-        let picture = Picture { tailed: true, ..Picture::default() };
+        let picture = Picture { tail_present: true, ..Picture::default() };
         let expected = ReadAnswer { picture, body: 1600, records: 800, ..ReadAnswer::default() };
         self.equal("blank file", answer, expected);
         let zero = area[..SCREEN_BYTES].iter().all(|byte| *byte == 0);
@@ -226,7 +237,7 @@ impl Examples<'_> {
 
         self.summary("summary of the blank file", &blank, BLANK_SUMMARY);
         let cut = &blank[..blank.len() - 1];
-        self.read_refused("blank file less its last byte", cut, 8, 1634);
+        self.degas_refused("blank file less its last byte", cut, 8, 1634);
         self.summary("summary of the cut file", cut, "refused 8 at 1634\n");
         let mut with_nothing = blank.clone();
         with_nothing.insert(34, 0x80);

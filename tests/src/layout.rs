@@ -1,35 +1,81 @@
-//! The size and field offsets of each struct of the C interface, as text.
+//! The C interface as text: each struct with its fields, the version, refusal
+//! numbers with their meanings, kinds and forms, sizes and shapes.
 //!
 //! layout.c prints the same text from the header; layout.sh compares the two.
 
-use crate::types::*;
-use std::fmt::Write;
-use std::mem::{align_of, offset_of, size_of};
+use crate::generate::{shape_of, RESOLUTIONS};
+use crate::reference::*;
+use kutimuq::ffi::*;
+use kutimuq::refusal::{Refusal, NUMBERS};
+use std::mem::{align_of, offset_of, size_of, size_of_val};
 
 macro_rules! describe {
-    ($text:ident, $name:ident { $($field:ident),* }) => {
-        writeln!($text, "{} size {} align {}", stringify!($name), size_of::<$name>(), align_of::<$name>())
-            .expect("a string takes any text");
+    ($lines:ident, $name:ident { $($field:ident $(. $inner:ident)?),* }) => {
+        $lines.push(format!(
+            "{} size {} align {}",
+            stringify!($name),
+            size_of::<$name>(),
+            align_of::<$name>()
+        ));
         $(
-            writeln!($text, "{}.{} offset {}", stringify!($name), stringify!($field), offset_of!($name, $field))
-                .expect("a string takes any text");
+            $lines.push(format!(
+                "{}.{} offset {} size {}",
+                stringify!($name),
+                concat!(stringify!($field) $(, ".", stringify!($inner))?),
+                offset_of!($name, $field $(. $inner)?),
+                size_of_val(&$name::default().$field $(. $inner)?)
+            ));
         )*
     };
 }
 
-pub fn table() -> String {
-    let mut text = String::new();
-    describe!(text, Answer { number, place });
-    describe!(text, RowAnswer { number, place, bytes, records });
-    describe!(text, Table { words });
-    describe!(text, Picture { resolution, palette, tailed, tail });
-    describe!(text, ReadAnswer { number, place, picture, body, records });
-    describe!(text, WriteAnswer { number, place, length, body, records });
-    describe!(text, Rectangle { left, top, columns, lines });
-    describe!(text, TallyAnswer { number, place, counts });
-    describe!(text, ColourAnswer { number, place, red, green, blue });
-    describe!(text, Legend { classes, confidences });
-    describe!(text, PondAnswer { number, place, sure, unsure, other });
-    describe!(text, Palette { words });
-    text
+pub fn table() -> Vec<String> {
+    let mut lines = Vec::new();
+    describe!(lines, Refusal { number, place });
+    describe!(lines, RowAnswer { refusal.number, refusal.place, bytes, records });
+    describe!(lines, Table { words });
+    describe!(lines, Picture { resolution, palette, tail_present, tail });
+    describe!(lines, ReadAnswer { refusal.number, refusal.place, picture, body, records });
+    describe!(lines, WriteAnswer { refusal.number, refusal.place, length, body, records });
+    describe!(lines, Rectangle { left, top, columns, lines });
+    describe!(lines, TallyAnswer { refusal.number, refusal.place, counts });
+    describe!(lines, ColourAnswer { refusal.number, refusal.place, red, green, blue });
+    describe!(lines, Legend { classes, confidences });
+    describe!(lines, PondAnswer { refusal.number, refusal.place, sure, unsure, other });
+    describe!(lines, Palette { words });
+    lines.push(format!("version {}", kutimuq::VERSION));
+    for (name, number, meaning) in NUMBERS {
+        lines.push(format!("{name} number {number}: {meaning}"));
+    }
+    lines.extend(constants());
+    lines.extend((0..=u16::MAX).filter_map(shape));
+    lines
+}
+
+fn constants() -> Vec<String> {
+    let widest_line = RESOLUTIONS.map(|resolution| shape_of(resolution).width).into_iter().max();
+    let constants = [
+        ("KIND_DEGAS", usize::from(KIND_DEGAS)),
+        ("KIND_NEO", usize::from(KIND_NEO)),
+        ("KIND_TINY", usize::from(KIND_TINY)),
+        ("FORM_PLAIN", usize::from(FORM_PLAIN)),
+        ("FORM_ELITE_RAW", usize::from(FORM_ELITE_RAW)),
+        ("FORM_ELITE_PACKED", usize::from(FORM_ELITE_PACKED)),
+        ("FORM_NEO", usize::from(FORM_NEO)),
+        ("SCREEN_BYTES", SCREEN_BYTES),
+        ("LONGEST_FILE", NEO_FILE_BYTES.max(ELITE_RAW_FILE_BYTES)),
+        ("LONGEST_TINY_FILE", LONGEST_TINY_FILE),
+        ("WRITE_AREA_BYTES", WRITE_AREA_BYTES),
+        ("WIDEST_LINE", widest_line.unwrap_or_default()),
+        ("WIDEST_ROW", WIDEST_ROW),
+        ("PACK_AREA_BYTES", PACK_AREA_BYTES),
+    ];
+    constants.map(|(name, value)| format!("{name} is {value}")).to_vec()
+}
+
+fn shape(resolution: u16) -> Option<String> {
+    let Shape { width, height, planes, row_bytes } = Shape::of(resolution)?;
+    Some(format!(
+        "resolution {resolution}: {width} x {height}, {planes} planes, {row_bytes} bytes a row"
+    ))
 }

@@ -4,10 +4,10 @@ pub mod cases;
 pub mod compare;
 pub mod examples;
 pub mod fast;
-#[cfg(not(no_library))]
-pub mod ffi;
 pub mod generate;
 pub mod layout;
+#[cfg(feature = "library")]
+pub mod library;
 pub mod operations;
 pub mod program;
 pub mod random;
@@ -16,7 +16,6 @@ pub mod report;
 pub mod rewriting;
 pub mod roundtrip;
 pub mod selfcheck;
-pub mod types;
 
 #[cfg(test)]
 mod tests;

@@ -1,14 +1,16 @@
 //! The public operations, so that one check can run on any implementation.
 
 use crate::reference;
-use crate::types::*;
+use kutimuq::ffi::*;
+use kutimuq::refusal::Refusal;
 
 pub trait Operations {
     fn name(&self) -> &'static str;
     fn unpack_row(&self, packed: &[u8], width: usize, out: &mut [u8]) -> RowAnswer;
     fn pack_row(&self, row: &[u8], out: &mut [u8]) -> RowAnswer;
-    fn line_out(&self, screen: &[u8], resolution: u16, line: usize, out: &mut [u8]) -> Answer;
-    fn line_in(&self, screen: &mut [u8], resolution: u16, line: usize, registers: &[u8]) -> Answer;
+    fn line_out(&self, screen: &[u8], resolution: u16, line: usize, out: &mut [u8]) -> Refusal;
+    fn line_in(&self, screen: &mut [u8], resolution: u16, line: usize, registers: &[u8])
+        -> Refusal;
     fn tally(&self, screen: &[u8], resolution: u16, area: Rectangle) -> TallyAnswer;
     fn colour(&self, resolution: u16, palette: Palette, register: u8) -> ColourAnswer;
     fn pond(
@@ -40,11 +42,17 @@ impl Operations for Reference {
         reference::pack_row(row, out)
     }
 
-    fn line_out(&self, screen: &[u8], resolution: u16, line: usize, out: &mut [u8]) -> Answer {
+    fn line_out(&self, screen: &[u8], resolution: u16, line: usize, out: &mut [u8]) -> Refusal {
         reference::line_out(screen, resolution, line, out)
     }
 
-    fn line_in(&self, screen: &mut [u8], resolution: u16, line: usize, registers: &[u8]) -> Answer {
+    fn line_in(
+        &self,
+        screen: &mut [u8],
+        resolution: u16,
+        line: usize,
+        registers: &[u8],
+    ) -> Refusal {
         reference::line_in(screen, resolution, line, registers)
     }
 

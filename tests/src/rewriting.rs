@@ -6,16 +6,13 @@ use crate::random::Random;
 use crate::reference::*;
 use crate::report::Report;
 
-/// The longest packed file that reading accepts.
-const LONGEST_FILE: usize = 32065;
-
 pub fn run(operations: &dyn Operations, report: &mut Report, seed: u64, rounds: usize) {
     report.section(&format!("packed files rewritten: {}", operations.name()));
     let mut random = Random::seeded(seed);
     for _ in 0..rounds {
         for resolution in RESOLUTIONS {
             let file = packed_file(&mut random, resolution, true).bytes;
-            if file.len() < LONGEST_FILE {
+            if file.len() < LONGEST_PACKED_FILE {
                 one_file(operations, report, &mut random, &file);
             }
         }
@@ -29,7 +26,7 @@ fn rewritten(operations: &dyn Operations, file: &[u8]) -> Option<Vec<u8>> {
     let mut out = vec![0; WRITE_AREA_BYTES];
     let written = operations.write(FORM_ELITE_PACKED, found.picture, &screen, &mut out);
     out.truncate(written.length);
-    (found.number == 0 && written.number == 0).then_some(out)
+    (found.refusal.number == 0 && written.refusal.number == 0).then_some(out)
 }
 
 fn one_file(operations: &dyn Operations, report: &mut Report, random: &mut Random, file: &[u8]) {

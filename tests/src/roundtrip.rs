@@ -5,7 +5,8 @@ use crate::operations::Operations;
 use crate::random::Random;
 use crate::reference::*;
 use crate::report::Report;
-use crate::types::*;
+use kutimuq::ffi::*;
+use kutimuq::refusal::{self, Refusal};
 
 pub fn run(operations: &dyn Operations, report: &mut Report, seed: u64, rounds: usize) {
     report.section(&format!("write then read: {}", operations.name()));
@@ -24,8 +25,8 @@ pub fn run(operations: &dyn Operations, report: &mut Report, seed: u64, rounds: 
 /// The picture that reading finds in the file of a form.
 fn picture_read_back(form: u8, picture: Picture) -> Picture {
     match form {
-        FORM_ELITE_RAW | FORM_ELITE_PACKED => Picture { tailed: true, ..picture },
-        _ => Picture { tailed: false, tail: Default::default(), ..picture },
+        FORM_ELITE_RAW | FORM_ELITE_PACKED => Picture { tail_present: true, ..picture },
+        _ => Picture { tail_present: false, tail: Default::default(), ..picture },
     }
 }
 
@@ -38,7 +39,7 @@ fn one_form(
 ) {
     let mut out = vec![0; WRITE_AREA_BYTES];
     let written = operations.write(form, picture, screen, &mut out);
-    if written.number == number::NO_PACKED_BODY && form == FORM_ELITE_PACKED {
+    if written.refusal.number == refusal::NO_PACKED_BODY && form == FORM_ELITE_PACKED {
         report.check(written.length == 0, || format!("{written:?}"));
         return;
     }
@@ -52,6 +53,7 @@ fn one_form(
         ..ReadAnswer::default()
     };
     let lengths_fit = form != FORM_ELITE_PACKED || written.length == 66 + written.body;
-    let holds = written.number == 0 && found == expected && area == screen && lengths_fit;
+    let holds =
+        written.refusal == Refusal::default() && found == expected && area == screen && lengths_fit;
     report.check(holds, || format!("form {form}: {written:?}, then {found:?}, not {expected:?}"));
 }

@@ -5,8 +5,9 @@ use crate::operations::Reference;
 use crate::random::Random;
 use crate::reference::*;
 use crate::report::Report;
-use crate::types::*;
 use crate::{cases, examples, fast, generate, layout, roundtrip, selfcheck};
+use kutimuq::ffi::*;
+use kutimuq::refusal::{self, Refusal};
 
 fn assert_all_pass(run: impl FnOnce(&mut Report)) {
     let mut report = Report::default();
@@ -91,9 +92,9 @@ fn line_in_then_line_out() {
             let mut screen = before.clone();
             let registers: Vec<u8> =
                 (0..shape.width).map(|_| random.below(shape.registers()) as u8).collect();
-            assert_eq!(line_in(&mut screen, resolution, line, &registers), Answer::default());
+            assert_eq!(line_in(&mut screen, resolution, line, &registers), Refusal::default());
             let mut out = vec![0; shape.width];
-            assert_eq!(line_out(&screen, resolution, line, &mut out), Answer::default());
+            assert_eq!(line_out(&screen, resolution, line, &mut out), Refusal::default());
             assert_eq!(out, registers);
             let start = line * shape.line_bytes();
             let end = start + shape.line_bytes();
@@ -119,7 +120,10 @@ fn bodies_have_the_length_asked_for() {
             let file = generate::padded_file(&mut random, resolution, body);
             assert_eq!(file.len(), 66 + body);
             let answer = read(KIND_DEGAS, &file, &mut vec![0; SCREEN_BYTES]);
-            assert_eq!(answer.number, if body < 32_000 { 0 } else { number::FILE_LENGTH });
+            assert_eq!(
+                answer.refusal.number,
+                if body < 32_000 { 0 } else { refusal::WRONG_LENGTH }
+            );
         }
     }
 }
@@ -129,15 +133,61 @@ fn even_files_read() {
     for resolution in generate::RESOLUTIONS {
         let mut area = vec![0; SCREEN_BYTES];
         let answer = read(KIND_DEGAS, &generate::even_file(resolution, 9), &mut area);
-        assert_eq!((answer.number, answer.picture.resolution), (0, resolution));
+        assert_eq!((answer.refusal.number, answer.picture.resolution), (0, resolution));
         assert!(area.iter().all(|byte| *byte == 9));
+    }
+}
+
+#[test]
+fn tiny_packers_read_back() {
+    let mut random = Random::seeded(9);
+    for resolution_byte in generate::RESOLUTION_BYTES {
+        let resolution = u16::from(resolution_byte % 3);
+        for longest in [1, 127, 128, 2_000, SCREEN_WORDS] {
+            let screen = generate::screen(&mut random, resolution);
+            let words = generate::column_words(&screen);
+            let mut greedy = generate::TinyFile::empty(&mut random, resolution_byte);
+            greedy.put_greedily(&words);
+            let mut mixed = generate::TinyFile::empty(&mut random, resolution_byte);
+            mixed.put_randomly(&mut random, &words, longest);
+            for file in [greedy, mixed] {
+                let mut area = vec![0; SCREEN_BYTES];
+                let answer = read(KIND_TINY, &file.bytes(), &mut area);
+                assert_eq!(answer.refusal, Refusal::default());
+                assert_eq!(answer.picture.resolution, resolution);
+                assert_eq!(answer.body, file.controls.len() + 2 * file.data.len());
+                assert_eq!(answer.records, file.starts.len());
+                assert!(area == screen);
+            }
+        }
+    }
+}
+
+/// The inputs have each kind of run: unique and repeated words, short and long.
+#[test]
+fn tiny_files_have_all_kinds_of_runs() {
+    let mut random = Random::seeded(10);
+    let kinds_of = |file: &generate::TinyFile| -> Vec<bool> {
+        let has = |range: std::ops::RangeInclusive<u8>| {
+            file.starts.iter().any(|start| range.contains(&file.controls[*start]))
+        };
+        vec![has(0..=0), has(1..=1), has(2..=127), has(129..=255)]
+    };
+    for resolution_byte in generate::RESOLUTION_BYTES {
+        let short = generate::short_tiny_file(&mut random, resolution_byte);
+        assert_eq!(kinds_of(&short), [true; 4]);
+        assert!(short.bytes().len() < 2_000);
+        let answer = read(KIND_TINY, &short.bytes(), &mut vec![0; SCREEN_BYTES]);
+        assert_eq!(answer.refusal, Refusal::default());
+        let any = (0..40).map(|_| generate::tiny_file(&mut random, resolution_byte, 300));
+        assert!(any.filter(|file| kinds_of(file) == [true; 4]).count() >= 10);
     }
 }
 
 #[test]
 fn judging_order_of_reading() {
     let mut area = vec![0; SCREEN_BYTES];
-    let number_of = |kind, file: &[u8], area: &mut [u8]| read(kind, file, area).number;
+    let number_of = |kind, file: &[u8], area: &mut [u8]| read(kind, file, area).refusal.number;
     assert_eq!(number_of(9, &[], &mut area[..31_999]), 1);
     assert_eq!(number_of(9, &[], &mut area), 2);
     assert_eq!(number_of(KIND_DEGAS, &[0xFF; 33], &mut area), 3);
@@ -150,6 +200,11 @@ fn judging_order_of_reading() {
     let mut neo = vec![0; 32_128];
     neo[3] = 3;
     assert_eq!(number_of(KIND_NEO, &neo, &mut area), 5);
+    assert_eq!(number_of(KIND_TINY, &[6; 36], &mut area[..31_999]), 1);
+    assert_eq!(number_of(4, &[6; 36], &mut area), 2);
+    assert_eq!(number_of(KIND_TINY, &[6; 36], &mut area), 3);
+    assert_eq!(number_of(KIND_TINY, &[6; 37], &mut area), 5);
+    assert_eq!(number_of(KIND_TINY, &[3; 37], &mut area), 3);
     assert!(area.iter().all(|byte| *byte == 0));
 }
 
@@ -158,7 +213,7 @@ fn rectangles_add_up_as_whole_numbers() {
     let screen = vec![0; SCREEN_BYTES];
     let number_of = |left, columns| {
         let area = Rectangle { left, top: 0, columns, lines: 1 };
-        tally(&screen, 0, area).number
+        tally(&screen, 0, area).refusal.number
     };
     assert_eq!(number_of(usize::MAX, 1), 10);
     assert_eq!(number_of(1, usize::MAX), 10);
@@ -183,7 +238,7 @@ fn neo_header_as_written() {
 #[test]
 fn layout_names_every_struct() {
     let table = layout::table();
-    assert_eq!(table.lines().filter(|line| line.contains(" size ")).count(), 12);
+    assert_eq!(table.iter().filter(|line| line.contains(" align ")).count(), 12);
 }
 
 /// The comparison itself, with the reference in the library's place.

@@ -1,17 +1,12 @@
 //! Inputs for taking a scan line from a screen and putting one into it.
 
 use crate::compare::Comparison;
-use crate::generate::{any_resolution, area_length, number_around, shape_of, RESOLUTIONS};
+use crate::generate::{any_resolution, area_length, number_around, shape_of, size_of, RESOLUTIONS};
 use crate::random::Random;
 use crate::reference::{Shape, SCREEN_BYTES};
 
 const SCREEN_LENGTHS: [usize; 5] = [0, 1, 31_999, 32_000, 32_001];
 const ODD_RESOLUTIONS: [u16; 6] = [3, 4, 255, 256, 32_768, 65_535];
-
-/// The width and height to lend for, also when the resolution is unknown.
-fn size_of(resolution: u16) -> (usize, usize) {
-    Shape::of(resolution).map_or((640, 400), |shape| (shape.width, shape.height))
-}
 
 /// Lines at and around the height, and at the type's end.
 fn lines_around(height: usize) -> [usize; 10] {

@@ -1,0 +1,156 @@
+//! The C interface: its structs and functions, as include/kutimuq.h declares them.
+//!
+//! No pointer may be null, not even one with length 0, and lent areas must not overlap.
+
+use crate::Refusal;
+
+#[repr(C)]
+#[derive(Clone, Copy, Debug, Default, PartialEq, Eq)]
+pub struct RowAnswer {
+    pub refusal: Refusal,
+    pub bytes: usize,
+    pub records: usize,
+}
+
+#[repr(C)]
+#[derive(Clone, Copy, Debug, Default, PartialEq, Eq)]
+pub struct Table {
+    pub words: [u16; 4],
+}
+
+#[repr(C)]
+#[derive(Clone, Copy, Debug, Default, PartialEq, Eq)]
+pub struct Picture {
+    pub resolution: u16,
+    pub palette: [u16; 16],
+    pub tail_present: bool,
+    pub tail: [Table; 4],
+}
+
+#[repr(C)]
+#[derive(Clone, Copy, Debug, Default, PartialEq, Eq)]
+pub struct ReadAnswer {
+    pub refusal: Refusal,
+    pub picture: Picture,
+    pub body: usize,
+    pub records: usize,
+}
+
+#[repr(C)]
+#[derive(Clone, Copy, Debug, Default, PartialEq, Eq)]
+pub struct WriteAnswer {
+    pub refusal: Refusal,
+    pub length: usize,
+    pub body: usize,
+    pub records: usize,
+}
+
+#[repr(C)]
+#[derive(Clone, Copy, Debug, Default, PartialEq, Eq)]
+pub struct Rectangle {
+    pub left: usize,
+    pub top: usize,
+    pub columns: usize,
+    pub lines: usize,
+}
+
+#[repr(C)]
+#[derive(Clone, Copy, Debug, Default, PartialEq, Eq)]
+pub struct TallyAnswer {
+    pub refusal: Refusal,
+    pub counts: [u32; 16],
+}
+
+#[repr(C)]
+#[derive(Clone, Copy, Debug, Default, PartialEq, Eq)]
+pub struct ColourAnswer {
+    pub refusal: Refusal,
+    pub red: u8,
+    pub green: u8,
+    pub blue: u8,
+}
+
+#[repr(C)]
+#[derive(Clone, Copy, Debug, Default, PartialEq, Eq)]
+pub struct Legend {
+    pub classes: [u8; 16],
+    pub confidences: [u8; 16],
+}
+
+#[repr(C)]
+#[derive(Clone, Copy, Debug, Default, PartialEq, Eq)]
+pub struct PondAnswer {
+    pub refusal: Refusal,
+    pub sure: u32,
+    pub unsure: u32,
+    pub other: u32,
+}
+
+#[repr(C)]
+#[derive(Clone, Copy, Debug, Default, PartialEq, Eq)]
+pub struct Palette {
+    pub words: [u16; 16],
+}
+
+extern "C" {
+    pub fn kutimuq_unpack_row(
+        packed: *const u8,
+        packed_len: usize,
+        width: usize,
+        out: *mut u8,
+        out_len: usize,
+    ) -> RowAnswer;
+    pub fn kutimuq_pack_row(
+        row: *const u8,
+        row_len: usize,
+        out: *mut u8,
+        out_len: usize,
+    ) -> RowAnswer;
+    pub fn kutimuq_line_out(
+        screen: *const u8,
+        screen_len: usize,
+        resolution: u16,
+        line: usize,
+        out: *mut u8,
+        out_len: usize,
+    ) -> Refusal;
+    pub fn kutimuq_line_in(
+        screen: *mut u8,
+        screen_len: usize,
+        resolution: u16,
+        line: usize,
+        registers: *const u8,
+        registers_len: usize,
+    ) -> Refusal;
+    pub fn kutimuq_tally(
+        screen: *const u8,
+        screen_len: usize,
+        resolution: u16,
+        rectangle: Rectangle,
+    ) -> TallyAnswer;
+    pub fn kutimuq_colour(resolution: u16, palette: Palette, register: u8) -> ColourAnswer;
+    pub fn kutimuq_pond(
+        screen: *const u8,
+        screen_len: usize,
+        resolution: u16,
+        rectangle: Rectangle,
+        class: u8,
+        floor: u8,
+        legend: Legend,
+    ) -> PondAnswer;
+    pub fn kutimuq_read(
+        kind: u8,
+        file: *const u8,
+        file_len: usize,
+        area: *mut u8,
+        area_len: usize,
+    ) -> ReadAnswer;
+    pub fn kutimuq_write(
+        form: u8,
+        picture: Picture,
+        screen: *const u8,
+        screen_len: usize,
+        out: *mut u8,
+        out_len: usize,
+    ) -> WriteAnswer;
+}

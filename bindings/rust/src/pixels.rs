@@ -1,0 +1,86 @@
+//! Registers of a screen, their colours and their counts.
+
+use crate::ffi::{self, Palette};
+use crate::{Legend, Rectangle, Refusal, Resolution};
+
+/// Each part from 0 to 255.
+#[derive(Clone, Copy, Debug, PartialEq, Eq)]
+pub struct Colour {
+    pub red: u8,
+    pub green: u8,
+    pub blue: u8,
+}
+
+/// Pixels of the class at or above the floor, of the class below it, and of any other class.
+#[derive(Clone, Copy, Debug, PartialEq, Eq)]
+pub struct PondReading {
+    pub sure: u32,
+    pub unsure: u32,
+    pub other: u32,
+}
+
+/// Takes the registers of a scan line, one byte a pixel, to the front of `out`.
+pub fn line_out(
+    screen: &[u8],
+    resolution: Resolution,
+    line: usize,
+    out: &mut [u8],
+) -> Result<(), Refusal> {
+    let (from, from_len) = (screen.as_ptr(), screen.len());
+    let (to, to_len) = (out.as_mut_ptr(), out.len());
+    // SAFETY: pointers and lengths are those of slices.
+    unsafe { ffi::kutimuq_line_out(from, from_len, resolution as u16, line, to, to_len) }.judged()
+}
+
+/// Puts the registers of a scan line, one byte a pixel, into a screen.
+pub fn line_in(
+    screen: &mut [u8],
+    resolution: Resolution,
+    line: usize,
+    registers: &[u8],
+) -> Result<(), Refusal> {
+    let (to, to_len) = (screen.as_mut_ptr(), screen.len());
+    let (from, from_len) = (registers.as_ptr(), registers.len());
+    // SAFETY: pointers and lengths are those of slices.
+    unsafe { ffi::kutimuq_line_in(to, to_len, resolution as u16, line, from, from_len) }.judged()
+}
+
+/// Counts the pixels of each register in a rectangle.
+pub fn tally(screen: &[u8], resolution: Resolution, area: Rectangle) -> Result<[u32; 16], Refusal> {
+    let (from, from_len) = (screen.as_ptr(), screen.len());
+    // SAFETY: pointer and length are those of a slice.
+    let answer = unsafe { ffi::kutimuq_tally(from, from_len, resolution as u16, area) };
+    answer.refusal.judged()?;
+    Ok(answer.counts)
+}
+
+/// The colour of a register; at high resolution 0 is white and 1 black, whatever the palette.
+pub fn colour(
+    resolution: Resolution,
+    palette: &[u16; 16],
+    register: u8,
+) -> Result<Colour, Refusal> {
+    let palette = Palette { words: *palette };
+    // SAFETY: nothing is lent.
+    let answer = unsafe { ffi::kutimuq_colour(resolution as u16, palette, register) };
+    answer.refusal.judged()?;
+    Ok(Colour { red: answer.red, green: answer.green, blue: answer.blue })
+}
+
+/// Counts the pixels of a class in a rectangle, sure and unsure ones apart.
+pub fn pond(
+    screen: &[u8],
+    resolution: Resolution,
+    area: Rectangle,
+    class: u8,
+    floor: u8,
+    legend: &Legend,
+) -> Result<PondReading, Refusal> {
+    let (from, from_len) = (screen.as_ptr(), screen.len());
+    // SAFETY: pointer and length are those of a slice.
+    let answer = unsafe {
+        ffi::kutimuq_pond(from, from_len, resolution as u16, area, class, floor, *legend)
+    };
+    answer.refusal.judged()?;
+    Ok(PondReading { sure: answer.sure, unsure: answer.unsure, other: answer.other })
+}

@@ -1,0 +1,65 @@
+//! Refusals: the number, the place, and what each number means.
+
+use std::error::Error;
+use std::fmt;
+
+/// Why an operation refused its input; all zero in the answer of one that accepted it.
+///
+/// The place is an offset for 6, 7, 8, 11 and 12, and else 0.
+#[repr(C)]
+#[derive(Clone, Copy, Debug, Default, PartialEq, Eq)]
+pub struct Refusal {
+    pub number: u8,
+    pub place: usize,
+}
+
+/// Declares each number as a constant, and all of them as `NUMBERS`.
+macro_rules! numbers {
+    ($($name:ident = $number:literal, $meaning:literal;)*) => {
+        $(#[doc = $meaning] pub const $name: u8 = $number;)*
+
+        /// Each number's name, the number, and its meaning.
+        pub const NUMBERS: &[(&str, u8, &str)] = &[$((stringify!($name), $name, $meaning)),*];
+    };
+}
+
+numbers! {
+    ACCEPTED = 0, "accepted";
+    AREA_TOO_SHORT = 1, "a lent area too short";
+    UNKNOWN_KIND = 2, "unknown kind or form";
+    WRONG_LENGTH = 3, "file length not allowed";
+    WRONG_FLAG = 4, "NEOchrome flag not 0";
+    UNKNOWN_RESOLUTION = 5, "resolution above 2";
+    INPUT_ENDS = 6, "input ends before the screen or row is full";
+    RECORD_CROSSES = 7, "a record crosses its row's end";
+    WRONG_TAIL = 8, "after the body not exactly 32 bytes";
+    NO_PACKED_BODY = 9, "no packed body below 32,000 exists";
+    OUT_OF_RANGE = 10, "a number out of range";
+    UNDEFINED_CONTROL = 11, "a control byte or a count that is not defined";
+    RUN_TOO_LONG = 12, "a count cut short, or a run past the words to make or the data";
+    SIZE_MISMATCH = 13, "data left or words missing after the last run";
+}
+
+impl Refusal {
+    /// What the number means, in words.
+    pub fn meaning(&self) -> &'static str {
+        let named = NUMBERS.iter().find(|(_, number, _)| *number == self.number);
+        named.map_or("unknown refusal", |(_, _, meaning)| meaning)
+    }
+
+    /// The refusal of an answer, as an error unless it was accepted.
+    pub(crate) fn judged(self) -> Result<(), Refusal> {
+        match self.number {
+            ACCEPTED => Ok(()),
+            _ => Err(self),
+        }
+    }
+}
+
+impl fmt::Display for Refusal {
+    fn fmt(&self, out: &mut fmt::Formatter) -> fmt::Result {
+        write!(out, "refused {} at {}: {}", self.number, self.place, self.meaning())
+    }
+}
+
+impl Error for Refusal {}

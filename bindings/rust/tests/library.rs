@@ -1,0 +1,199 @@
+//! The safe functions over the linked library.
+
+use kutimuq::*;
+
+const PONDS: &[u8] = include_bytes!("../../../samples/ponds.pc1");
+const UNTOUCHED: u8 = 0xEE;
+
+/// The registers of a test pattern, line by line.
+fn pattern(resolution: Resolution) -> Vec<Vec<u8>> {
+    let shape = resolution.shape();
+    let register = |x: usize, y: usize| ((x / 40 + y / 5) % (1 << shape.planes)) as u8;
+    (0..shape.height).map(|y| (0..shape.width).map(|x| register(x, y)).collect()).collect()
+}
+
+/// A screen filled line by line.
+fn screen_of(resolution: Resolution, lines: &[Vec<u8>]) -> Vec<u8> {
+    let mut screen = vec![UNTOUCHED; SCREEN_BYTES];
+    for (number, registers) in lines.iter().enumerate() {
+        line_in(&mut screen, resolution, number, registers).expect("a line of the pattern");
+    }
+    screen
+}
+
+fn refused<T: std::fmt::Debug>(result: Result<T, Refusal>) -> (u8, usize) {
+    let refusal = result.expect_err("a refusal");
+    (refusal.number, refusal.place)
+}
+
+#[test]
+fn shapes_fill_a_screen() {
+    for (number, resolution) in (0..).zip(Resolution::ALL) {
+        let Shape { width, height, planes, row_bytes } = resolution.shape();
+        assert_eq!(row_bytes * planes * height, SCREEN_BYTES);
+        assert_eq!(row_bytes * 8, width);
+        assert!(width <= WIDEST_LINE);
+        assert_eq!(Resolution::try_from(number), Ok(resolution));
+    }
+    assert_eq!(refused(Resolution::try_from(3)), (refusal::UNKNOWN_RESOLUTION, 0));
+}
+
+#[test]
+fn lines_out_are_the_lines_put_in() {
+    for resolution in Resolution::ALL {
+        let lines = pattern(resolution);
+        let screen = screen_of(resolution, &lines);
+        let mut out = [UNTOUCHED; WIDEST_LINE + 1];
+        for (number, registers) in lines.iter().enumerate() {
+            line_out(&screen, resolution, number, &mut out).expect("a line");
+            assert_eq!(out[..registers.len()], registers[..]);
+            assert_eq!(out[WIDEST_LINE], UNTOUCHED);
+        }
+        let height = lines.len();
+        assert_eq!(refused(line_out(&screen, resolution, height, &mut out)), (10, 0));
+        assert_eq!(refused(line_out(&screen, resolution, 0, &mut [])), (1, 0));
+    }
+}
+
+#[test]
+fn tally_counts_the_registers() {
+    for resolution in Resolution::ALL {
+        let lines = pattern(resolution);
+        let screen = screen_of(resolution, &lines);
+        let mut expected = [0; 16];
+        for register in lines.concat() {
+            expected[usize::from(register)] += 1;
+        }
+        let whole = resolution.whole_screen();
+        assert_eq!(tally(&screen, resolution, whole), Ok(expected));
+        let outside = Rectangle { left: 1, ..whole };
+        assert_eq!(refused(tally(&screen, resolution, outside)), (refusal::OUT_OF_RANGE, 0));
+        assert_eq!(refused(tally(&[], resolution, whole)), (refusal::AREA_TOO_SHORT, 0));
+    }
+}
+
+#[test]
+fn pond_splits_the_tally() {
+    let screen = screen_of(Resolution::Low, &pattern(Resolution::Low));
+    let whole = Resolution::Low.whole_screen();
+    let counts = tally(&screen, Resolution::Low, whole).expect("a tally");
+    let mut legend = Legend { classes: [1; 16], confidences: [100; 16] };
+    legend.classes[3] = 2;
+    legend.confidences[5] = 49;
+    let found = pond(&screen, Resolution::Low, whole, 1, 50, &legend).expect("a pond reading");
+    let sure = 64_000 - counts[3] - counts[5];
+    assert_eq!(found, PondReading { sure, unsure: counts[5], other: counts[3] });
+    legend.confidences[15] = 101;
+    assert_eq!(refused(pond(&screen, Resolution::Low, whole, 1, 50, &legend)), (10, 0));
+}
+
+#[test]
+fn colours_of_registers() {
+    let mut palette = [0; 16];
+    palette[3] = 0x0735;
+    let shown = Colour { red: 255, green: 109, blue: 182 };
+    assert_eq!(colour(Resolution::Low, &palette, 3), Ok(shown));
+    let white = Colour { red: 255, green: 255, blue: 255 };
+    assert_eq!(colour(Resolution::High, &palette, 0), Ok(white));
+    assert_eq!(refused(colour(Resolution::High, &palette, 2)), (refusal::OUT_OF_RANGE, 0));
+}
+
+#[test]
+fn rows_pack_to_the_shortest_body() {
+    let mut out = [UNTOUCHED; PACK_AREA_BYTES];
+    let packed = pack_row(&[1, 7, 7, 7, 2], &mut out).expect("a packed row");
+    assert_eq!(packed, PackedRow { bytes: 6, records: 3 });
+    assert_eq!(out[..7], [0x00, 1, 0xFE, 7, 0x00, 2, UNTOUCHED]);
+    let mut row = [0; 5];
+    assert_eq!(unpack_row(&out, 5, &mut row), Ok(packed));
+    assert_eq!(row, [1, 7, 7, 7, 2]);
+    assert_eq!(refused(unpack_row(&[0x01, 7], 2, &mut row)), (refusal::INPUT_ENDS, 0));
+    assert_eq!(refused(unpack_row(&[], 2, &mut row)), (refusal::INPUT_ENDS, 0));
+    assert_eq!(row, [1, 7, 7, 7, 2]);
+    assert_eq!(refused(pack_row(&[], &mut out)), (refusal::OUT_OF_RANGE, 0));
+}
+
+#[test]
+fn every_form_reads_back() {
+    for resolution in Resolution::ALL {
+        let screen = screen_of(resolution, &pattern(resolution));
+        let tail = Tail { left_limits: [1; 4], right_limits: [2; 4], ..Tail::default() };
+        let tail = Tail { directions: [3, 4, 5, 6], delays: [7; 4], ..tail };
+        let palette = std::array::from_fn(|register| 0x111 * register as u16);
+        let picture = Picture { resolution, palette, tail: Some(tail) };
+        for form in [Form::Plain, Form::EliteRaw, Form::ElitePacked, Form::Neochrome] {
+            let with_tail = matches!(form, Form::EliteRaw | Form::ElitePacked);
+            let kind = if form == Form::Neochrome { Kind::Neochrome } else { Kind::Degas };
+            let mut out = vec![UNTOUCHED; WRITE_AREA_BYTES];
+            let written = write(form, &picture, &screen, &mut out).expect("a file");
+            assert!(out[written.length..].iter().all(|byte| *byte == UNTOUCHED));
+            let mut area = vec![0; SCREEN_BYTES];
+            let found = read(kind, &out[..written.length], &mut area).expect("a picture");
+            let expected = Picture { tail: picture.tail.filter(|_| with_tail), ..picture };
+            assert_eq!(found.picture, expected);
+            assert_eq!((found.body, found.records), (written.body, written.records));
+            assert_eq!(area, screen);
+        }
+    }
+}
+
+#[test]
+fn the_sample_and_its_damage() {
+    let mut screen = vec![UNTOUCHED; SCREEN_BYTES];
+    let found = read(Kind::Degas, PONDS, &mut screen).expect("the sample");
+    let mut out = vec![0; WRITE_AREA_BYTES];
+    let written = write(Form::ElitePacked, &found.picture, &screen, &mut out).expect("a file");
+    assert!(written.length <= PONDS.len());
+    assert_eq!(written.length, written.body + 66);
+
+    let mut area = vec![UNTOUCHED; SCREEN_BYTES];
+    let cut = read(Kind::Degas, &PONDS[..PONDS.len() - 1], &mut area).expect_err("a refusal");
+    assert_eq!(cut, Refusal { number: refusal::WRONG_TAIL, place: PONDS.len() - 32 });
+    assert!(cut.to_string().starts_with("refused 8 at "));
+    assert!(cut.to_string().ends_with(cut.meaning()));
+    assert_eq!(refused(read(Kind::Neochrome, PONDS, &mut area)), (refusal::WRONG_LENGTH, 0));
+    assert_eq!(refused(read(Kind::Degas, &[], &mut area)), (refusal::WRONG_LENGTH, 0));
+    assert!(area.iter().all(|byte| *byte == UNTOUCHED));
+}
+
+#[test]
+fn a_tiny_file_and_its_damage() {
+    // Resolution byte 4: medium, with four rotation bytes. One run, 16,000 times the word 0x00FF.
+    let mut file = vec![4, 0x1F, 0x82, 0x00, 0x64];
+    (0..16).for_each(|register| file.extend([1, register]));
+    file.extend([0, 3, 0, 1, 0x00, 0x3E, 0x80, 0x00, 0xFF]);
+    let mut area = vec![UNTOUCHED; SCREEN_BYTES + 1];
+    let found = read(Kind::Tiny, &file, &mut area).expect("a picture");
+    let palette = std::array::from_fn(|register| 0x100 + register as u16);
+    let picture = Picture { resolution: Resolution::Medium, palette, tail: None };
+    assert_eq!(found, Reading { picture, body: 5, records: 1 });
+    assert!(area[..SCREEN_BYTES].chunks(2).all(|word| word == [0x00, 0xFF]));
+    assert_eq!(area[SCREEN_BYTES], UNTOUCHED);
+
+    area.fill(UNTOUCHED);
+    let mut refused_with = |control: u8, count: [u8; 2]| {
+        file[41..44].copy_from_slice(&[control, count[0], count[1]]);
+        refused(read(Kind::Tiny, &file, &mut area))
+    };
+    assert_eq!(refused_with(0x80, [0x3E, 0x80]), (refusal::UNDEFINED_CONTROL, 41));
+    assert_eq!(refused_with(0x00, [0x00, 0x7F]), (refusal::UNDEFINED_CONTROL, 41));
+    assert_eq!(refused_with(0x00, [0x3E, 0x81]), (refusal::RUN_TOO_LONG, 41));
+    assert_eq!(refused_with(0x00, [0x3E, 0x7F]), (refusal::SIZE_MISMATCH, 0));
+    assert_eq!(refused(read(Kind::Tiny, &[0; 36], &mut area)), (refusal::WRONG_LENGTH, 0));
+    assert!(area.iter().all(|byte| *byte == UNTOUCHED));
+}
+
+#[test]
+fn noise_has_no_packed_body() {
+    let mut state = 1_u32;
+    let mut noise = || {
+        state = state.wrapping_mul(1_664_525).wrapping_add(1_013_904_223);
+        (state >> 24) as u8
+    };
+    let screen: Vec<u8> = (0..SCREEN_BYTES).map(|_| noise()).collect();
+    let picture = Picture { resolution: Resolution::Low, palette: [0; 16], tail: None };
+    let mut out = vec![UNTOUCHED; WRITE_AREA_BYTES];
+    let answer = write(Form::ElitePacked, &picture, &screen, &mut out);
+    assert_eq!(refused(answer), (refusal::NO_PACKED_BODY, 0));
+    assert!(out.iter().all(|byte| *byte == UNTOUCHED));
+}

@@ -1,0 +1,103 @@
+/*
+ * Shows a picture file: what reading found, the registers it uses with their
+ * colours, and the length of its shortest packed file.
+ *
+ *     cc use.c $(pkg-config --cflags --libs kutimuq) -o use
+ *     ./use ponds.pc1
+ *
+ * Exit status 0: accepted, 1: refused, 2: wrong use, or the file cannot be read.
+ */
+
+#include <inttypes.h>
+#include <stdio.h>
+#include <string.h>
+
+#include <kutimuq.h>
+
+static uint8_t file[KUTIMUQ_LONGEST_FILE + 1]; /* one more, to see a file that is too long */
+static uint8_t screen[KUTIMUQ_SCREEN_BYTES];
+static uint8_t packed[KUTIMUQ_WRITE_AREA_BYTES];
+
+static int refused(const char *what, KutimuqRefusal refusal)
+{
+    fprintf(stderr, "%s: refused %u at %zu: %s\n", what, refusal.number, refusal.place,
+            kutimuq_meaning(refusal.number));
+    return 1;
+}
+
+static void show_reading(const KutimuqReadAnswer *found)
+{
+    printf("resolution %u\n", found->picture.resolution);
+    printf("records %zu\n", found->records);
+    printf("body %zu\n", found->body);
+    printf("tail %d\n", found->picture.tail_present);
+}
+
+/* A line for each register that the picture uses: its colour and its pixels. */
+static int show_registers(const KutimuqPicture *picture)
+{
+    KutimuqShape shape = kutimuq_shape(picture->resolution);
+    KutimuqRectangle whole = {0, 0, shape.width, shape.height};
+    KutimuqTallyAnswer tally = kutimuq_tally(screen, sizeof screen, picture->resolution, whole);
+    if (tally.refusal.number != KUTIMUQ_ACCEPTED) {
+        return refused("tally", tally.refusal);
+    }
+    KutimuqPalette palette;
+    memcpy(palette.words, picture->palette, sizeof palette.words);
+    for (unsigned number = 0; number < 1U << shape.planes; number++) {
+        KutimuqColourAnswer colour =
+            kutimuq_colour(picture->resolution, palette, (uint8_t)number);
+        if (tally.counts[number] != 0) {
+            printf("register %u #%02x%02x%02x %" PRIu32 "\n", number, colour.red, colour.green,
+                   colour.blue, tally.counts[number]);
+        }
+    }
+    return 0;
+}
+
+/* The picture as form 3; a picture that has none is none the worse. */
+static void show_packed(const KutimuqPicture *picture)
+{
+    KutimuqWriteAnswer written = kutimuq_write(KUTIMUQ_FORM_ELITE_PACKED, *picture, screen,
+                                               sizeof screen, packed, sizeof packed);
+    if (written.refusal.number == KUTIMUQ_ACCEPTED) {
+        printf("packed %zu\n", written.length);
+    } else {
+        printf("packed: %s\n", kutimuq_meaning(written.refusal.number));
+    }
+}
+
+/* Fills `file`; false where that failed. */
+static bool load(const char *path, size_t *length)
+{
+    FILE *input = fopen(path, "rb");
+    if (input == NULL) {
+        return false;
+    }
+    *length = fread(file, 1, sizeof file, input);
+    bool failed = ferror(input) != 0;
+    return fclose(input) == 0 && !failed;
+}
+
+int main(int count, char **words)
+{
+    if (count != 2) {
+        fprintf(stderr, "usage: use FILE\n");
+        return 2;
+    }
+    size_t length;
+    if (!load(words[1], &length)) {
+        perror(words[1]);
+        return 2;
+    }
+
+    /* No DEGAS file is as long as every NEOchrome file. */
+    uint8_t kind = length == KUTIMUQ_LONGEST_FILE ? KUTIMUQ_KIND_NEO : KUTIMUQ_KIND_DEGAS;
+    KutimuqReadAnswer found = kutimuq_read(kind, file, length, screen, sizeof screen);
+    if (found.refusal.number != KUTIMUQ_ACCEPTED) {
+        return refused(words[1], found.refusal);
+    }
+    show_reading(&found);
+    show_packed(&found.picture);
+    return show_registers(&found.picture);
+}

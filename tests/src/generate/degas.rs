@@ -1,0 +1,76 @@
+//! DEGAS files.
+
+use super::rows::put_row_body;
+use super::shape_of;
+use crate::random::Random;
+use crate::reference::{DEGAS_HEADER_BYTES, PACKED_BIT, SCREEN_BYTES, TAIL_BYTES};
+
+/// A first word and a random palette.
+pub fn degas_header(random: &mut Random, first_word: u16) -> Vec<u8> {
+    let mut bytes = first_word.to_be_bytes().to_vec();
+    bytes.extend(random.bytes(DEGAS_HEADER_BYTES - 2));
+    bytes
+}
+
+/// A well-formed raw DEGAS file, with or without a tail.
+pub fn raw_file(random: &mut Random, first_word: u16, with_tail: bool) -> Vec<u8> {
+    let mut bytes = degas_header(random, first_word);
+    bytes.extend(random.bytes(SCREEN_BYTES));
+    if with_tail {
+        bytes.extend(random.bytes(TAIL_BYTES));
+    }
+    bytes
+}
+
+/// A file with the offsets of its records.
+pub struct PackedFile {
+    pub bytes: Vec<u8>,
+    pub starts: Vec<usize>,
+}
+
+/// A well-formed packed DEGAS file; few are above the allowed length.
+pub fn packed_file(random: &mut Random, resolution: u16, with_nothing: bool) -> PackedFile {
+    let shape = shape_of(resolution);
+    let mut bytes = degas_header(random, PACKED_BIT | resolution);
+    let mut starts = Vec::new();
+    for _ in 0..shape.plane_rows() {
+        put_row_body(random, shape.row_bytes, with_nothing, &mut bytes, &mut starts);
+    }
+    bytes.extend(random.bytes(TAIL_BYTES));
+    PackedFile { bytes, starts }
+}
+
+/// A packed file of one repeat per plane row; the blank file if `byte` is 0.
+pub fn even_file(resolution: u16, byte: u8) -> Vec<u8> {
+    let shape = shape_of(resolution);
+    let mut bytes = (PACKED_BIT | resolution).to_be_bytes().to_vec();
+    bytes.resize(DEGAS_HEADER_BYTES, 0);
+    for _ in 0..shape.plane_rows() {
+        bytes.push((257 - shape.row_bytes) as u8);
+        bytes.push(byte);
+    }
+    bytes.resize(bytes.len() + TAIL_BYTES, 0);
+    bytes
+}
+
+/// The blank file of document 01.
+pub fn blank_file() -> Vec<u8> {
+    even_file(0, 0)
+}
+
+/// A packed file filled up by do-nothing records to a body of `body` bytes.
+pub fn padded_file(random: &mut Random, resolution: u16, body: usize) -> Vec<u8> {
+    let even = even_file(resolution, random.byte());
+    let records = (even.len() - DEGAS_HEADER_BYTES - TAIL_BYTES) / 2;
+    let mut pads = vec![0; records];
+    for _ in 0..body - 2 * records {
+        pads[random.below(records)] += 1;
+    }
+    let mut bytes = even[..DEGAS_HEADER_BYTES].to_vec();
+    for (record, pad) in even[DEGAS_HEADER_BYTES..].chunks(2).zip(pads) {
+        bytes.resize(bytes.len() + pad, 0x80);
+        bytes.extend_from_slice(record);
+    }
+    bytes.extend(random.bytes(TAIL_BYTES));
+    bytes
+}

@@ -1,0 +1,101 @@
+//! Screens, among them those whose least body has a chosen length.
+
+use super::rows::{row, row_of_runs, row_with_cost};
+use super::shape_of;
+use crate::random::Random;
+use crate::reference::{Shape, SCREEN_BYTES};
+
+/// A screen made of the plane rows that `make_row` gives, in the body's order.
+pub fn screen_of_rows(shape: &Shape, mut make_row: impl FnMut(usize) -> Vec<u8>) -> Vec<u8> {
+    let mut screen = vec![0; SCREEN_BYTES];
+    for number in 0..shape.plane_rows() {
+        let (line, plane) = (number / shape.planes, number % shape.planes);
+        for (index, byte) in make_row(number).into_iter().enumerate() {
+            screen[shape.row_byte_offset(line, plane, index)] = byte;
+        }
+    }
+    screen
+}
+
+/// A screen in one of several styles.
+pub fn screen(random: &mut Random, resolution: u16) -> Vec<u8> {
+    let shape = shape_of(resolution);
+    match random.below(8) {
+        0 => vec![random.byte(); SCREEN_BYTES],
+        1 => random.bytes(SCREEN_BYTES),
+        2 => screen_of_rows(&shape, |_| row_of_runs(random, shape.row_bytes, 5)),
+        3 => {
+            let above = random.below(40);
+            screen_with_body(random, resolution, 31_980 + above)
+        }
+        _ => screen_of_rows(&shape, |_| row(random, shape.row_bytes)),
+    }
+}
+
+/// A screen whose least body has `body` bytes: the greatest there is, or less
+/// by up to three bytes per plane row, spread evenly.
+pub fn screen_with_body(random: &mut Random, resolution: u16, body: usize) -> Vec<u8> {
+    let shape = shape_of(resolution);
+    let worst = shape.row_bytes + 1;
+    let mut costs = vec![worst; shape.plane_rows()];
+    for _ in body..worst * shape.plane_rows() {
+        let number = row_above(random, &costs, worst - 3);
+        costs[number] -= 1;
+    }
+    screen_with_costs(random, &shape, &costs)
+}
+
+/// The number of a row that costs more than `least`, at random.
+fn row_above(random: &mut Random, costs: &[usize], least: usize) -> usize {
+    loop {
+        let number = random.below(costs.len());
+        if costs[number] > least {
+            return number;
+        }
+    }
+}
+
+/// Where the costly rows of a screen stand.
+#[derive(Clone, Copy, PartialEq, Eq)]
+pub enum CostlyRows {
+    First,
+    Last,
+    Mixed,
+}
+
+/// A screen whose least body has `body` bytes, of rows that cost as much as
+/// they can and rows that cost 2 bytes, with at most two rows between.
+pub fn screen_of_costly_rows(
+    random: &mut Random,
+    resolution: u16,
+    body: usize,
+    order: CostlyRows,
+) -> Vec<u8> {
+    let shape = shape_of(resolution);
+    let mut costs = vec![2; shape.plane_rows()];
+    let mut left = body - 2 * shape.plane_rows();
+    for cost in &mut costs {
+        let mut more = left.min(shape.row_bytes - 1);
+        if left - more == 1 {
+            more -= 1; // No row costs 3 bytes, so leave 2 for the next one.
+        }
+        *cost += more;
+        left -= more;
+    }
+    match order {
+        CostlyRows::First => {}
+        CostlyRows::Last => costs.reverse(),
+        CostlyRows::Mixed => shuffle(random, &mut costs),
+    }
+    screen_with_costs(random, &shape, &costs)
+}
+
+fn shuffle(random: &mut Random, costs: &mut [usize]) {
+    for index in (1..costs.len()).rev() {
+        costs.swap(index, random.between(0, index));
+    }
+}
+
+fn screen_with_costs(random: &mut Random, shape: &Shape, costs: &[usize]) -> Vec<u8> {
+    screen_of_rows(shape, |number| row_with_cost(random, shape.row_bytes, costs[number]))
+}

@@ -1,0 +1,93 @@
+//! The C library over slices.
+//!
+//! An empty slice passes Rust's dangling pointer, never null, and length 0.
+
+use crate::operations::Operations;
+use kutimuq::ffi::*;
+use kutimuq::refusal::Refusal;
+
+/// The linked C library.
+///
+/// Each call is sound as far as the library keeps its contract: it reads and
+/// writes only within the slices lent to it.
+pub struct Library;
+
+impl Operations for Library {
+    fn name(&self) -> &'static str {
+        "library"
+    }
+
+    fn unpack_row(&self, packed: &[u8], width: usize, out: &mut [u8]) -> RowAnswer {
+        unsafe {
+            kutimuq_unpack_row(packed.as_ptr(), packed.len(), width, out.as_mut_ptr(), out.len())
+        }
+    }
+
+    fn pack_row(&self, row: &[u8], out: &mut [u8]) -> RowAnswer {
+        unsafe { kutimuq_pack_row(row.as_ptr(), row.len(), out.as_mut_ptr(), out.len()) }
+    }
+
+    fn line_out(&self, screen: &[u8], resolution: u16, line: usize, out: &mut [u8]) -> Refusal {
+        unsafe {
+            kutimuq_line_out(
+                screen.as_ptr(),
+                screen.len(),
+                resolution,
+                line,
+                out.as_mut_ptr(),
+                out.len(),
+            )
+        }
+    }
+
+    fn line_in(
+        &self,
+        screen: &mut [u8],
+        resolution: u16,
+        line: usize,
+        registers: &[u8],
+    ) -> Refusal {
+        unsafe {
+            kutimuq_line_in(
+                screen.as_mut_ptr(),
+                screen.len(),
+                resolution,
+                line,
+                registers.as_ptr(),
+                registers.len(),
+            )
+        }
+    }
+
+    fn tally(&self, screen: &[u8], resolution: u16, area: Rectangle) -> TallyAnswer {
+        unsafe { kutimuq_tally(screen.as_ptr(), screen.len(), resolution, area) }
+    }
+
+    fn colour(&self, resolution: u16, palette: Palette, register: u8) -> ColourAnswer {
+        unsafe { kutimuq_colour(resolution, palette, register) }
+    }
+
+    fn pond(
+        &self,
+        screen: &[u8],
+        resolution: u16,
+        area: Rectangle,
+        class: u8,
+        floor: u8,
+        legend: Legend,
+    ) -> PondAnswer {
+        unsafe {
+            kutimuq_pond(screen.as_ptr(), screen.len(), resolution, area, class, floor, legend)
+        }
+    }
+
+    fn read(&self, kind: u8, file: &[u8], area: &mut [u8]) -> ReadAnswer {
+        unsafe { kutimuq_read(kind, file.as_ptr(), file.len(), area.as_mut_ptr(), area.len()) }
+    }
+
+    fn write(&self, form: u8, picture: Picture, screen: &[u8], out: &mut [u8]) -> WriteAnswer {
+        unsafe {
+            kutimuq_write(form, picture, screen.as_ptr(), screen.len(), out.as_mut_ptr(), out.len())
+        }
+    }
+}

@@ -1,0 +1,20 @@
+//! A judgement: what was asked for, or a refusal.
+
+use kutimuq::refusal::{self, Refusal};
+
+pub type Judged<T> = Result<T, Refusal>;
+
+pub fn refuse<T>(number: u8) -> Judged<T> {
+    refuse_at(number, 0)
+}
+
+pub fn refuse_at<T>(number: u8, place: usize) -> Judged<T> {
+    Err(Refusal { number, place })
+}
+
+pub fn judge_area(area: &[u8], least: usize) -> Judged<()> {
+    if area.len() < least {
+        return refuse(refusal::AREA_TOO_SHORT);
+    }
+    Ok(())
+}

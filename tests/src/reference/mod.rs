@@ -1,0 +1,43 @@
+//! Document 01, and what has landed of document 02, written out plainly, slow where that keeps it
+//! obvious.
+//!
+//! Each public operation judges first and changes a lent area only once nothing
+//! can be refused any more. A file format has a file of its own; `files` chooses
+//! among them.
+
+mod body;
+mod colour;
+mod degas;
+mod files;
+mod judging;
+mod lines;
+mod neochrome;
+mod packbits;
+mod pond;
+mod screen;
+mod summary;
+mod tally;
+mod tiny;
+mod words;
+
+pub use body::least_body;
+pub use colour::colour;
+pub use degas::{
+    DEGAS_HEADER_BYTES, ELITE_RAW_FILE_BYTES, LONGEST_PACKED_FILE, PACKED_BIT, PACKED_BODY_LIMIT,
+    PLAIN_FILE_BYTES, TAIL_BYTES,
+};
+pub use files::{
+    read, write, FORM_ELITE_PACKED, FORM_ELITE_RAW, FORM_NEO, FORM_PLAIN, KIND_DEGAS, KIND_NEO,
+    KIND_TINY, WRITE_AREA_BYTES,
+};
+pub use lines::{line_in, line_out};
+pub use neochrome::NEO_FILE_BYTES;
+pub use packbits::{least_row_body, pack_row, unpack_row, PACK_AREA_BYTES, WIDEST_ROW};
+pub use pond::pond;
+pub use screen::{Shape, SCREEN_BYTES};
+pub use summary::{summary, summary_text};
+pub use tally::{tally, whole_screen};
+pub use tiny::{
+    GREATEST_LONG_COUNT, LEAST_LONG_COUNT, LONGEST_TINY_FILE, ROTATION_BYTES, SCREEN_WORDS,
+    TINY_HEADER_BYTES,
+};
