@@ -1,6 +1,7 @@
-"""Makes ponds.pc1: a class map of a salt works, 16 ponds of one register each.
+"""Makes the sample pictures: ponds.pc1, a class map of a salt works with 16 ponds of one register each, and torn.pc1,
+what a bad sector leaves of it.
 
-python3 samples/make.py [FILE]
+python3 samples/make.py [FOLDER]
 """
 
 import sys
@@ -11,10 +12,10 @@ sys.path.insert(0, str(SAMPLES.parent / "bindings" / "python"))
 
 import kutimuq
 
-RESOLUTION = 0
 WIDTH, HEIGHT = 320, 200
 POND_WIDTH, POND_HEIGHT = 80, 50
 DYKE = 4
+SECTOR = 512
 
 GROUND, BRINE, MIXED, SHADOW = 0, 2, 3, 4
 
@@ -38,13 +39,18 @@ def register(x, y):
 
 
 def ponds():
-    """The file, DEGAS Elite packed."""
+    """The map, DEGAS Elite packed."""
     rows = [bytes(register(x, y) for x in range(WIDTH)) for y in range(HEIGHT)]
-    screen = kutimuq.screen_from_registers(rows, RESOLUTION)
-    picture = kutimuq.Picture(RESOLUTION, PALETTE)
-    return kutimuq.write(picture, screen, kutimuq.Form.PACKED)
+    picture = kutimuq.from_registers(rows, PALETTE)
+    return kutimuq.write(picture, picture.screen, kutimuq.Form.PACKED)
+
+
+def torn(file):
+    """The file with its ninth sector unreadable, so that the disk drive gave bytes of 0xE5."""
+    return file[: 8 * SECTOR] + b"\xe5" * SECTOR + file[9 * SECTOR :]
 
 
 if __name__ == "__main__":
-    out = Path(sys.argv[1]) if len(sys.argv) > 1 else SAMPLES / "ponds.pc1"
-    out.write_bytes(ponds())
+    folder = Path(sys.argv[1]) if len(sys.argv) > 1 else SAMPLES
+    (folder / "ponds.pc1").write_bytes(ponds())
+    (folder / "torn.pc1").write_bytes(torn(ponds()))

@@ -1,39 +1,61 @@
-"""Kutimuq: Atari ST pictures (DEGAS, DEGAS Elite, NEOchrome) by way of the proved library."""
+"""Kutimuq: Atari ST pictures (DEGAS, DEGAS Elite, NEOchrome) by way of the proved library.
 
-from .areas import Rectangle
-from .colours import Colour, colour
-from .counts import Pond, pond, tally
-from .files import File, read, write
-from .kinds import Form, Kind
-from .lines import line_in, line_out
-from .pictures import Picture, Tail
-from .refusals import MEANINGS, Refused
-from .rows import Row, pack_row, unpack_row
-from .screens import registers, screen_from_registers
-from .shared_object import LibraryMissing
+    picture = kutimuq.open("ponds.pc1")     # kutimuq.Refused if the file is damaged
+    picture.registers()                     # height x width, a numpy array where numpy is present
+    picture.save("ponds.neo", form="neo")
 
-__all__ = [
-    "Colour",
-    "File",
-    "Form",
-    "Kind",
-    "LibraryMissing",
-    "MEANINGS",
-    "Picture",
-    "Pond",
-    "Rectangle",
-    "Refused",
-    "Row",
-    "Tail",
-    "colour",
-    "line_in",
-    "line_out",
-    "pack_row",
-    "pond",
-    "read",
-    "registers",
-    "screen_from_registers",
-    "tally",
-    "unpack_row",
-    "write",
-]
+Each name is imported at its first use.
+"""
+
+__version__ = "0.1.0"
+
+# Public name: the module that has it.
+_PUBLIC = {
+    "BadImage": "images",
+    "BadText": "legend",
+    "Colour": "index",
+    "Entry": "legend",
+    "File": "pictures",
+    "Form": "kinds",
+    "Kind": "kinds",
+    "LibraryMissing": "shared_object",
+    "Picture": "pictures",
+    "Pond": "index",
+    "Rectangle": "screens",
+    "RefusalNumber": "refusals",
+    "Refused": "refusals",
+    "Row": "pictures",
+    "Tail": "pictures",
+    "colour": "index",
+    "find_kind": "kinds",
+    "from_registers": "screens",
+    "line_in": "screens",
+    "line_out": "screens",
+    "open": "pictures",
+    "pack_row": "pictures",
+    "pond": "index",
+    "read": "pictures",
+    "read_legend": "legend",
+    "registers": "screens",
+    "screen_from_registers": "screens",
+    "tally": "index",
+    "unpack_row": "pictures",
+    "write": "pictures",
+}
+_NAMES_WITHIN = {"open": "open_picture"}  # a module must not hide its own open()
+
+__all__ = sorted(_PUBLIC)
+
+
+def __getattr__(name: str):
+    if name not in _PUBLIC:
+        raise AttributeError(f"module {__name__!r} has no attribute {name!r}")
+    from importlib import import_module
+
+    value = getattr(import_module(f".{_PUBLIC[name]}", __name__), _NAMES_WITHIN.get(name, name))
+    globals()[name] = value
+    return value
+
+
+def __dir__():
+    return sorted({*globals(), *_PUBLIC})

@@ -1,11 +1,11 @@
-"""`python3 -m kutimuq`."""
+"""`python3 -m kutimuq`, and the installed command."""
 
-import signal
 import sys
 
-from .command import main
+try:
+    from .command import main
 
-if hasattr(signal, "SIGPIPE"):
-    # A reader that stops early ends the program quietly, as in any pipe.
-    signal.signal(signal.SIGPIPE, signal.SIG_DFL)
-sys.exit(main())
+    status = main()
+except KeyboardInterrupt:
+    status = 130  # before the command could see to it
+sys.exit(status)

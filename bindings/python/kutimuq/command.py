@@ -1,42 +1,492 @@
-"""The command line: one picture in, one result out.
+"""The command line.
 
-Exit status 0 accepted, 1 refused, 2 anything else (arguments, files, library).
+Exit status: 0 all files accepted, 1 a file refused, 2 wrong use or input and output; 130 interrupted.
 """
 
-from .arguments import parser
-from .files import read
-from .kinds import Kind
-from .refusals import Refused
-from .streams import ERROR, give, take
+from __future__ import annotations
+
+import os
+import sys
+
+from .files import OUTPUT, Output, complain, give, give_text, put, shown, take
+from .kinds import FORMS, Form, Kind, find_kind, names
+from .options import Command, Option, WrongUse, choice, columns, command_help, parse
+from .refusals import RefusalNumber, Refused
+from .shared_object import LibraryMissing
+
+PROGRAM = "kutimuq"
+ACCEPTED, REFUSED, WRONG, INTERRUPTED, PIPE_CLOSED, ENDED = 0, 1, 2, 130, 141, 143
 
 
-def main(arguments=None):
-    options = parser().parse_args(arguments)
+def main(arguments: list[str] | None = None) -> int:
+    """Runs a command and gives the exit status."""
     try:
-        return run(options)
-    except OSError as error:
+        return run(sys.argv[1:] if arguments is None else arguments)
+    except KeyboardInterrupt:
+        return INTERRUPTED
+    except BrokenPipeError:
+        return PIPE_CLOSED
+    except (OSError, WrongUse) as error:
         complain(error)
-        return 2
+        return WRONG
 
 
-def run(options):
-    data = take(options.file)
+def run(arguments: list[str]) -> int:
+    """Runs the command that the first argument names."""
+    name = arguments[0] if arguments else ""
+    if name == "--version":
+        from . import __version__
+
+        give_text(f"{PROGRAM} {__version__}\n")
+        return ACCEPTED
+    if name in ("-h", "--help"):
+        give_text(help_text())
+        return ACCEPTED
+    if name not in COMMANDS:
+        raise WrongUse((f"no command {name!r}" if name else "a COMMAND is needed") + f": {PROGRAM} --help tells more")
+    command = COMMANDS[name]
     try:
-        picture = read(data, Kind[options.kind.upper()])
-        result = options.result(picture, options)
-    except Refused as refusal:
-        complain(refusal)
-        if options.command == "summary":
-            # Document 01 gives the summary a line for a refusal, too.
-            give(f"refused {refusal.number} at {refusal.place}\n".encode("ascii"))
-        return 1
-    give(result)
-    return 0
+        options = parse(PROGRAM, name, command, arguments[1:])
+    except WrongUse as error:
+        raise WrongUse(f"{error}: {PROGRAM} {name} --help tells more") from None
+    if options.help:
+        give_text(command_help(PROGRAM, name, command))
+        return ACCEPTED
+    return command.run(options)
 
 
-def complain(about):
-    line = f"kutimuq: {about}\n"
+def help_text() -> str:
+    """The help on all commands."""
+    rows = columns([(name, command.about) for name, command in COMMANDS.items()])
+    start = [f"usage: {PROGRAM} COMMAND [OPTION]... [FILE]...", "", "Reads, checks and writes Atari ST pictures.", ""]
+    end = ["", f"{PROGRAM} COMMAND --help tells more, {PROGRAM} --version the version."]
+    return "\n".join([*start, *rows, *end]) + "\n"
+
+
+def end_in_order() -> None:
+    """A request to end is followed like an interrupt, so that no half file is left."""
+    import signal
+
+    signal.signal(signal.SIGTERM, lambda *_: sys.exit(ENDED))
+
+
+# Values of options.
+
+
+def parse_rectangle(text: str):
+    from .legend import rectangle_of
+
+    return rectangle_of(text)
+
+
+def parse_class(text: str) -> int:
+    from .legend import number_within
+
+    return number_within(text, 255, "class")
+
+
+def parse_confidence(text: str) -> int:
+    from .legend import CONFIDENCE_MAX, number_within
+
+    return number_within(text, CONFIDENCE_MAX, "confidence")
+
+
+def parse_palette(text: str) -> list[int]:
+    from .images import words_of
+
+    words = words_of(text.replace(",", " ").lower().encode("ascii", "replace"))
+    if words is None:
+        raise ValueError("16 words of four hexadecimal digits are needed")
+    return words
+
+
+def parse_jobs(text: str) -> int:
+    from .legend import number_within
+
+    return max(1, number_within(text, 1024, "processes"))
+
+
+# Files in, results out.
+
+
+def legend_of(options):
+    """The legend that is named, or None."""
+    if options.legend is None:
+        return None
+    from .legend import BadText, read_legend
+
     try:
-        give(line.encode("utf-8", "backslashreplace"), ERROR)
-    except OSError:
-        pass  # nowhere to say it; the exit status does
+        return read_legend(options.legend)
+    except BadText as error:
+        raise WrongUse(error) from None
+
+
+def read_named(name: str, options):
+    """The picture in a file, after saying which kind it was found to be."""
+    from .pictures import read
+
+    data = take(name)
+    if options.kind is not None:
+        return read(data, Kind[options.kind.upper()])
+    found = find_kind(data, name)
+    if found.kind and not options.quiet:
+        complain(found, name)
+    return read(data, found.kind)
+
+
+def refuse(refusal: Refused, name: str) -> None:
+    """Says that a file was refused."""
+    hint = ": neither content nor extension names a kind, --kind can" if refusal.number == RefusalNumber.UNKNOWN_KIND else ""
+    complain(f"{refusal}{hint}", name)
+
+
+def each(options, work, refused=None) -> int:
+    """Calls `work(name, picture)` for each file and gives the exit status; one bad file does not stop the others."""
+    status = ACCEPTED
+    for name in options.operands:
+        try:
+            work(name, read_named(name, options))
+        except Refused as refusal:
+            refuse(refusal, name)
+            status = max(status, REFUSED)
+            if refused is not None:
+                refused(name, refusal)
+        except (BrokenPipeError, LibraryMissing):
+            raise
+        except (OSError, WrongUse) as error:
+            complain(error, name)
+            status = WRONG
+    return status
+
+
+def tell(options, name: str, lines) -> None:
+    """Lines on standard output, each after its file's name if there are several files."""
+    start = f"{shown(name)}: " if len(options.operands) > 1 else ""
+    give_text("".join(f"{start}{line}\n" for line in lines))
+
+
+def destinations(options) -> dict[str, str]:
+    """Where each file's result goes, in a folder without its extension; `-` is standard output."""
+    end_in_order()
+    if options.folder is None:
+        if len(options.operands) > 1:
+            raise WrongUse("several files need --folder for their results")
+        return {options.operands[0]: options.output or "-"}
+    if options.output is not None:
+        raise WrongUse("either --output or --folder")
+    os.makedirs(options.folder, exist_ok=True)
+    found: dict[str, str] = {}
+    for name in options.operands:
+        path = os.path.join(options.folder, os.path.basename(name) if name != "-" else "input")
+        if path in found:
+            raise WrongUse(f"two results would be {shown(path)}")
+        found[path] = name
+    return {name: path for path, name in found.items()}
+
+
+def send(options, place: str, extension: str, data: bytes) -> None:
+    """A result to its place."""
+    if place != "-":
+        put(place + extension if options.folder is not None else place, data)
+    elif os.isatty(OUTPUT):
+        raise WrongUse("the result is no text for a terminal: name a file with -o")
+    else:
+        give(data)
+
+
+def make_files(options, make, extension_of) -> int:
+    """One result for each picture."""
+    places = destinations(options)
+    return each(options, lambda name, picture: send(options, places[name], extension_of(picture), make(picture)))
+
+
+# The commands.
+
+
+def summary(options) -> int:
+    """`summary`: document 01's lines."""
+    from .index import tally
+
+    def lines(name, picture):
+        counts = " ".join(map(str, tally(picture.screen, picture.resolution)))
+        facts = (f"resolution {picture.resolution}", f"records {picture.records}", f"body {picture.body}")
+        tell(options, name, (*facts, f"tail {picture.tail_present:d}", f"tally {counts}"))
+
+    def line(name, refusal):
+        # Document 01 gives the summary a line for a refusal, too.
+        tell(options, name, [f"refused {refusal.number} at {refusal.place}"])
+
+    return each(options, lines, line)
+
+
+def palette(options) -> int:
+    """`palette`: palette words and colours."""
+    from .index import colours
+
+    def lines(name, picture):
+        shown_colours = colours(picture.resolution, picture.palette)
+        for register, palette_word in enumerate(picture.palette):
+            parts = " ".join(map(str, shown_colours[register])) if register < len(shown_colours) else "-"
+            tell(options, name, [f"register {register} word {palette_word:04x} colour {parts}"])
+
+    return each(options, lines)
+
+
+def tail(options) -> int:
+    """`tail`: the animation tail."""
+    def lines(name, picture):
+        tables = picture.tail._asdict().items()
+        rows = [f"{title} {' '.join(map(str, table))}" for title, table in tables]
+        tell(options, name, [f"tail {picture.tail_present:d}", *rows])
+
+    return each(options, lines)
+
+
+def png(options) -> int:
+    """`png`: indexed PNG files."""
+    from .images import png_of
+
+    return make_files(options, png_of, lambda picture: ".png")
+
+
+def registers(options) -> int:
+    """`registers`: PGM files."""
+    from .images import greymap_of
+
+    return make_files(options, greymap_of, lambda picture: ".pgm")
+
+
+def colours_command(options) -> int:
+    """`colours`: PPM files."""
+    from .images import pixmap_of
+
+    return make_files(options, pixmap_of, lambda picture: ".ppm")
+
+
+def envi(options) -> int:
+    """`envi`: ENVI classifications."""
+    from .images import envi_of
+
+    entries = legend_of(options)
+    places = destinations(options)
+
+    def save(name, picture):
+        path = places[name] + ".img" if options.folder is not None else places[name]
+        stem, extension = os.path.splitext(path)
+        if path == "-" or extension.lower() == ".hdr":
+            raise WrongUse("the registers need a file of their own beside the header: name it with -o")
+        raw, header = envi_of(picture, entries)
+        with Output(path) as data_file, Output(stem + ".hdr") as header_file:
+            data_file.write(raw)
+            header_file.write(header)
+            data_file.keep()
+            header_file.keep()
+
+    return each(options, save)
+
+
+def convert(options) -> int:
+    """`convert`: files in another form."""
+    from .pictures import write
+
+    form = Form[options.form.upper()]
+    return make_files(
+        options, lambda picture: write(picture, picture.screen, form), lambda picture: FORMS[form][picture.resolution]
+    )
+
+
+def encode(options) -> int:
+    """`encode`: pictures from images of registers."""
+    from .images import IMAGE_LIMIT, BadImage, picture_of, read_image
+    from .pictures import open_picture, write
+
+    form = Form[options.form.upper()]
+    words, tables = options.palette, None
+    if options.like is not None:
+        try:
+            model = open_picture(options.like)
+        except Refused as refusal:
+            refuse(refusal, options.like)
+            return REFUSED
+        words = words or model.palette
+        tables = model.tail if model.tail_present else None
+    places = destinations(options)
+    status = ACCEPTED
+    for name in options.operands:
+        try:
+            picture = picture_of(read_image(take(name, IMAGE_LIMIT + 1)), words, tables)
+            data = write(picture, picture.screen, form)
+            send(options, places[name], FORMS[form][picture.resolution], data)
+        except (Refused, BadImage) as refusal:
+            complain(refusal, name)
+            status = max(status, REFUSED)
+        except (BrokenPipeError, LibraryMissing):
+            raise
+        except (OSError, WrongUse) as error:
+            complain(error, name)
+            status = WRONG
+    return status
+
+
+def on_screen(count, picture, area, what: str, *more):
+    """What is counted in a rectangle; one outside the screen is the caller's mistake."""
+    from .screens import shape
+
+    try:
+        return count(picture.screen, picture.resolution, area, *more)
+    except Refused:
+        # The screen was accepted and all other numbers are in range: it is the rectangle.
+        width, height, _ = shape(picture.resolution)
+        place = ",".join(map(str, area))
+        raise WrongUse(f"{what} {place} is not on its screen of {width} x {height}") from None
+
+
+def tally_command(options) -> int:
+    """`tally`: the pixels of each register."""
+    from .index import tally
+
+    def line(name, picture):
+        counts = on_screen(tally, picture, options.rectangle, "option --rectangle:")
+        tell(options, name, [" ".join(["tally", *map(str, counts)])])
+
+    return each(options, line)
+
+
+def pond_command(options) -> int:
+    """`pond`: one pond of each map."""
+    from .index import pond
+
+    entries = legend_of(options)
+    question = (options.class_, options.floor, entries)
+
+    def lines(name, picture):
+        reading = on_screen(pond, picture, options.rectangle, "option --rectangle:", *question)
+        tell(options, name, [f"{title} {count}" for title, count in reading._asdict().items()])
+
+    return each(options, lines)
+
+
+def ponds_command(options) -> int:
+    """`ponds`: a table of many ponds of many maps."""
+    from .index import pond
+    from .legend import BadText, read_questions
+
+    end_in_order()
+    entries = legend_of(options)
+    try:
+        questions = read_questions(options.list, entries)
+    except BadText as error:
+        raise WrongUse(error) from None
+    titles = {entry.class_: entry.name for entry in entries}
+    table = [tuple("map pond class class_name floor sure unsure other refused".split())]
+
+    def read_ponds(name, picture):
+        for title, area, class_, floor in questions:
+            what = f"{shown(options.list)}: pond {title!r}: rectangle"
+            reading = on_screen(pond, picture, area, what, class_, floor, entries)
+            table.append((name, title, class_, titles.get(class_, ""), floor, *reading, ""))
+
+    def refused(name, refusal):
+        table.append((name, *[""] * 7, str(refusal)))
+
+    status = each(options, read_ponds, refused)
+    if status == WRONG:
+        raise WrongUse("no table is written")
+    give_table(options.output, table)
+    return status
+
+
+def give_table(path: str | None, rows: list[tuple]) -> None:
+    """Rows as CSV, to a file or standard output."""
+    import csv
+    import io
+
+    text = io.StringIO(newline="")
+    csv.writer(text, lineterminator="\n").writerows(rows)
+    data = text.getvalue().encode("utf-8", "backslashreplace")
+    if path is None:
+        give(data)
+    else:
+        put(path, data)
+
+
+def levels_command(options) -> int:
+    """`levels`: the table of colour levels."""
+    from .index import levels
+
+    give_text("level  bits   red  green  blue  shown\n")
+    for level, (red, green, blue), shown_value in levels():
+        give_text(f"{level:5}   {level:03b}  {red:04x}   {green:04x}  {blue:04x}  {shown_value:5}\n")
+    return ACCEPTED
+
+
+def check(options) -> int:
+    """`check`: a box of files."""
+    if options.resume and options.json is None:
+        raise WrongUse("--resume needs the --json that the interrupted run had")
+    from .box import run
+
+    end_in_order()
+    options.kind = None if options.kind is None else Kind[options.kind.upper()]
+    return run(options, legend_of(options))
+
+
+KIND = Option(("--kind",), "KIND", "degas, neo or tiny; default: found by content, then by extension", choice(names(Kind)))
+QUIET = Option(("-q", "--quiet"), None, "do not say which kind was found")
+OUTPUT_FILE = Option(("-o", "--output"), "FILE", "where the result goes; default: standard output")
+FOLDER = Option(("-d", "--folder"), "FOLDER", "one result for each file, named after it, in this folder")
+FORM = Option(("--form",), "FORM", ", ".join(names(Form)), choice(names(Form)), True)
+RECTANGLE = Option(("--rectangle",), "L,T,C,N", "left, top, columns, lines; default: the whole screen", parse_rectangle)
+LEGEND = Option(("--legend",), "FILE", "16 lines `class confidence [owner [name]]`, register 0 first")
+NEEDED_LEGEND = LEGEND._replace(required=True)
+PALETTE = Option(("--palette",), "WORDS", "16 hexadecimal words; default: the PNG's palette", parse_palette)
+LIKE = Option(("--like",), "PICTURE", "take palette and tail from this picture file")
+CLASS = Option(("--class",), "CLASS", "0 to 255", parse_class, True)
+FLOOR = Option(("--floor",), "CONFIDENCE", "0 to 100; pixels below it are unsure", parse_confidence, True)
+LIST = Option(("--list",), "FILE", "CSV with the columns name, rectangle, class and floor", None, True)
+JSON = Option(("--json",), "FILE", "a line of JSON for each file")
+CSV = Option(("--csv",), "FILE", "a table of the files")
+REPORT = Option(("--report",), "PAGE", "one HTML page with pictures, refusals and duplicates")
+JOBS = Option(("--jobs",), "N", "processes; default: one for each core", parse_jobs)
+RESUME = Option(("--resume",), None, "take up an interrupted run that had the same --json")
+
+SOURCES = (KIND, QUIET)
+TO_FILES = (KIND, QUIET, OUTPUT_FILE, FOLDER)
+
+COMMANDS = {
+    "check": Command(
+        check,
+        "judge all files of a box: lines, JSON, CSV, a report page",
+        "FOLDER+",
+        (KIND, JSON, CSV, REPORT, LEGEND, JOBS, RESUME),
+    ),
+    "summary": Command(summary, "resolution, counts, tail and tally, as text", "FILE", SOURCES),
+    "palette": Command(palette, "the 16 palette words and their colours", "FILE", SOURCES),
+    "tail": Command(tail, "the animation tail's tables", "FILE", SOURCES),
+    "png": Command(png, "an indexed PNG whose pixel values are the registers", "FILE", TO_FILES),
+    "envi": Command(
+        envi, "an ENVI classification: registers, class names and colours", "FILE", (*TO_FILES, LEGEND)
+    ),
+    "registers": Command(registers, "a PGM with one register a byte", "FILE", TO_FILES),
+    "colours": Command(
+        colours_command, "a PPM with colours alone: never turn one back into classes", "FILE", TO_FILES
+    ),
+    "convert": Command(convert, "the picture in another form", "FILE", (FORM, *TO_FILES)),
+    "encode": Command(
+        encode,
+        "a picture from an indexed PNG or a PGM of registers",
+        "IMAGE",
+        (FORM, PALETTE, LIKE, OUTPUT_FILE, FOLDER),
+    ),
+    "tally": Command(tally_command, "the pixels of each register", "FILE", (RECTANGLE, *SOURCES)),
+    "pond": Command(
+        pond_command,
+        "the sure, unsure and other pixels of a class",
+        "FILE",
+        (NEEDED_LEGEND, CLASS, FLOOR, RECTANGLE, *SOURCES),
+    ),
+    "ponds": Command(
+        ponds_command, "many ponds of many maps, as CSV", "MAP", (NEEDED_LEGEND, LIST, OUTPUT_FILE, *SOURCES)
+    ),
+    "levels": Command(levels_command, "the eight colour levels, their bits and the values shown", None, ()),
+}

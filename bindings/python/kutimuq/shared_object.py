@@ -1,47 +1,48 @@
 """Where the library's shared object is, and how it is built."""
 
+from __future__ import annotations
+
 import os
-import subprocess
-import tempfile
-from pathlib import Path
 
 NAME = "libkutimuq.so"
-PACKAGE = Path(__file__).resolve().parent
-REPOSITORY = PACKAGE.parents[2]
-ARCHIVE = REPOSITORY / "target" / "staticlib" / "libcapi.a"
-BUILT = REPOSITORY / "target" / "python" / NAME
+PACKAGE = os.path.dirname(os.path.realpath(__file__))
+REPOSITORY = os.path.normpath(os.path.join(PACKAGE, "..", "..", ".."))
+ARCHIVE = os.path.join(REPOSITORY, "target", "staticlib", "libcapi.a")
+BUILT = os.path.join(REPOSITORY, "target", "python", NAME)
 
 
 class LibraryMissing(OSError):
     """The library cannot be found, built or loaded."""
 
 
-def find():
-    """KUTIMUQ_SO, else the one beside the package, else one built from the archive."""
+def find() -> str:
+    """KUTIMUQ_SO, else the one in the package, else one built from the archive of this checkout."""
     named = os.environ.get("KUTIMUQ_SO")
     if named:
-        return Path(named).absolute()
-    for folder in (PACKAGE, PACKAGE.parent):
-        if (folder / NAME).is_file():
-            return folder / NAME
-    if ARCHIVE.is_file():
+        return os.path.abspath(named)
+    inside = os.path.join(PACKAGE, NAME)
+    if os.path.isfile(inside):
+        return inside
+    if os.path.isfile(ARCHIVE):
         return build(ARCHIVE, BUILT)
     raise LibraryMissing(
-        f"no {NAME}: name it in KUTIMUQ_SO, put it beside {PACKAGE}, "
-        f"or make {ARCHIVE} with `rt staticlib capi`"
+        f"no {NAME}: name it in KUTIMUQ_SO, put it into {PACKAGE}, or make {ARCHIVE} with `rt staticlib capi`"
     )
 
 
-def build(archive, built):
+def build(archive: str, built: str) -> str:
     """The shared object made from this archive, anew only if the archive changed."""
-    changed = archive.stat().st_mtime_ns
-    if built.is_file() and built.stat().st_mtime_ns == changed:
+    changed = os.stat(archive).st_mtime_ns
+    if os.path.isfile(built) and os.stat(built).st_mtime_ns == changed:
         return built
+    import tempfile
+
     try:
-        built.parent.mkdir(parents=True, exist_ok=True)
+        folder = os.path.dirname(built)
+        os.makedirs(folder, exist_ok=True)
         # Built apart and moved in whole, so that no other process loads half of it.
-        with tempfile.TemporaryDirectory(dir=built.parent) as folder:
-            made = Path(folder) / NAME
+        with tempfile.TemporaryDirectory(dir=folder) as apart:
+            made = os.path.join(apart, NAME)
             link(archive, made)
             os.utime(made, ns=(changed, changed))
             os.replace(made, built)
@@ -50,11 +51,13 @@ def build(archive, built):
     return built
 
 
-def link(archive, made):
+def link(archive: str, made: str) -> None:
     """Turns the archive into a shared object."""
-    whole = ["-Wl,--whole-archive", str(archive), "-Wl,--no-whole-archive"]
+    import subprocess
+
+    whole = ["-Wl,--whole-archive", archive, "-Wl,--no-whole-archive"]
     done = subprocess.run(
-        ["gcc", "-shared", "-o", str(made), *whole],
+        ["gcc", "-shared", "-o", made, *whole],
         stdin=subprocess.DEVNULL,
         capture_output=True,
         text=True,

@@ -2,12 +2,18 @@
 
 import os
 import random
+import signal
 import subprocess
 import sys
+import tempfile
+import traceback
 import unittest
+from functools import lru_cache
 from pathlib import Path
+from typing import NamedTuple
 
 import kutimuq
+from kutimuq.command import main
 
 PYTHON = Path(__file__).resolve().parents[1]
 REPOSITORY = PYTHON.parents[1]
@@ -18,6 +24,8 @@ BLANK_SUMMARY = (
     b"resolution 0\nrecords 800\nbody 1600\ntail 1\n"
     b"tally 64000 0 0 0 0 0 0 0 0 0 0 0 0 0 0 0\n"
 )
+
+PROGRAM = (sys.executable, "-S", "-m", "kutimuq")  # -S: the standard library alone, and quick to start
 
 SHAPES = ((320, 200, 4), (640, 200, 2), (640, 400, 1))
 PALETTE = tuple(0x1357 * (n + 1) & 0xFFFF for n in range(16))
@@ -34,6 +42,7 @@ def blocks(resolution, seed=1):
     ]
 
 
+@lru_cache(maxsize=None)
 def noise(seed=1):
     """A screen of random bytes; it does not pack below 32,000 bytes."""
     return random.Random(seed).randbytes(32_000)
@@ -51,6 +60,7 @@ def register_at(screen, resolution, x, y):
     return total
 
 
+@lru_cache(maxsize=None)
 def expected_registers(screen, resolution):
     width, height, _ = SHAPES[resolution]
     return [
@@ -65,10 +75,58 @@ class Case(unittest.TestCase):
         self.assertEqual((caught.exception.number, caught.exception.place), (number, place))
 
 
-def command(*arguments, data=b"", package=PYTHON, **environment):
-    """Runs `python3 -m kutimuq` and gives the finished process."""
+class Done(NamedTuple):
+    """A finished command."""
+
+    stdout: bytes
+    stderr: bytes
+    returncode: int
+
+
+def command(*arguments, data=b""):
+    """Runs the command line in a process of its own: a fork, which is quicker than a new Python."""
+    with tempfile.TemporaryFile() as source, tempfile.TemporaryFile() as out, tempfile.TemporaryFile() as error:
+        source.write(data)
+        source.seek(0)
+        sys.stdout.flush()
+        sys.stderr.flush()
+        child = os.fork()
+        if child == 0:
+            run_child([source, out, error], list(map(str, arguments)))
+        status = os.waitstatus_to_exitcode(os.waitpid(child, 0)[1])
+        out.seek(0)
+        error.seek(0)
+        return Done(out.read(), error.read(), status)
+
+
+def run_child(streams, arguments):
+    """What a new Python would do, in a forked process."""
+    status = 1
+    try:
+        for number, stream in enumerate(streams):
+            os.dup2(stream.fileno(), number)
+        sys.stdout, sys.stderr = open(1, "w", closefd=False), open(2, "w", closefd=False)
+        try:
+            status = main(arguments)
+        except SystemExit as end:
+            status = end.code
+        except BaseException:
+            traceback.print_exc()
+        sys.stdout.flush()
+        sys.stderr.flush()
+    finally:
+        os._exit(status)
+
+
+def heed_interrupts():
+    """In a new process: interrupts end it, also where the tests run in the background, which ignores them."""
+    signal.signal(signal.SIGINT, signal.SIG_DFL)
+
+
+def process(*arguments, data=b"", package=PYTHON, **environment):
+    """Runs `python3 -m kutimuq` of a package and gives the finished process."""
     return subprocess.run(
-        [sys.executable, "-m", "kutimuq", *map(str, arguments)],
+        [*PROGRAM, *map(str, arguments)],
         input=data,
         capture_output=True,
         cwd=package,

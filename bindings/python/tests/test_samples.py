@@ -17,9 +17,9 @@ PONDS = SAMPLES / "ponds.pc1"
 class Samples(unittest.TestCase):
     def test_made_alike_each_time(self):
         with tempfile.TemporaryDirectory() as folder:
-            made = Path(folder) / "ponds.pc1"
-            subprocess.run([sys.executable, str(SAMPLES / "make.py"), str(made)], check=True)
-            self.assertEqual(made.read_bytes(), PONDS.read_bytes())
+            subprocess.run([sys.executable, str(SAMPLES / "make.py"), folder], check=True)
+            for name in ("ponds.pc1", "torn.pc1"):
+                self.assertEqual(Path(folder, name).read_bytes(), (SAMPLES / name).read_bytes())
 
     def test_every_register_is_there(self):
         picture = kutimuq.read(PONDS.read_bytes(), kutimuq.Kind.DEGAS)
@@ -33,3 +33,16 @@ class Samples(unittest.TestCase):
             "--legend", SAMPLES / "ponds.legend", PONDS,
         )
         self.assertEqual(done.stdout, b"sure 2624\nunsure 472\nother 904\n")
+
+    def test_the_list_of_ponds(self):
+        done = command(
+            "ponds", "-q", "--legend", SAMPLES / "ponds.legend", "--list", SAMPLES / "ponds.csv", PONDS,
+            SAMPLES / "torn.pc1",
+        )
+        self.assertEqual((done.returncode, done.stdout.decode().splitlines()), (1, [
+            "map,pond,class,class_name,floor,sure,unsure,other,refused",
+            f"{PONDS},magnesium pond,2,magnesium brine,80,2624,472,904,",
+            f"{PONDS},shadow over it,4,cloud shadow,80,400,0,3600,",
+            f"{PONDS},whole works,2,magnesium brine,80,2624,3968,57408,",
+            f"{SAMPLES / 'torn.pc1'},,,,,,,,refused 7 at 4096: a record crosses its row's end",
+        ]))

@@ -1,10 +1,19 @@
 """Registers of lines and screens. Rows are compared as bytes, with numpy or without."""
 
 import array
+import sys
+import unittest
+from unittest import mock
 
 import kutimuq
 
-from .support import SHAPES, Case, blocks, expected_registers, noise
+from .support import PALETTE, SHAPES, TAIL, Case, blocks, expected_registers, noise
+
+
+try:
+    import numpy
+except ImportError:
+    numpy = None
 
 
 def rows_of(screen, resolution):
@@ -90,3 +99,56 @@ class Lines(Case):
         self.assertRefused(5, 0, kutimuq.line_in, bytes(32_000), 3, 999, b"")
         self.assertRefused(1, 0, kutimuq.line_in, bytes(32_000), 0, 0, bytes(319))
         self.assertRefused(10, 0, kutimuq.line_in, bytes(32_000), 0, 0, [16] + [0] * 319)
+
+
+class Pictures(Case):
+    def test_from_registers(self):
+        for resolution in (0, 1, 2):
+            rows = expected_registers(noise(resolution), resolution)
+            picture = kutimuq.from_registers(rows, PALETTE)
+            self.assertEqual(picture, kutimuq.Picture(resolution, PALETTE, screen=noise(resolution)))
+        self.assertTrue(kutimuq.from_registers(rows, PALETTE, TAIL).tail_present)
+
+    def test_no_screen(self):
+        for rows in ([], [b""], [bytes(320)] * 199, [bytes(321)] * 200):
+            self.assertRaises(ValueError, kutimuq.from_registers, rows, PALETTE)
+        self.assertRefused(1, 0, kutimuq.from_registers, [bytes(320)] * 199 + [bytes(319)], PALETTE)
+
+
+class Arrays(unittest.TestCase):
+    def test_without_numpy(self):
+        with mock.patch.dict(sys.modules, {"numpy": None}):
+            rows = kutimuq.registers(noise(), 0)
+        self.assertEqual((type(rows), len(rows)), (list, 200))
+        self.assertEqual({(type(row), len(row)) for row in rows}, {(bytes, 320)})
+
+    @unittest.skipIf(numpy is None, "numpy is not installed")
+    def test_with_numpy(self):
+        with mock.patch.dict(sys.modules, {"numpy": None}):
+            rows = kutimuq.registers(noise(), 1)
+        made = kutimuq.registers(noise(), 1)
+        self.assertEqual((made.shape, made.dtype), ((200, 640), numpy.uint8))
+        self.assertEqual(made.tobytes(), b"".join(rows))
+        made[0, 0] = 3  # the array can be written to
+        for given in (made, made.astype(numpy.int64), numpy.asfortranarray(made)):
+            screen = kutimuq.screen_from_registers(given, 1)
+            self.assertTrue((kutimuq.registers(screen, 1) == made).all())
+            self.assertEqual(kutimuq.from_registers(given, PALETTE).screen, screen)
+
+    @unittest.skipIf(numpy is None, "numpy is not installed")
+    def test_arrays_that_are_not_taken(self):
+        good = kutimuq.registers(noise(), 1)
+        for given in (numpy.ma.masked_equal(good, 2), [numpy.ma.masked_equal(row, 2) for row in good]):
+            self.assertRaises(ValueError, kutimuq.screen_from_registers, given, 1)
+        self.assertRaises(TypeError, kutimuq.screen_from_registers, good.astype(float), 1)
+        with self.assertRaises(kutimuq.Refused):
+            kutimuq.screen_from_registers(good.astype(numpy.int16) + 4, 1)
+
+    def test_a_masked_array_of_a_stub(self):
+        class MaskedArray(list):
+            pass
+
+        stub = mock.Mock()
+        stub.ma.MaskedArray = MaskedArray
+        with mock.patch.dict(sys.modules, {"numpy": stub}):
+            self.assertRaises(ValueError, kutimuq.screen_from_registers, MaskedArray([bytes(320)] * 200), 0)

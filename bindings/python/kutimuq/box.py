@@ -1,0 +1,382 @@
+"""A box of files: each judged, hashed and listed, with duplicates found and an interrupted run taken up again."""
+
+from __future__ import annotations
+
+import json
+import os
+import stat
+import sys
+import time
+from contextlib import ExitStack
+from errno import EEXIST
+from hashlib import sha256
+
+from . import kinds
+from .files import ERROR, Output, complain, give_text, is_stream, shown, take
+from .index import tally
+from .kinds import Form, find_kind
+from .library import library
+from .pictures import Picture, read, write
+from .refusals import RefusalNumber, Refused, meaning_of
+
+# What a record holds, in the order of the CSV file. A record is a dict, so that it can be a line of JSON.
+COLUMNS = (
+    "name",
+    "bytes",
+    "kind",
+    "kind_by",
+    "resolution",
+    "tail_present",
+    "records",
+    "body",
+    "number",
+    "place",
+    "meaning",
+    "plane_row",
+    "good_bytes",
+    "form",
+    "sha256",
+    "same_as",
+    "error",
+)
+KEPT = (*COLUMNS, "modified")  # what every record has, so that an interrupted run can be taken up
+CHUNK = 32  # files handed to a process at once
+FEW = 200  # files that one process is quicker with
+BAR = 30  # characters of the progress bar
+
+
+def files_in(paths, complaint=complain) -> tuple[list[str], bool]:
+    """All files in folders and below, in order of name, each once; and whether everything could be listed."""
+    found: dict[str, None] = {}
+    problems: list[OSError] = []
+    for path in paths:
+        if not os.path.isdir(path):
+            found[path] = None
+            continue
+        for folder, folders, names in os.walk(path, onerror=problems.append):
+            folders.sort()
+            found.update((os.path.join(folder, name), None) for name in sorted(names))
+    for problem in problems:
+        complaint(problem)
+    return list(found), not problems
+
+
+def judge(name: str, kind: int | None = None) -> dict:
+    """The record of one file."""
+    record = dict.fromkeys(KEPT)
+    record["name"] = name
+    try:
+        status = os.stat(name)
+        if stat.S_ISFIFO(status.st_mode) or stat.S_ISSOCK(status.st_mode):
+            raise OSError("not a file")
+        record.update(bytes=status.st_size, modified=status.st_mtime_ns)
+        data = take(name)
+    except OSError as error:
+        record["error"] = error.strerror or str(error)
+        return record
+    found = kinds.Found(kind, "option") if kind is not None else find_kind(data, name)
+    record.update(kind=kinds.title(found.kind), kind_by=found.by)
+    try:
+        picture = read(data, found.kind)
+    except Refused as refusal:
+        record.update(
+            number=refusal.number,
+            place=refusal.place,
+            meaning=refusal.meaning,
+            plane_row=refusal.plane_row,
+            good_bytes=refusal.good_bytes,
+        )
+        return record
+    record.update(accepted_fields(picture))
+    return record
+
+
+def accepted_fields(picture: Picture) -> dict:
+    """What a record says about an accepted file."""
+    form, file = least_rewriting(picture)
+    return {
+        "resolution": picture.resolution,
+        "tail_present": picture.tail_present,
+        "records": picture.records,
+        "body": picture.body,
+        "number": int(RefusalNumber.ACCEPTED),
+        "place": 0,
+        "meaning": meaning_of(RefusalNumber.ACCEPTED),
+        "form": int(form),
+        "sha256": sha256(file).hexdigest(),
+        "palette": list(picture.palette),
+        "tally": list(tally(picture.screen, picture.resolution)),
+    }
+
+
+def least_rewriting(picture: Picture) -> tuple[Form, bytes]:
+    """The picture's packed form, or the raw Elite form where no packed one exists.
+
+    Pictures of equal resolution, palette, tail words and screen have equal ones, and only they.
+    """
+    try:
+        return Form.PACKED, write(picture, picture.screen, Form.PACKED)
+    except Refused as refusal:
+        if refusal.number != RefusalNumber.NO_PACKED_BODY:
+            raise
+        return Form.ELITE, write(picture, picture.screen, Form.ELITE)
+
+
+def judge_all(names: list[str], kind: int | None, jobs: int):
+    """The records of files, in order, by several processes where there are many files."""
+    yield from spread_over(judge, [(name, kind) for name in names], jobs)
+
+
+def spread_over(function, arguments: list[tuple], jobs: int):
+    """A function's results for each tuple of arguments, in order, by so many processes."""
+    if jobs < 2 or len(arguments) < FEW:
+        for each in arguments:
+            yield function(*each)
+        return
+    import signal
+    from concurrent.futures import ProcessPoolExecutor
+    from concurrent.futures.process import BrokenProcessPool
+
+    workers = ProcessPoolExecutor(jobs, initializer=end_at_once)
+    try:
+        # The processes start with interrupts held back, and leave them so: these are for the parent alone.
+        mask = signal.pthread_sigmask(signal.SIG_BLOCK, {signal.SIGINT})
+        try:
+            results = workers.map(function, *zip(*arguments), chunksize=CHUNK)
+        finally:
+            signal.pthread_sigmask(signal.SIG_SETMASK, mask)
+        yield from results
+    except BrokenProcessPool:
+        raise OSError("one of the processes was ended from outside") from None
+    finally:
+        workers.shutdown(cancel_futures=True)
+
+
+def end_at_once() -> None:
+    """A worker has nothing to put in order when it is told to end."""
+    import signal
+
+    signal.signal(signal.SIGTERM, signal.SIG_DFL)
+
+
+class Journal:
+    """The records of a run under way, as JSON lines beside the place where they will be kept."""
+
+    def __init__(self, path: str, resume: bool):
+        self.path = path + ".part"
+        self.known: dict[str, dict] = {}
+        if not resume and os.path.exists(self.path):
+            raise OSError(EEXIST, "left by an interrupted run: take it up with --resume, or remove it", self.path)
+        good = self.load() if resume else 0
+        self.file = open(self.path, "r+b" if good else "wb")
+        self.file.truncate(good)
+        self.file.seek(good)
+
+    def load(self) -> int:
+        """Takes up the whole lines of an earlier run; gives their length."""
+        good = 0
+        try:
+            with open(self.path, "rb") as file:
+                for line in file:
+                    record = json.loads(line) if line.endswith(b"\n") else None
+                    if not isinstance(record, dict) or not record.keys() >= set(KEPT):
+                        break
+                    self.known[record["name"]] = record
+                    good += len(line)
+        except (FileNotFoundError, ValueError):
+            pass
+        return good
+
+    def recall(self, name: str, kind: int | None) -> dict | None:
+        """A file's record, if it was judged in the same way and has not changed since."""
+        record = self.known.get(name)
+        if record is None or record["error"] is not None:
+            return None
+        try:
+            status = os.stat(name)
+        except OSError:
+            return None
+        same_file = (record["bytes"], record["modified"]) == (status.st_size, status.st_mtime_ns)
+        same_kind = (record["kind_by"] == "option") == (kind is not None)
+        return record if same_file and same_kind and kind in (None, kinds.kind_titled(record["kind"])) else None
+
+    def add(self, record: dict) -> None:
+        self.file.write(json_line(record))
+        self.file.flush()
+
+    def remove(self) -> None:
+        """The run is over and its records are kept elsewhere."""
+        self.file.close()
+        os.unlink(self.path)
+
+
+def json_line(record: dict) -> bytes:
+    return json.dumps(record).encode("ascii") + b"\n"
+
+
+class Check:
+    """One run over a box."""
+
+    def __init__(self, names: list[str], kind: int | None = None, jobs: int = 1, journal: Journal | None = None):
+        self.names = names
+        self.kind = kind
+        self.jobs = jobs
+        self.journal = journal
+        self.records: list[dict] = []
+        self.first_of: dict[str, str] = {}
+
+    def run(self):
+        """Judges every file and gives its record, in order."""
+        recalled = {}
+        if self.journal is not None:
+            recalled = {name: self.journal.recall(name, self.kind) for name in self.names}
+        new = judge_all([name for name in self.names if not recalled.get(name)], self.kind, self.jobs)
+        for name in self.names:
+            record = recalled.get(name) or self.judged(new)
+            self.mark_duplicate(record)
+            self.records.append(record)
+            yield record
+
+    def judged(self, new) -> dict:
+        record = next(new)
+        if self.journal is not None:
+            self.journal.add(record)
+        return record
+
+    def mark_duplicate(self, record: dict) -> None:
+        """Names the first file of the same picture."""
+        digest = record["sha256"]
+        first = self.first_of.setdefault(digest, record["name"]) if digest else None
+        record["same_as"] = first if first != record["name"] else None
+
+    def counts(self) -> tuple[int, int, int]:
+        """How many files are accepted, refused and not read."""
+        accepted = sum(record["number"] == 0 for record in self.records)
+        unread = sum(record["error"] is not None for record in self.records)
+        return accepted, len(self.records) - accepted - unread, unread
+
+
+def line_of(record: dict) -> str:
+    """A record as a line for people."""
+    name = shown(record["name"])
+    if record["error"] is not None:
+        return f"{name}: not read: {record['error']}"
+    known = kinds.decision(record["kind"], record["kind_by"])
+    if record["number"]:
+        return f"{name}: refused {record['number']} at {record['place']}: {record['meaning']} ({known})"
+    line = f"{name}: accepted: {known}, resolution {record['resolution']}"
+    if record["records"]:
+        line += f", {record['records']} records, body {record['body']}"
+    if record["same_as"] is not None:
+        line += f", same picture as {shown(record['same_as'])}"
+    return line
+
+
+def write_json(output: Output, records: list[dict]) -> None:
+    """The records as JSON lines."""
+    for record in records:
+        output.write(json_line(record))
+
+
+def write_csv(output: Output, records: list[dict]) -> None:
+    """The records as CSV, UTF-8, with a header."""
+    import csv
+    import io
+
+    text = io.StringIO(newline="")
+    table = csv.DictWriter(text, COLUMNS, extrasaction="ignore", lineterminator="\n")
+    table.writeheader()
+    for record in records:
+        table.writerow({key: int(value) if isinstance(value, bool) else value for key, value in record.items()})
+    output.write(text.getvalue().encode("utf-8", "backslashreplace"))
+
+
+class Progress:
+    """A bar on standard error where that is a terminal."""
+
+    def __init__(self, total: int):
+        self.total = total
+        self.done = 0
+        self.next_time = 0.0
+        self.visible = total > 0 and sys.stderr is not None and sys.stderr.isatty()
+
+    def clear(self) -> None:
+        if self.visible:
+            give_text("\r\x1b[K", ERROR)
+
+    def step(self) -> None:
+        """One more file is done."""
+        self.done += 1
+        now = time.monotonic()
+        if self.visible and (now >= self.next_time or self.done == self.total):
+            self.next_time = now + 0.1
+            filled = BAR * self.done // self.total
+            give_text(f"\r[{'#' * filled}{'.' * (BAR - filled)}] {self.done} of {self.total}", ERROR)
+
+
+def run(options, legend) -> int:
+    """The command `check`; gives the exit status."""
+    library()  # a missing library is said once, before any file
+    names, listed = files_in(options.operands)
+    names = without_own(names, options)
+    jobs = options.jobs or len(os.sched_getaffinity(0))
+    with ExitStack() as stack:
+        paths = [path for path in (options.csv, options.report) if path is not None]
+        outputs = {path: stack.enter_context(Output(path)) for path in paths}
+        journal = None
+        if options.json is not None and not is_stream(options.json):
+            journal = Journal(options.json, options.resume)
+            stack.callback(journal.file.close)
+        check = Check(names, options.kind, jobs, journal)
+        show_all(check)
+        keep_results(check, options, legend, outputs, jobs)
+    accepted, refused, unread = check.counts()
+    if unread:
+        complain(f"{unread} not read")
+    give_text(f"{accepted} accepted, {refused} refused\n")
+    if unread or not listed:
+        return 2
+    return 1 if refused else 0
+
+
+def without_own(names: list[str], options) -> list[str]:
+    """The files less those that this run writes itself."""
+    own = [path for path in (options.json, options.csv, options.report) if path is not None]
+    if options.json is not None:
+        own.append(options.json + ".part")
+    resolved = {os.path.realpath(path) for path in own}
+    return [name for name in names if not resolved or os.path.realpath(name) not in resolved]
+
+
+def show_all(check: Check) -> None:
+    """Judges every file and prints its line."""
+    progress = Progress(len(check.names))
+    try:
+        for record in check.run():
+            progress.clear()
+            give_text(line_of(record) + "\n")
+            progress.step()
+        progress.clear()
+    except KeyboardInterrupt:
+        progress.clear()
+        hint = ": --resume goes on from there" if check.journal is not None else ""
+        complain(f"interrupted after {len(check.records)} of {len(check.names)} files{hint}")
+        raise
+
+
+def keep_results(check: Check, options, legend, outputs: dict[str, Output], jobs: int) -> None:
+    """Writes the files that were asked for."""
+    if options.report is not None:
+        from .report import page
+
+        outputs[options.report].write(page(check, options.operands, legend, jobs))
+        outputs[options.report].keep()
+    if options.csv is not None:
+        write_csv(outputs[options.csv], check.records)
+        outputs[options.csv].keep()
+    if options.json is not None:
+        with Output(options.json) as output:
+            write_json(output, check.records)
+            output.keep()
+    if check.journal is not None:
+        check.journal.remove()

@@ -1,0 +1,260 @@
+"""Images: indexed PNG, ENVI classification and PGM keep the registers; PPM shows colours alone."""
+
+from __future__ import annotations
+
+import zlib
+from collections import namedtuple
+
+from .index import colours
+from .pictures import Picture, Tail
+from .screens import resolution_of, screen_in, screen_out, shape
+
+IMAGE_LIMIT = 1 << 22  # no PNG or PGM of a screen is longer
+SIGNATURE = b"\x89PNG\r\n\x1a\n"
+GREY, INDEXED = 0, 3  # PNG colour types
+PALETTE_KEYWORD = b"Atari ST palette"
+TAIL_KEYWORD = b"Atari ST tail"
+COMMENT = b"Comment\0Pixel values are colour registers."
+
+
+class BadImage(ValueError):
+    """An image that no picture can be made of."""
+
+
+class Image(namedtuple("Image", "width height pixels colours palette tail", defaults=(None, None, None))):
+    """Pixel values, one byte each, with the colours, palette words and tail words that the file gives, else None."""
+
+    __slots__ = ()
+    width: int
+    height: int
+    pixels: bytes
+
+
+def png_of(picture: Picture) -> bytes:
+    """An indexed PNG: its pixel values are the registers, its palette their colours."""
+    width, height, _ = shape(picture.resolution)
+    pixels = screen_out(picture.screen, picture.resolution)
+    rows = b"".join(b"\0" + pixels[start : start + width] for start in range(0, len(pixels), width))
+    header = width.to_bytes(4, "big") + height.to_bytes(4, "big") + bytes((8, INDEXED, 0, 0, 0))
+    palette = b"".join(map(bytes, colours(picture.resolution, picture.palette)))
+    made = [SIGNATURE, chunk(b"IHDR", header), chunk(b"PLTE", palette), chunk(b"tEXt", COMMENT)]
+    made.append(chunk(b"tEXt", PALETTE_KEYWORD + b"\0" + hex_words(picture.palette)))
+    if picture.tail_present:
+        tail = [word for table in picture.tail for word in table]
+        made.append(chunk(b"tEXt", TAIL_KEYWORD + b"\0" + hex_words(tail)))
+    return b"".join([*made, chunk(b"IDAT", zlib.compress(rows)), chunk(b"IEND", b"")])
+
+
+def chunk(name: bytes, data: bytes) -> bytes:
+    """A PNG chunk."""
+    return len(data).to_bytes(4, "big") + name + data + zlib.crc32(name + data).to_bytes(4, "big")
+
+
+def hex_words(words) -> bytes:
+    return b" ".join(b"%04x" % word for word in words)
+
+
+def envi_of(picture: Picture, legend=None) -> tuple[bytes, bytes]:
+    """An ENVI classification: the raw registers, and the header with class names and colours."""
+    width, height, _ = shape(picture.resolution)
+    shown = colours(picture.resolution, picture.palette)
+    lookup = ", ".join(str(part) for colour in shown for part in colour)
+    names = ", ".join(class_name(register, legend) for register in range(len(shown)))
+    header = (
+        "ENVI\n"
+        "description = {Colour registers of an Atari ST picture}\n"
+        f"samples = {width}\nlines = {height}\nbands = 1\nheader offset = 0\n"
+        "file type = ENVI Classification\ndata type = 1\ninterleave = bsq\nbyte order = 0\n"
+        f"classes = {len(shown)}\nclass lookup = {{{lookup}}}\nclass names = {{{names}}}\n"
+    )
+    return screen_out(picture.screen, picture.resolution), header.encode("utf-8")
+
+
+def class_name(register: int, legend=None) -> str:
+    """A register's name for a header in which commas and braces separate."""
+    if legend is None:
+        return f"register {register}"
+    entry = legend[register]
+    name = entry.name or f"class {entry.class_}"
+    plain = "".join(" " if c in ",{}=\\" or not c.isprintable() else c for c in name)
+    return f"{register} {plain} {entry.confidence}%"
+
+
+def greymap_of(picture: Picture) -> bytes:
+    """A portable greymap (P5), one byte a pixel: the register."""
+    return netpbm_header("P5", picture) + screen_out(picture.screen, picture.resolution)
+
+
+def pixmap_of(picture: Picture) -> bytes:
+    """A portable pixmap (P6), three bytes a pixel: the colour of its register."""
+    pixels = screen_out(picture.screen, picture.resolution)
+    shown = colours(picture.resolution, picture.palette)
+    painted = bytearray(3 * len(pixels))
+    for part in range(3):
+        table = bytes(colour[part] for colour in shown).ljust(256, b"\0")
+        painted[part::3] = pixels.translate(table)
+    return netpbm_header("P6", picture) + bytes(painted)
+
+
+def netpbm_header(mark: str, picture: Picture) -> bytes:
+    width, height, _ = shape(picture.resolution)
+    return f"{mark}\n{width} {height}\n255\n".encode("ascii")
+
+
+def picture_of(image: Image, palette=None, tail: Tail | None = None) -> Picture:
+    """The picture whose registers are an image's pixel values; refused with 10 where a value is no register.
+
+    Without a palette the words that the image carries are taken. Its colours must be the palette's, each at its
+    register: a program that makes an index from colours numbers them in an order of its own.
+    """
+    try:
+        resolution = resolution_of(image.width, image.height)
+    except ValueError as error:
+        raise BadImage(str(error)) from None
+    screen = screen_in(image.pixels, resolution)
+    words = image.palette if palette is None else palette
+    if words is None:
+        raise BadImage("the image has no palette words: name a palette, or a picture like it")
+    expected = colours(resolution, words)
+    found = expected if image.colours is None else image.colours[: len(expected)]
+    if found != expected[: len(found)]:
+        raise BadImage("its colours are not the palette's, so its values may not be registers")
+    if tail is None and image.tail is not None:
+        tail = Tail(*(tuple(image.tail[start : start + 4]) for start in range(0, 16, 4)))
+    return Picture(resolution, tuple(words), tail is not None, Tail() if tail is None else tail, screen)
+
+
+def read_image(data: bytes) -> Image:
+    """The pixel values of an indexed or 8 bit grey PNG, or of a PGM (P5)."""
+    if len(data) > IMAGE_LIMIT:
+        raise BadImage(f"longer than {IMAGE_LIMIT} bytes")
+    if data.startswith(SIGNATURE):
+        return read_png(data)
+    if data.startswith(b"P5"):
+        return read_greymap(data)
+    raise BadImage("neither a PNG nor a PGM (P5)")
+
+
+def read_greymap(data: bytes) -> Image:
+    """The values of a PGM as they stand."""
+    place = 2
+    numbers: list[int] = []
+    while len(numbers) < 3:
+        end = place
+        while data[end : end + 1].isdigit():
+            end += 1
+        if 0 < end - place < 10:
+            numbers.append(int(data[place:end]))
+            place = end
+        elif data[place : place + 1] == b"#":
+            place = data.find(b"\n", place) % (len(data) + 1)
+        elif data[place : place + 1].isspace():
+            place += 1
+        else:
+            raise BadImage("a PGM's header is width, height and largest value")
+    width, height, largest = numbers
+    pixels = data[place + 1 : place + 1 + width * height]
+    if not data[place : place + 1].isspace() or len(pixels) < width * height:
+        raise BadImage("the PGM ends before its last pixel")
+    if largest > 255:
+        raise BadImage("a PGM of one byte a pixel is needed")
+    return Image(width, height, pixels)
+
+
+def read_png(data: bytes) -> Image:
+    """The pixel values of an indexed or 8 bit grey PNG, not interlaced."""
+    header, body, palette, texts = b"", [], None, {}
+    for name, content in chunks(data):
+        if name == b"IHDR":
+            header = content
+        elif name == b"PLTE":
+            palette = [tuple(content[start : start + 3]) for start in range(0, len(content), 3)]
+        elif name == b"IDAT":
+            body.append(content)
+        elif name == b"tEXt" and b"\0" in content:
+            keyword, text = content.split(b"\0", 1)
+            texts[keyword] = words_of(text)
+    if len(header) != 13:
+        raise BadImage("a PNG begins with its header")
+    width, height = int.from_bytes(header[:4], "big"), int.from_bytes(header[4:8], "big")
+    depth, colour_type, _, _, interlace = header[8:]
+    if interlace or (colour_type, depth) not in ((GREY, 8), (INDEXED, 1), (INDEXED, 2), (INDEXED, 4), (INDEXED, 8)):
+        raise BadImage("an indexed PNG, not interlaced, is needed: colours are no registers")
+    try:
+        resolution_of(width, height)
+    except ValueError as error:
+        raise BadImage(str(error)) from None
+    rows = unfiltered(b"".join(body), (width * depth + 7) // 8, height)
+    pixels = b"".join(spread(row, depth)[:width] for row in rows)
+    return Image(width, height, pixels, palette, texts.get(PALETTE_KEYWORD), texts.get(TAIL_KEYWORD))
+
+
+def chunks(data: bytes):
+    """The name and content of each PNG chunk."""
+    place = len(SIGNATURE)
+    while place < len(data):
+        length = int.from_bytes(data[place : place + 4], "big")
+        name, content = data[place + 4 : place + 8], data[place + 8 : place + 8 + length]
+        check = data[place + 8 + length : place + 12 + length]
+        if check != zlib.crc32(name + content).to_bytes(4, "big"):
+            raise BadImage(f"the PNG is damaged at {place}")
+        yield name, content
+        if name == b"IEND":
+            return
+        place += 12 + length
+    raise BadImage("the PNG ends too early")
+
+
+def words_of(text: bytes) -> list[int] | None:
+    """16 words in hexadecimal, or None."""
+    fields = text.split()
+    if len(fields) != 16 or any(len(field) != 4 or field.strip(b"0123456789abcdef") for field in fields):
+        return None
+    return [int(field, 16) for field in fields]
+
+
+def unfiltered(body: bytes, row_bytes: int, height: int) -> list[bytes]:
+    """A PNG's rows, with one byte or less a pixel, without their filters."""
+    stream = zlib.decompressobj()
+    try:
+        data = stream.decompress(body, (row_bytes + 1) * height + 1)
+    except zlib.error as error:
+        raise BadImage(f"the PNG is damaged: {error}") from None
+    if len(data) != (row_bytes + 1) * height:
+        raise BadImage("the PNG has not as many pixels as its header says")
+    rows, above = [], bytes(row_bytes)
+    for start in range(0, len(data), row_bytes + 1):
+        above = unfilter(data[start], data[start + 1 : start + 1 + row_bytes], above)
+        rows.append(above)
+    return rows
+
+
+def unfilter(kind: int, row: bytes, above: bytes) -> bytes:
+    """One row without its filter, given the row above it."""
+    if kind == 0:
+        return row
+    if kind > 4:
+        raise BadImage("the PNG has an unknown filter")
+    made = bytearray(len(row))
+    left = corner = 0
+    for x, value in enumerate(row):
+        up = above[x]
+        left = made[x] = (value + (left, up, (left + up) // 2, paeth(left, up, corner))[kind - 1]) & 0xFF
+        corner = up
+    return bytes(made)
+
+
+def paeth(left: int, up: int, corner: int) -> int:
+    """PNG's predictor: the neighbour nearest to left + up - corner."""
+    guess = left + up - corner
+    return min((left, up, corner), key=lambda value: abs(guess - value))
+
+
+def spread(row: bytes, depth: int) -> bytes:
+    """One byte a pixel from 1, 2, 4 or 8 bits a pixel."""
+    if depth == 8:
+        return row
+    mask = (1 << depth) - 1
+    shifts = range(8 - depth, -1, -depth)
+    table = [bytes(value >> shift & mask for shift in shifts) for value in range(256)]
+    return b"".join(table[value] for value in row)

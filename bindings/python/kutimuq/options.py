@@ -1,0 +1,128 @@
+"""Command line options: a small parser, since importing argparse alone takes longer than all else at start-up."""
+
+from __future__ import annotations
+
+from collections import namedtuple
+from keyword import iskeyword
+from types import SimpleNamespace
+
+
+class WrongUse(Exception):
+    """The caller's arguments cannot be followed."""
+
+
+class Option(namedtuple("Option", "names metavar about parse required", defaults=(None, None, False))):
+    """An option: its names (the last is the attribute's), what stands for its value (None for a flag), help.
+
+    `parse(text)` gives the value, or raises ValueError.
+    """
+
+    __slots__ = ()
+
+    @property
+    def attribute(self) -> str:
+        """Where the value is found; None, or False for a flag, if the option is not given."""
+        name = self.names[-1].lstrip("-")
+        return name + "_" if iskeyword(name) else name
+
+    @property
+    def shown(self) -> str:
+        return ", ".join(self.names) + (f" {self.metavar}" if self.metavar else "")
+
+
+class Command(namedtuple("Command", "run about operands options")):
+    """A command: its function, help, the name and help of its operands (None if it has none), options.
+
+    Operands default to standard input, unless their name is marked with a `+`: then one is needed.
+    """
+
+    __slots__ = ()
+
+
+def parse(program: str, name: str, command: Command, arguments: list[str]) -> SimpleNamespace:
+    """The options and operands in a command's arguments."""
+    found = SimpleNamespace(operands=[], help=False)
+    by_name = {each: option for option in command.options for each in option.names}
+    for option in command.options:
+        setattr(found, option.attribute, None if option.metavar else False)
+    rest = iter(arguments)
+    for argument in rest:
+        if argument == "--":
+            found.operands += rest
+        elif argument in ("-h", "--help"):
+            found.help = True
+            return found
+        elif argument.startswith("-") and argument != "-":
+            take_option(found, by_name, argument, rest)
+        else:
+            found.operands.append(argument)
+    check_operands(found, command)
+    for option in command.options:
+        if option.required and getattr(found, option.attribute) is None:
+            raise WrongUse(f"{program} {name} needs {option.shown}")
+    return found
+
+
+def take_option(found: SimpleNamespace, by_name: dict[str, Option], argument: str, rest) -> None:
+    """One option, with its value from the same argument or the next."""
+    if argument.startswith("--"):
+        name, equals, after = argument.partition("=")
+        attached = after if equals else None
+    else:
+        name, attached = argument[:2], argument[2:] or None
+    option = by_name.get(name)
+    if option is None:
+        raise WrongUse(f"unknown option {argument!r}")
+    if option.metavar is None:
+        if attached is not None:
+            raise WrongUse(f"option {name} takes no value")
+        setattr(found, option.attribute, True)
+        return
+    value = attached
+    if value is None:
+        value = next(rest, None)
+    if value is None:
+        raise WrongUse(f"option {name} needs a value")
+    try:
+        setattr(found, option.attribute, option.parse(value) if option.parse else value)
+    except ValueError as error:
+        raise WrongUse(f"option {name}: {error}") from None
+
+
+def check_operands(found: SimpleNamespace, command: Command) -> None:
+    """Standard input where no file is named; no operands where none are taken."""
+    if command.operands is None:
+        if found.operands:
+            raise WrongUse(f"{found.operands[0]!r} is too much")
+    elif not found.operands:
+        if command.operands.endswith("+"):
+            raise WrongUse(f"a {command.operands[:-1]} is needed")
+        found.operands = ["-"]
+
+
+def choice(names: list[str]):
+    """A parser of one of these names."""
+
+    def parse_choice(text: str) -> str:
+        if text not in names:
+            raise ValueError(f"{text!r} is none of {', '.join(names)}")
+        return text
+
+    return parse_choice
+
+
+def command_help(program: str, name: str, command: Command) -> str:
+    """The help of a command."""
+    needed = "".join(f" {option.shown}" for option in command.options if option.required)
+    operands = "" if command.operands is None else f" {command.operands.rstrip('+')}..."
+    lines = [f"usage: {program} {name}{needed} [OPTION]...{operands}", "", command.about, ""]
+    if command.operands is not None and not command.operands.endswith("+"):
+        lines += [f"Without a {command.operands} standard input is read.", ""]
+    rows = [(option.shown, option.about or "") for option in command.options] + [("-h, --help", "this help")]
+    return "\n".join(lines + columns(rows)) + "\n"
+
+
+def columns(rows: list[tuple[str, str]]) -> list[str]:
+    """Two columns of text."""
+    width = max(len(left) for left, _ in rows)
+    return [f"  {left:<{width}}  {right}".rstrip() for left, right in rows]

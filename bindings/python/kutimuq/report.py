@@ -1,0 +1,142 @@
+"""The report on a box: one HTML page with everything in it."""
+
+from __future__ import annotations
+
+import json
+import os
+import time
+from base64 import b64encode
+from hashlib import sha256
+from html import escape
+from importlib.resources import files as package_files
+
+from . import __version__, kinds
+from .box import Check, least_rewriting, spread_over
+from .files import shown, take
+from .images import png_of
+from .index import colours
+from .pictures import read
+from .refusals import Refused
+from .screens import shape
+
+TITLES = ("low", "medium", "high")
+
+
+def page(check: Check, paths: list[str], legend, jobs: int) -> bytes:
+    """The page for a run over these paths."""
+    template = package_files(__package__).joinpath("page.html").read_text("utf-8")
+    accepted, refused, unread = check.counts()
+    copies = copies_of(check.records)
+    first = [record for record in check.records if record["number"] == 0 and record["same_as"] is None]
+    parts = {
+        "BOX": ", ".join(text(path) for path in paths),
+        "DATE": time.strftime("%Y-%m-%d %H:%M"),
+        "VERSION": __version__,
+        "COUNTS": counts_line(accepted, refused, unread, len(check.records) - unread - refused - len(first)),
+        "REFUSED": refused_table(check.records),
+        "DUPLICATES": duplicates_list(copies),
+        "PICTURES": figures(first, copies, jobs),
+        "DATA": data_of(first, legend),
+    }
+    return filled(template, parts).encode("utf-8", "backslashreplace")
+
+
+def filled(template: str, parts: dict[str, str]) -> str:
+    """The template with each @@NAME@@ replaced; what is put in is not looked at again."""
+    pieces = template.split("@@")
+    pieces[1::2] = [parts[name] for name in pieces[1::2]]
+    return "".join(pieces)
+
+
+def text(name: str) -> str:
+    """A file's name as HTML."""
+    return escape(shown(name))
+
+
+def counts_line(accepted: int, refused: int, unread: int, duplicates: int) -> str:
+    line = f"{accepted} accepted, {refused} refused"
+    if duplicates:
+        line += f"; {duplicates} of the accepted files repeat a picture"
+    return line + (f"; {unread} not read" if unread else "")
+
+
+def refused_table(records: list[dict]) -> str:
+    """The files that were refused or not read."""
+    bad = [record for record in records if record["number"] != 0]
+    if not bad:
+        return "<p>None.</p>"
+    keys = ["name", "kind", "number", "place", "meaning"]
+    keys += [key for key in ("plane_row", "good_bytes") if any(record[key] is not None for record in bad)]
+    rows = ["<tr>" + "".join(f"<th>{key.replace('_', ' ')}</th>" for key in keys) + "</tr>"]
+    for record in bad:
+        told = dict(record)
+        if record["error"] is not None:
+            told["meaning"] = f"not read: {record['error']}"
+        cells = ("" if told[key] is None else text(str(told[key])) for key in keys)
+        rows.append("<tr>" + "".join(f"<td>{cell}</td>" for cell in cells) + "</tr>")
+    return "<table>" + "\n".join(rows) + "</table>"
+
+
+def copies_of(records: list[dict]) -> dict[str, list[str]]:
+    """For the first file of each picture that is there more than once, the others."""
+    copies: dict[str, list[str]] = {}
+    for record in records:
+        if record["same_as"] is not None:
+            copies.setdefault(record["same_as"], []).append(record["name"])
+    return copies
+
+
+def duplicates_list(copies: dict[str, list[str]]) -> str:
+    if not copies:
+        return "<p>None.</p>"
+    rows = (f"<li>{text(first)}: {', '.join(map(text, others))}</li>" for first, others in copies.items())
+    return "<ul>" + "\n".join(rows) + "</ul>"
+
+
+def figures(records: list[dict], copies: dict[str, list[str]], jobs: int) -> str:
+    """The contact sheet."""
+    images = spread_over(image_of, [(record["name"], record["kind"], record["sha256"]) for record in records], jobs)
+    made = []
+    for record, image in zip(records, images):
+        name = text(record["name"])
+        more = f" and {len(copies[record['name']])} more" if record["name"] in copies else ""
+        about = f"{escape(record['kind'])}, {TITLES[record['resolution']]}{more}"
+        source = f"data:image/png;base64,{image}"
+        picture = f'<img loading="lazy" alt="" src="{source}">' if image else "<p>changed since it was judged</p>"
+        caption = f"<figcaption><b>{text(os.path.basename(record['name']))}</b> {about}</figcaption>"
+        made.append(f'<figure tabindex="0" title="{name}">{picture}{caption}</figure>')
+    return "\n".join(made) or "<p>None.</p>"
+
+
+def image_of(name: str, kind: str, digest: str) -> str:
+    """A picture as base64 of an indexed PNG; empty if the file is not what was judged."""
+    try:
+        picture = read(take(name), kinds.kind_titled(kind))
+    except (OSError, Refused):
+        return ""
+    if sha256(least_rewriting(picture)[1]).hexdigest() != digest:
+        return ""
+    return b64encode(png_of(picture)).decode("ascii")
+
+
+def data_of(records: list[dict], legend) -> str:
+    """What the page's program shows beside a picture."""
+    pictures = []
+    for record in records:
+        width, height, _ = shape(record["resolution"])
+        pictures.append(
+            {
+                "name": shown(record["name"]),
+                "width": width,
+                "height": height,
+                "tally": record["tally"],
+                "palette": [f"{word:04x}" for word in record["palette"]],
+                "colours": colours(record["resolution"], record["palette"]),
+                "facts": f"{record['kind']}, {TITLES[record['resolution']]} resolution, SHA-256 {record['sha256']}",
+            }
+        )
+    entries = None
+    if legend is not None:
+        entries = [{"class": e.class_, "confidence": e.confidence, "owner": e.owner, "name": e.name} for e in legend]
+    data = json.dumps({"pictures": pictures, "legend": entries})
+    return data.replace("<", "\\u003c")

@@ -1,0 +1,138 @@
+"""The report page, as text and in a browser."""
+
+import re
+import shutil
+import subprocess
+import tempfile
+import unittest
+from html.parser import HTMLParser
+from pathlib import Path
+from unittest import mock
+
+import kutimuq
+from kutimuq import Form, box, report
+
+from .support import BLANK, PALETTE, SAMPLES, TAIL, blocks, command
+
+# Opens a picture, points at a pixel of it and marks the page as ready.
+POINT = """<script>
+open(%d).then(() => {
+  const area = part("screen").getBoundingClientRect();
+  const at = {clientX: area.left + 1 + (%d + .5) * (area.width - 2) / data.pictures[%d].width,
+              clientY: area.top + 1 + (%d + .5) * (area.height - 2) / data.pictures[%d].height};
+  part("screen").dispatchEvent(new MouseEvent("mousemove", at));
+});
+</script></body>"""
+
+
+class Tags(HTMLParser):
+    """The tags of a page, in order, with their attributes."""
+
+    def __init__(self, page):
+        super().__init__()
+        self.found = []
+        self.feed(page)
+
+    def handle_starttag(self, tag, attributes):
+        self.found.append((tag, dict(attributes)))
+
+
+class Page(unittest.TestCase):
+    def setUp(self):
+        folder = tempfile.TemporaryDirectory()
+        self.addCleanup(folder.cleanup)
+        self.out = Path(folder.name)
+        self.folder = self.out / "box <i>&\"'"
+        self.folder.mkdir()
+        self.path = self.out / "page.html"
+        shutil.copy(SAMPLES / "ponds.pc1", self.folder / "A.PC1")
+        self.picture = kutimuq.from_registers(blocks(1), PALETTE, TAIL)
+        self.put("B.PI2", kutimuq.write(self.picture, self.picture.screen, Form.ELITE))
+        self.put("C.PC2", kutimuq.write(self.picture, self.picture.screen, Form.PACKED))
+        self.put("D<script>alert(1)<\\script>.PC1", BLANK[:-1])
+        self.put("@@DATA@@.PC1", BLANK[:40])
+
+    def put(self, name, data):
+        (self.folder / name).write_bytes(data)
+
+    def page(self, *arguments):
+        done = command("check", self.folder, "--report", self.path, *arguments)
+        self.assertEqual((done.stderr, done.returncode), (b"", 1))
+        return self.path.read_text(encoding="utf-8")
+
+    def test_order(self):
+        page = self.page()
+        places = [page.index(text) for text in (
+            "3 accepted, 2 refused; 1 of the accepted files repeat a picture", "</h2>", "<td>8</td><td>1634</td>",
+            ">Duplicates</h2>", "B.PI2: ", ">Pictures</h2>", "<img ",
+        )]
+        self.assertEqual(places, sorted(places))
+        self.assertIn("<td>after the body not exactly 32 bytes</td>", page)
+
+    def test_self_contained(self):
+        page = self.page()
+        tags = Tags(page).found
+        self.assertEqual([tag for tag, _ in tags].count("img"), 2)
+        for tag, attributes in tags:
+            self.assertTrue(attributes.get("href", "#").startswith("#"), (tag, attributes))
+            self.assertTrue(attributes.get("src", "data:").startswith("data:"), (tag, attributes))
+        self.assertNotRegex(page, "https?://")
+
+    def test_names_are_text(self):
+        legend = self.out / "legend"
+        legend.write_text("1 1 us </script><i>\n" + "2 2\n" * 15)
+        tags = [tag for tag, _ in Tags(self.page("--legend", legend)).found]
+        self.assertEqual((tags.count("script"), tags.count("i")), (2, 0))
+        self.assertIn("D&lt;script&gt;alert(1)", self.page())
+        self.assertIn("@@DATA@@.PC1</td>", self.page())
+
+    def test_a_file_that_changed_since(self):
+        judged = box.judge(str(self.folder / "A.PC1"))
+        arguments = (judged["name"], judged["kind"], judged["sha256"])
+        self.assertTrue(report.image_of(*arguments))
+        self.put("A.PC1", BLANK)
+        self.assertEqual(report.image_of(*arguments), "")
+        (self.folder / "A.PC1").unlink()
+        self.assertEqual(report.image_of(*arguments), "")
+
+    def test_rows_and_bytes_where_they_are_known(self):
+        self.assertNotIn("plane row", self.page())
+        read = mock.Mock(side_effect=kutimuq.Refused(7, 40, 5, 12))
+        with mock.patch.object(box, "read", read):
+            command("check", self.folder, "--report", self.path)
+        self.assertIn("<td>5</td><td>12</td>", self.path.read_text())
+        self.assertIn("<th>plane row</th><th>good bytes</th>", self.path.read_text())
+
+    @unittest.skipUnless(shutil.which("chromium"), "chromium is not installed")
+    def test_in_a_browser(self):
+        page = self.page("--legend", SAMPLES / "ponds.legend")
+        shown = self.shown(page, 0, 200, 20)
+        self.assertEqual(self.text(shown, "pointer"), (
+            "x 200, y 20: register 2, class 2 magnesium brine, confidence 95 %, colour  255 109 182"
+        ))
+        counts = re.findall(r"<tr[^>]*><td>(\d+)</td><td>(\d+)</td>", shown)
+        tally = kutimuq.open(self.folder / "A.PC1").tally()
+        self.assertEqual(counts, [(str(register), str(count)) for register, count in enumerate(tally)])
+        self.assertRegex(shown, r'<tr class="under"><td>2</td>')
+
+    @unittest.skipUnless(shutil.which("chromium"), "chromium is not installed")
+    def test_in_a_browser_without_a_legend(self):
+        register = blocks(1)[150][555]
+        colour = " ".join(map(str, kutimuq.colour(1, PALETTE, register)))
+        shown = self.shown(self.page(), 1, 555, 150)
+        self.assertEqual(self.text(shown, "pointer"), f"x 555, y 150: register {register}, no legend, colour  {colour}")
+
+    def shown(self, page, number, x, y):
+        """The page's content after a browser ran it and pointed at a pixel."""
+        tried = self.out / "tried.html"
+        tried.write_text(page.replace("</body>", POINT % (number, x, number, y, number)), encoding="utf-8")
+        done = subprocess.run(
+            ["chromium", "--headless", "--no-sandbox", "--disable-gpu", "--window-size=1600,1200",
+             f"--user-data-dir={self.out / 'chromium'}", "--virtual-time-budget=5000", "--dump-dom", tried.as_uri()],
+            capture_output=True, timeout=60,
+        )
+        return done.stdout.decode()
+
+    def text(self, shown, name):
+        """The text of the element with this name."""
+        return re.sub("<[^>]*>", "", re.search(f'<div id="{name}">(.*?)</div>', shown, re.DOTALL)[1])
