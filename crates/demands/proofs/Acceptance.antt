@@ -1,11 +1,11 @@
 -- Demand 2: a file is accepted exactly when it fits, and then gives what its parts are.
-use mathlib.Core.Path.{_≡_, refl, sym, ap, _∙_}
+use mathlib.Core.Path.{_≡_, sym, ap, _∙_}
 use mathlib.Core.Logic.{_↔_}
 use mathlib.Core.List.{List}
 use Prim.Native.Nat.{ℕ, _≤_}
 use Rattle.lists.specs.Bytes.{Bytes}
 use Rattle.outcome.specs.declared.Refusal.{Refusal}
-use Rattle.outcome.specs.Outcome.{Outcome, accepted, refused, refusalOf, Judged}
+use Rattle.outcome.specs.Outcome.{Outcome, accepted, Judged}
 use Rattle.outcome.proofs.Outcome.{judged-accepted, judged-value, judged-map}
 use Rattle.resolution.specs.Shapes.{screenBytes}
 use Rattle.picture.specs.Reading.{Reading, readAnswer}
@@ -20,11 +20,7 @@ use Rattle.tiny.specs.Reading.{readTiny}
 use Rattle.tiny.proofs.Acceptance as tiny-laws
 use Rattle.reader.proofs.Choice.{file-degas, file-neochrome, file-tiny, readFile-judged}
 use Rattle.demands.specs.Accepted.{Accepts, degas, neochrome, tiny, given}
-
--- an answer's refusal is the outcome's
-answer-refusal : (o : Outcome Reading) → readAnswer o .refusal ≡ refusalOf o
-answer-refusal (accepted q) = refl
-answer-refusal (refused why) = refl
+use Rattle.demands.proofs.Answers.{read-answer}
 
 module _ (kind : ℕ) (file : List ℕ) (area : ℕ) where
   -- what is read of a file that fits
@@ -65,7 +61,7 @@ module _ (kind : ℕ) (file : List ℕ) (area : ℕ) where
     acceptance bytes = (
       λ e.
           judged-accepted Given (readFile kind file area) (file-judged bytes)
-          (sym (ap (λ (why : Refusal). why .number) (answer-refusal (readFile kind file area))) ∙ e)
+          (sym (ap (λ (why : Refusal). why .number) (read-answer (readFile kind file area))) ∙ e)
           .2 .0,
       λ a. ap (λ (o : Outcome Reading). readAnswer o .refusal .number) (file-complete a),
     )

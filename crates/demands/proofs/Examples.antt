@@ -8,7 +8,8 @@ use native.Mathlib.Nat.{le-of-suc-le-suc, not-suc-le-zero}
 use lib.ListN.{length, getD}
 use lib.Dec.{T, leb, eqb, leb→le, eqb→eq}
 use Rattle.lists.specs.Sum.{sum}
-use Rattle.outcome.specs.Outcome.{Outcome, accepted, refused, refusal}
+use Rattle.outcome.specs.declared.Refusal.{Refusal}
+use Rattle.outcome.specs.Outcome.{Outcome, accepted, refused, rowRefusal}
 use Rattle.words.specs.Word.{wordAt, wordBytes, wordsBytes}
 use Rattle.packbits.specs.Records.{control, recordAt}
 use Rattle.packbits.specs.Row.{Row, done}
@@ -44,11 +45,14 @@ same-list (x ∷ xs) (y ∷ ys) t =
     let h = both (eqb x y) (same xs ys) t in
     ap₂ (λ (a : ℕ) (l : List ℕ). a ∷ l) (eqb→eq x y (h .0)) (same-list xs ys (h .1))
 
+abbrev numbers : Refusal → List ℕ
+numbers why = why .number ∷ why .place ∷ why .«plane_row» ∷ why .«good_bytes» ∷ []
+
 abbrev sameOutcome : Outcome Row → Outcome Row → Bool
 sameOutcome (accepted r) (accepted s) = same (r .bytes ∷ r .records ∷ r .made) (s .bytes ∷ s .records ∷ s .made)
 sameOutcome (accepted r) (refused w) = false
 sameOutcome (refused v) (accepted s) = false
-sameOutcome (refused v) (refused w) = same (v .number ∷ v .place ∷ []) (w .number ∷ w .place ∷ [])
+sameOutcome (refused v) (refused w) = same (numbers v) (numbers w)
 
 same-outcome : (a b : Outcome Row) → T (sameOutcome a b) → a ≡ b
 same-outcome (accepted r) (accepted s) t =
@@ -60,12 +64,13 @@ same-outcome (accepted r) (accepted s) t =
 same-outcome (accepted r) (refused w) t = absurd t
 same-outcome (refused v) (accepted s) t = absurd t
 same-outcome (refused v) (refused w) t =
-    why (v .number) (v .place) (w .number) (w .place)
-    (same-list (v .number ∷ v .place ∷ []) (w .number ∷ w .place ∷ []) t)
+    why (v .number) (v .place) (v .«plane_row») (v .«good_bytes») (w .number) (w .place) (w .«plane_row»)
+    (w .«good_bytes»)
+    (same-list (numbers v) (numbers w) t)
   where
-    why : (n o m p : ℕ) → (n ∷ o ∷ []) ≡ (m ∷ p ∷ [])
-        → _≡_ {A = Outcome Row} (refused (refusal n o)) (refused (refusal m p))
-    why n o m p e = cc
+    why : (n o r g m p s h : ℕ) → numbers (rowRefusal n o r g) ≡ numbers (rowRefusal m p s h)
+        → _≡_ {A = Outcome Row} (refused (rowRefusal n o r g)) (refused (rowRefusal m p s h))
+    why n o r g m p s h e = cc
 
 -- ---- the test of an example, and what it tells
 
@@ -89,8 +94,11 @@ test (firstRegister words v) = eqb (register (wordsBytes words) Low 0 0) v
 test-holds : (e : Example) → T (test e) → Holds e
 unfolding test
 test-holds (rowPacked row body) t =
-    let h = both (leb (length row) 128) (same (least row) body) t in
-    (leastRecords row, subst (λ (b : List ℕ). IsLeast row b (leastRecords row)) (same-list (least row) body (h .1)) (least-is-least row (leb→le (length row) 128 (h .0))))
+    let h = both (leb (length row) 128) (same (least row) body) t in (
+      leastRecords row,
+      subst (λ (b : List ℕ). IsLeast row b (leastRecords row)) (same-list (least row) body (h .1))
+          (least-is-least row (leb→le (length row) 128 (h .0))),
+    )
 test-holds (rowUnpacked packed width outcome) t = same-outcome (unpackRow packed width width) outcome t
 test-holds (coloured word red green blue) t =
     same-colour (wordColour word) red green blue (same-list (levels (wordColour word)) (red ∷ green ∷ blue ∷ []) t)
@@ -109,7 +117,8 @@ at (e ∷ es) t zero h d = test-holds e (both (test e) (every es) t .0)
 at (e ∷ es) t (suc k) h d = at es (both (test e) (every es) t .1) k (le-of-suc-le-suc h) d
 
 all : T (every table)
-unfolding every test scan packing.prepend unpackRow outcomeOf progress progressWithin unpacking.step recordAt control wordColour field stretch register wordsBytes wordBytes wordAt groupOffset wordOffset pixelBit sum flatten
+unfolding every test scan packing.prepend unpackRow outcomeOf progress progressWithin unpacking.step recordAt control
+    wordColour field stretch register wordsBytes wordBytes wordAt groupOffset wordOffset pixelBit sum flatten
 all = tt
 
 -- "The twelve marked P (bytes in hex) form a single table, proved once as a whole against the definitions."

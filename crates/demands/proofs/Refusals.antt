@@ -1,7 +1,10 @@
 -- Demand 1: "Bad input gets the refusal number that document 01 gives for it, and then no byte of any lent area has
--- changed." Which number it is, the contracts' definitions say; here, for each public operation, what any refusal
--- leaves and gives.
-use mathlib.Core.Path.{refl}
+-- changed." Which number it is, the contracts' definitions say; here, for each public function, what any refusal leaves
+-- and gives. `report::summarise` has its own law (report/proofs/Summary.antt, `summary-refused`). `unpack::unpack_into`
+-- and `bodies::unpack_body` write what the whole records before a fault make, as their contracts say; the operations
+-- above them lend them areas of their own. `words::put_words` refuses nothing.
+use mathlib.Core.Path.{_≡_, refl}
+use mathlib.Core.Bool.{false}
 use mathlib.Core.List.{List}
 use Prim.Native.Nat.{ℕ}
 use lib.ListN.{length}
@@ -10,8 +13,12 @@ use Rattle.outcome.specs.Outcome.{Outcome, accepted, refused}
 use Rattle.outcome.proofs.Outcome.{kept}
 use Rattle.packbits.specs.Row.{Row}
 use Rattle.packbits.specs.Unpack.{unpackRow}
-use Rattle.pack.specs.Pack.{packRow}
+use Rattle.pack.specs.Pack.{packRow, packInto}
+use Rattle.raster.specs.declared.Raster.{Raster}
+use Rattle.raster.specs.PlaneRows.{rowFits, takeRow, putRow}
+use Rattle.bodies.specs.Packing.{PackedBody, packBody}
 use Rattle.lines.specs.Lines.{lineOut, lineIn}
+use Rattle.lines.specs.Screens.{screenOut, screenIn}
 use Rattle.tally.specs.declared.Rectangle.{Rectangle}
 use Rattle.tally.specs.Counts.{tallied}
 use Rattle.colour.specs.Palette.{Rgb}
@@ -22,15 +29,26 @@ use Rattle.pond.specs.Reading.{pondReading}
 use Rattle.picture.specs.declared.Picture.{Picture}
 use Rattle.picture.specs.Reading.{Reading}
 use Rattle.picture.specs.Writing.{Writing}
+use Rattle.degas.specs.declared.Form.{Form}
+use Rattle.degas.specs.Reading.{readDegas}
+use Rattle.degas.specs.Writing.{writeDegas}
+use Rattle.neochrome.specs.Reading.{readNeochrome}
+use Rattle.neochrome.specs.Writing.{writeNeochrome}
+use Rattle.tiny.specs.Reading.{readTiny}
 use Rattle.reader.specs.Reading.{readFile}
 use Rattle.writer.specs.Writing.{writeFile}
-use Rattle.demands.specs.Refusals.{Kept, RowRefusal, TallyRefusal, ColourRefusal, PondRefusal, ReadRefusal, WriteRefusal}
+use Rattle.demands.specs.Refusals.{Kept, RowRefusal, BodyRefusal, TallyRefusal, ColourRefusal, PondRefusal}
+use Rattle.demands.specs.Refusals.{ReadRefusal, WriteRefusal}
 
 -- ---- any outcome
 
 row-refusal : (o : Outcome Row) (out : List ℕ) → RowRefusal o out
 row-refusal (accepted r) out h = absurd (h refl)
 row-refusal (refused why) out h = (refl, refl, refl)
+
+body-refusal : (o : Outcome PackedBody) (out : List ℕ) → BodyRefusal o out
+body-refusal (accepted b) out h = absurd (h refl)
+body-refusal (refused why) out h = (refl, refl, refl)
 
 tally-refusal : (o : Outcome (List ℕ)) → TallyRefusal o
 tally-refusal (accepted c) h = absurd (h refl)
@@ -52,20 +70,53 @@ write-refusal : (o : Outcome Writing) (out : List ℕ) → WriteRefusal o out
 write-refusal (accepted w) out h = absurd (h refl)
 write-refusal (refused why) out h = (refl, refl, refl, refl)
 
--- ---- each public operation
+-- ---- each public function
 
 pub read-refused : (kind : ℕ) (file area : List ℕ) → ReadRefusal (readFile kind file (length area)) area
 read-refused kind file area = read-refusal (readFile kind file (length area)) area
 
+pub read-degas-refused : (file area : List ℕ) → ReadRefusal (readDegas file (length area)) area
+read-degas-refused file area = read-refusal (readDegas file (length area)) area
+
+pub read-neochrome-refused : (file area : List ℕ) → ReadRefusal (readNeochrome file (length area)) area
+read-neochrome-refused file area = read-refusal (readNeochrome file (length area)) area
+
+pub read-tiny-refused : (file area : List ℕ) → ReadRefusal (readTiny file (length area)) area
+read-tiny-refused file area = read-refusal (readTiny file (length area)) area
+
 pub write-refused : (form : ℕ) (p : Picture) (screen out : List ℕ)
     → WriteRefusal (writeFile form p screen (length out)) out
 write-refused form p screen out = write-refusal (writeFile form p screen (length out)) out
+
+pub write-degas-refused : (form : Form) (p : Picture) (screen out : List ℕ)
+    → WriteRefusal (writeDegas form p screen (length out)) out
+write-degas-refused form p screen out = write-refusal (writeDegas form p screen (length out)) out
+
+pub write-neochrome-refused : (p : Picture) (screen out : List ℕ)
+    → WriteRefusal (writeNeochrome p screen (length out)) out
+write-neochrome-refused p screen out = write-refusal (writeNeochrome p screen (length out)) out
 
 pub pack-refused : (row out : List ℕ) → RowRefusal (packRow row (length out)) out
 pack-refused row out = row-refusal (packRow row (length out)) out
 
 pub unpack-refused : (packed : List ℕ) (width : ℕ) (out : List ℕ) → RowRefusal (unpackRow packed width (length out)) out
 unpack-refused packed width out = row-refusal (unpackRow packed width (length out)) out
+
+pub pack-into-refused : (row out : List ℕ) → RowRefusal (packInto row (length out)) out
+pack-into-refused row out = row-refusal (packInto row (length out)) out
+
+pub pack-body-refused : (area : List ℕ) (r : Raster) (limit : ℕ) (out : List ℕ)
+    → BodyRefusal (packBody r area limit (length out)) out
+pack-body-refused area r limit out = body-refusal (packBody r area limit (length out)) out
+
+-- these two report nothing: where the row does not fit nothing changes
+pub take-row-kept : (area : List ℕ) (r : Raster) (n : ℕ) (row : List ℕ)
+    → rowFits (length area) r n (length row) ≡ false → takeRow area r n row ≡ row
+take-row-kept area r n row h = rw h
+
+pub put-row-kept : (area : List ℕ) (r : Raster) (n : ℕ) (row : List ℕ)
+    → rowFits (length area) r n (length row) ≡ false → putRow area r n row ≡ area
+put-row-kept area r n row h = rw h
 
 pub line-out-refused : (screen : List ℕ) (number y : ℕ) (out : List ℕ)
     → Kept (lineOut screen number y (length out)) (λ l. over l out) out
@@ -74,6 +125,14 @@ line-out-refused screen number y out = kept (lineOut screen number y (length out
 pub line-in-refused : (screen : List ℕ) (number y : ℕ) (line : List ℕ)
     → Kept (lineIn screen number y line) (λ s. s) screen
 line-in-refused screen number y line = kept (lineIn screen number y line) (λ s. s) screen
+
+pub screen-out-refused : (screen : List ℕ) (number : ℕ) (out : List ℕ)
+    → Kept (screenOut screen number (length out)) (λ l. over l out) out
+screen-out-refused screen number out = kept (screenOut screen number (length out)) (λ l. over l out) out
+
+pub screen-in-refused : (screen : List ℕ) (number : ℕ) (registers : List ℕ)
+    → Kept (screenIn screen number registers) (λ s. s) screen
+screen-in-refused screen number registers = kept (screenIn screen number registers) (λ s. s) screen
 
 pub colour-refused : (number : ℕ) (palette : List ℕ) (register : ℕ) → ColourRefusal (shown number palette register)
 colour-refused number palette register = colour-refusal (shown number palette register)

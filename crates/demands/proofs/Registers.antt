@@ -1,6 +1,6 @@
 -- Demand 2: every register of every pixel, as the lent area holds it after an accepted reading.
 use mathlib.Core.Path.{_≡_, refl, sym, ap, _∙_}
-use mathlib.Core.Bool.{Bool, true, false, true≢false, false≢true}
+use mathlib.Core.Bool.{true, false, true≢false, false≢true}
 use mathlib.Core.List.{List}
 use Prim.Native.Nat.{ℕ, _+_, _*_, _/_, _%_, _^_, _≤_, _<_}
 use native.Mathlib.Omega.{arith}
@@ -131,7 +131,8 @@ module _ (file area : List ℕ) (room : screenBytes ≤ length area) (x y : ℕ)
     -- a packed DEGAS file: one bit from each of the scan line's plane rows, as the body unpacks to them
     pub packed-register : isPacked file ≡ true → (p : PackedFits file (d .resolution))
         → register (read kindDegas) (d .resolution) x y
-        ≡ rowsRegister (d .resolution) (λ plane. planeRow (p .screen) (rasterOf (d .resolution)) (y * planesOf (d .resolution) + plane)) x
+        ≡ rowsRegister (d .resolution)
+        (λ plane. planeRow (p .screen) (rasterOf (d .resolution)) (y * planesOf (d .resolution) + plane)) x
     packed-register e p =
         area-register kindDegas file area room (degas refl d) (d .resolution) x y hx hy
         ∙ ap (λ (s : List ℕ). register s (d .resolution) x y) (packed-screen file (d .resolution) e (d .fits) p)

@@ -30,7 +30,7 @@ use Rattle.neochrome.proofs.Writing as neochrome-writing
 use Rattle.reader.specs.Reading.{kindDegas, kindNeochrome, readFile}
 use Rattle.reader.proofs.Choice.{file-degas, file-neochrome}
 use Rattle.writer.specs.Writing.{formPlain, formElite, formPacked, formNeochrome, writeFile}
-use Rattle.writer.proofs.Choice.{form-plain, form-elite, form-packed, form-neochrome, writeFile-judged}
+use Rattle.writer.proofs.Choice.{form-plain, form-elite, form-neochrome, writeFile-judged}
 use Rattle.demands.specs.RoundTrips.{kindOf, readBack}
 use Rattle.demands.proofs.Acceptance.{file-whole}
 
@@ -73,7 +73,8 @@ module _ (p : Picture) (whole : WholePicture p) (screen : List ℕ) (area : ℕ)
 
 -- ---- forms 1, 2 and 4 are written whatever the screen; when form 3 is, LeastBodies says
 
-module _ (form : ℕ) (p : Picture) (screen : List ℕ) (out : ℕ) (r : Resolution) (passed : Passed (length screen) out (p .resolution) r) where
+module _ (form : ℕ) (p : Picture) (screen : List ℕ) (out : ℕ) (r : Resolution)
+    (passed : Passed (length screen) out (p .resolution) r) where
   abbrev number : Outcome Writing → ℕ
   number o = writeAnswer o .refusal .number
 
@@ -86,8 +87,8 @@ module _ (form : ℕ) (p : Picture) (screen : List ℕ) (out : ℕ) (r : Resolut
   unpacked-written (inr (inr e)) =
       ap number (form-neochrome form p screen out e ∙ neochrome-writing.write-passed p screen out r passed)
 
--- ---- "Writing a picture and reading it back gives the same resolution, palette and registers, with the tail that document 01 names for
--- the form."
+-- ---- "Writing a picture and reading it back gives the same resolution, palette and registers, with the tail that
+-- document 01 names for the form."
 
 module _ (form : ℕ) (p : Picture) (screen out area : List ℕ) where
   abbrev written : Outcome Writing
@@ -100,9 +101,11 @@ module _ (form : ℕ) (p : Picture) (screen out area : List ℕ) where
   abbrev reading : Outcome Reading
   reading = readFile (kindOf form) (fileOf written) (length area)
 
-  module _ (whole : WholePicture p) (room : screenBytes ≤ length area) (ok : writeAnswer written .refusal .number ≡ 0) where
+  module _ (whole : WholePicture p) (room : screenBytes ≤ length area)
+      (ok : writeAnswer written .refusal .number ≡ 0) where
     -- resolution, palette, tail and counts
-    pub round-trip : reading ≡ accepted (readBack form p screen (writeAnswer written .body) (writeAnswer written .records))
+    pub round-trip : reading
+        ≡ accepted (readBack form p screen (writeAnswer written .body) (writeAnswer written .records))
     round-trip = go written (file-back p whole screen (length area) room form (length out)) ok
       where
         go : (o : Outcome Writing) → Judged (ReadsBack p whole screen (length area) room form) o
@@ -129,7 +132,8 @@ module _ (form : ℕ) (p : Picture) (screen out area : List ℕ) where
     register-back r x y hx hy =
         ap (λ (o : Outcome Reading). register (readArea o area) r x y) round-trip
         ∙ register-front (over (take screenBytes screen) area) screen
-        (λ o h. getD-over-in (take screenBytes screen) area o 0 (omega (arith, full)) ∙ getD-take screenBytes screen o 0 h)
+        (λ o h. getD-over-in (take screenBytes screen) area o 0 (omega (arith, full))
+        ∙ getD-take screenBytes screen o 0 h)
         r
         x
         y

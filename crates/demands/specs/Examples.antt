@@ -3,7 +3,7 @@ use Prim.Native.Nat.{ℕ}
 use mathlib.Core.Path.{_≡_}
 use mathlib.Core.List.{List, [], _∷_}
 use lib.ListN.{replicate}
-use Rattle.outcome.specs.Outcome.{Outcome, refuse}
+use Rattle.outcome.specs.Outcome.{Outcome, refused, rowRefusal}
 use Rattle.outcome.specs.Refusal.{inputEnds, recordCrosses}
 use Rattle.words.specs.Word.{wordsBytes}
 use Rattle.packbits.specs.Row.{Row, done}
@@ -39,8 +39,8 @@ table =
     ∷ rowPacked (0x01 ∷ 0x07 ∷ 0x07 ∷ 0x07 ∷ 0x02 ∷ []) (0x00 ∷ 0x01 ∷ 0xFE ∷ 0x07 ∷ 0x00 ∷ 0x02 ∷ [])
     ∷ rowPacked (replicate 40 0x00) (0xD9 ∷ 0x00 ∷ [])
     ∷ rowUnpacked (0x80 ∷ 0xFF ∷ 0x07 ∷ []) 2 (done 3 2 (0x07 ∷ 0x07 ∷ []))
-    ∷ rowUnpacked (0x01 ∷ 0x07 ∷ []) 2 (refuse inputEnds)
-    ∷ rowUnpacked (0xFE ∷ 0x07 ∷ []) 2 (refuse recordCrosses)
+    ∷ rowUnpacked (0x01 ∷ 0x07 ∷ []) 2 (refused (rowRefusal inputEnds 0 0 0))
+    ∷ rowUnpacked (0xFE ∷ 0x07 ∷ []) 2 (refused (rowRefusal recordCrosses 0 0 0))
     ∷ coloured 0x0735 255 109 182
     ∷ coloured 0x0000 0 0 0
     ∷ firstRegister (0x8000 ∷ 0x0000 ∷ 0x8000 ∷ 0x0000 ∷ []) 5

@@ -7,6 +7,7 @@ use lib.ListN.{replicate}
 use Rattle.outcome.specs.declared.Refusal.{Refusal}
 use Rattle.outcome.specs.Outcome.{Outcome, later, refusalOf}
 use Rattle.packbits.specs.Row.{Row, rowAnswer, rowOutput}
+use Rattle.bodies.specs.Packing.{PackedBody, packedAnswer, packedOutput}
 use Rattle.tally.specs.Counts.{tallyAnswer}
 use Rattle.colour.specs.Palette.{Rgb}
 use Rattle.colour.specs.Shown.{colourAnswer}
@@ -28,6 +29,12 @@ Kept o gives area = Refuses (refusalOf o) → later o gives area ≡ area
 abbrev pub RowRefusal : Outcome Row → List ℕ → Type 0
 RowRefusal o out =
     Refuses (rowAnswer o .refusal) → (rowOutput o out ≡ out) × (rowAnswer o .bytes ≡ 0) × (rowAnswer o .records ≡ 0)
+
+-- the body of a raster packed, with its output
+abbrev pub BodyRefusal : Outcome PackedBody → List ℕ → Type 0
+BodyRefusal o out =
+    Refuses (packedAnswer o .refusal)
+    → (packedOutput o out ≡ out) × (packedAnswer o .body ≡ 0) × (packedAnswer o .records ≡ 0)
 
 -- a tally, a colour and a pond reading change no area
 abbrev pub TallyRefusal : Outcome (List ℕ) → Type 0

@@ -9,9 +9,15 @@ pub data Outcome (A : Type 0) : Type 0 where
   accepted : A → Outcome A
   refused : Refusal → Outcome A
 
--- a refusal with a number at a place
+-- a refusal with a number at a place, in plane row `planeRow`, counted from 0, of which the records before that place
+-- make `goodBytes` bytes; a row by itself is plane row 0
+abbrev pub rowRefusal : ℕ → ℕ → ℕ → ℕ → Refusal
+rowRefusal number place planeRow goodBytes =
+    record { number = number; place = place; «plane_row» = planeRow; «good_bytes» = goodBytes }
+
+-- a refusal with a number at a place, in no plane row
 abbrev pub refusal : ℕ → ℕ → Refusal
-refusal number place = record { number = number; place = place }
+refusal number place = rowRefusal number place 0 0
 
 -- what an acceptance gives in place of a refusal
 abbrev pub none : Refusal
@@ -35,10 +41,14 @@ abbrev pub bind : {A B : Type 0} → Outcome A → (A → Outcome B) → Outcome
 bind (accepted a) further = further a
 bind (refused why) further = refused why
 
--- an outcome of what starts at an offset of a file, with its place counted from the file's start
+-- a refusal of what starts at an offset of a file, with its place counted from the file's start; all else as it is
+abbrev pub placedAt : ℕ → Refusal → Refusal
+placedAt at why = rowRefusal (why .number) (at + why .place) (why .«plane_row») (why .«good_bytes»)
+
+-- an outcome of what starts at an offset of a file, with its refusal so placed
 abbrev pub placed : {A : Type 0} → ℕ → Outcome A → Outcome A
 placed at (accepted a) = accepted a
-placed at (refused why) = refused (refusal (why .number) (at + why .place))
+placed at (refused why) = refused (placedAt at why)
 
 -- the later content of a lent area: what an accepted value gives it, and after a refusal as it was
 abbrev pub later : {A B : Type 0} → Outcome A → (A → B) → B → B

@@ -1,6 +1,6 @@
 // Refusals: their numbers, and the value that every answer carries. Definitions: specs/.
 ghost use mathlib.Core.Path.{_≡_};
-ghost use Rattle.outcome.specs.Outcome.{none, refusal};
+ghost use Rattle.outcome.specs.Outcome.{none, refusal, rowRefusal};
 
 // A lent area is too short.
 pub const AREA_TOO_SHORT: u8 = 1;
@@ -41,11 +41,15 @@ pub const RUN_TOO_LONG: u8 = 12;
 // After the last run there is data left, or words are missing.
 pub const SIZE_MISMATCH: u8 = 13;
 
-// Why an input is refused: a number and a place. Both are 0 where it is accepted.
+// Why an input is refused. All are 0 where it is accepted.
 #[repr(C)]
 pub struct Refusal {
     pub number: u8,
     pub place: usize,
+    // The plane row, from 0, of a record at fault in a packed row (numbers 6 and 7); 0 otherwise.
+    pub plane_row: usize,
+    // The bytes of that row that the records before the one at fault make; 0 otherwise.
+    pub good_bytes: usize,
 }
 
 // An acceptance.
@@ -59,7 +63,19 @@ pub fn none() -> Refusal
 pub fn refuse_at(number: u8, place: usize) -> Refusal
     ensures { λ r. ⌜ r ≡ refusal number place ⌝ }
 {
-    Refusal { number, place }
+    refuse_in_row(number, place, 0, 0)
+}
+
+// Refused at a record of a plane row, with the bytes of the row before it.
+pub fn refuse_in_row(number: u8, place: usize, plane_row: usize, good_bytes: usize) -> Refusal
+    ensures { λ r. ⌜ r ≡ rowRefusal number place «plane_row» «good_bytes» ⌝ }
+{
+    Refusal {
+        number,
+        place,
+        plane_row,
+        good_bytes,
+    }
 }
 
 // Refused with a number that has no place.

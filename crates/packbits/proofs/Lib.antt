@@ -1,10 +1,14 @@
+pub mod Completion
 pub mod Exact
 pub mod Records
 pub mod Row
+pub mod RowsAppend
 pub mod RowsBounds
 pub mod RowsExact
-pub mod RowsLoop
+pub mod RowsFrom
 pub mod RowsSteps
+pub mod Stops
 pub mod Unpack
 pub mod Unpacks
 pub mod UnpacksRows
+pub mod WholeRecords

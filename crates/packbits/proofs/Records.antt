@@ -6,8 +6,8 @@ use mathlib.Core.Bool.{Bool, true, false, cond}
 use mathlib.Core.List.{List, [], _∷_}
 use lib.ListN.{length, getD, drop, length-drop, length-replicate, drop-of-length-le}
 use lib.Seq.{drop-cons, length-take-le}
-use lib.Dec.{ltb}
-use borrow.Author.Tests.{lt-ltb, le-ltb, ne-eqb, ltb-false}
+use lib.Dec.{ltb, eqb}
+use borrow.Author.Tests.{lt-ltb, le-ltb, ne-eqb, ltb-true, ltb-false, eqb-true, eqb-false}
 use Rattle.packbits.specs.declared.Record.{Record}
 use Rattle.packbits.specs.declared.Record.the-variants.{Literal, Repeat, Nothing, Truncated, Crossing}
 use Rattle.packbits.specs.Records.{control, packedLen, rowLen, rowBytes, fault, judged, recordAt}
@@ -25,6 +25,23 @@ control-nothing = refl
 pub control-repeat : (x : ℕ) → 128 < x → control x ≡ Repeat (257 - x)
 unfolding control
 control-repeat x h = simp (le-ltb x 128 (omega arith), ne-eqb x 128 (omega arith))
+
+-- a control byte is of one of three kinds
+pub by-control : {X : Type 0} (x : ℕ) → (x < 128 → X) → (x ≡ 128 → X) → (128 < x → X) → X
+by-control {X} x low mid high = go (ltb x 128) (eqb x 128) refl refl
+  where
+    go : (a b : Bool) → ltb x 128 ≡ a → eqb x 128 ≡ b → X
+    go true b p q = low (ltb-true _ _ p)
+    go false true p q = mid (eqb-true _ _ q)
+    go false false p q =
+        (let ne : x ≡ 128 → ⊥ = eqb-false x 128 q in let ge : 128 ≤ x = ltb-false x 128 p in high (omega arith))
+
+-- none is at fault by itself
+pub control-whole : (x : ℕ) → fault (control x) ≡ 0
+control-whole x =
+    by-control x (λ h. ap fault (control-literal x h))
+    (λ h. ap (λ (c : ℕ). fault (control c)) h ∙ ap fault control-nothing)
+    (λ h. ap fault (control-repeat x h))
 
 -- ---- a record judged
 
@@ -63,7 +80,8 @@ module _ (s : List ℕ) (at room : ℕ) where
       sym (ap length (drop-cons s at 0 h)) ∙ length-drop at s in
       rw (drop-cons s at 0 h) (ap (λ (left : ℕ). judged (control (getD s at 0)) left room) long)
 
--- ---- a whole record takes a byte of input at least and what there is at most, and makes as many bytes as it says, which fit
+-- ---- a whole record takes a byte of input at least and what there is at most, and makes as many bytes as it says,
+-- which fit
 
 pub record Whole (r : Record) (input : List ℕ) (room : ℕ) : Type 0 where
   pub takes : 0 < packedLen r

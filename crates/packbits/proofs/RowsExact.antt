@@ -15,7 +15,7 @@ use Rattle.packbits.specs.Unpack.{unpack}
 use Rattle.packbits.proofs.Exact.{sound, complete}
 use Rattle.packbits.specs.Rows.{Rows, doneRows, rowsFrom, rowsOutcome, unpackRows}
 use Rattle.packbits.specs.UnpacksRows.{UnpacksRows, none, more}
-use Rattle.packbits.proofs.RowsSteps.{withRow, unpackRows-suc}
+use Rattle.packbits.proofs.RowsSteps.{withRow, afterRow, unpackRows-suc}
 
 -- ---- complete: a body of the relation, with anything after it, is accepted, and used whole
 
@@ -28,7 +28,13 @@ complete-rows width w (more {body} {bodies} {row} {rows} {n} {m} u us) rest =
     let first : unpack (body ++ (bodies ++ rest)) width ≡ done (length body) n row =
     ap (unpack (body ++ (bodies ++ rest))) (sym (w .0)) ∙ complete u (bodies ++ rest) in
     unpackRows-suc (length rows) width ((body ++ bodies) ++ rest)
-    ∙ rw (append-assoc body bodies rest, first, drop-append-seam body (bodies ++ rest), complete-rows width (w .1) us rest, length-append body bodies)
+    ∙ rw (
+      append-assoc body bodies rest,
+      first,
+      drop-append-seam body (bodies ++ rest),
+      complete-rows width (w .1) us rest,
+      length-append body bodies,
+    )
 
 -- ---- sound: what is accepted is a body of the relation
 
@@ -40,7 +46,7 @@ Sound n width input (refused why) = Unit {0}
 
 sound-row : (n width : ℕ) (input : List ℕ) (r : Row) → unpack input width ≡ accepted r → (o : Outcome Rows)
     → Sound n width (drop (r .bytes) input) o
-    → Sound (suc n) width input (map (withRow r) (placed (r .bytes) o))
+    → Sound (suc n) width input (map (withRow r) (afterRow (placed (r .bytes) o)))
 sound-row n width input r is (refused why) s = tt
 sound-row n width input r is (accepted q) s = λ bytes.
     let first = sound input width (r .bytes) (r .records) (r .made) bytes is in
@@ -53,7 +59,7 @@ sound-row n width input r is (accepted q) s = λ bytes.
 
 sound-bind : (n width : ℕ) (input : List ℕ) (o : Outcome Row) → unpack input width ≡ o → (next : Row → Outcome Rows)
     → ((r : Row) → Sound n width (drop (r .bytes) input) (next r))
-    → Sound (suc n) width input (bind o (λ r. map (withRow r) (placed (r .bytes) (next r))))
+    → Sound (suc n) width input (bind o (λ r. map (withRow r) (afterRow (placed (r .bytes) (next r)))))
 sound-bind n width input (refused why) is next ih = tt
 sound-bind n width input (accepted r) is next ih = sound-row n width input r is (next r) (ih r)
 

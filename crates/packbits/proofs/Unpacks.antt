@@ -15,5 +15,6 @@ unpacks-bytes (literal {x} bytes {body} {row} h l u) b =
     (bytes-append bytes body (bytes-front bytes row b) (unpacks-bytes u (bytes-behind bytes row b)))
 unpacks-bytes (repeat {x} {byte} {body} {row} h k u) b =
     bytes-cons x (byte ∷ body) k
-    (bytes-cons byte body (bytes-repeated (257 - x) byte row (omega arith) b) (unpacks-bytes u (bytes-behind (replicate (257 - x) byte) row b)))
+    (bytes-cons byte body (bytes-repeated (257 - x) byte row (omega arith) b)
+    (unpacks-bytes u (bytes-behind (replicate (257 - x) byte) row b)))
 unpacks-bytes (nothing {body = body} u) b = bytes-cons 128 body (omega arith) (unpacks-bytes u b)

@@ -45,8 +45,8 @@ fault Nothing = 0
 fault Truncated = inputEnds
 fault Crossing = recordCrosses
 
--- A record, or its fault, with `left` bytes of input, its control byte included, and `room` bytes of the row to make. The
--- row's end is judged before missing input.
+-- A record, or its fault, with `left` bytes of input, its control byte included, and `room` bytes of the row to make.
+-- The row's end is judged before missing input.
 abbrev pub judged : Record → ℕ → ℕ → Record
 judged r left room = cond (ltb room (rowLen r)) Crossing (cond (ltb left (packedLen r)) Truncated r)
 

@@ -5,7 +5,8 @@ use mathlib.Core.Bool.{cond}
 use mathlib.Core.List.{List, [], _∷_, _++_}
 use lib.ListN.{length, drop}
 use lib.Dec.{eqb}
-use Rattle.outcome.specs.Outcome.{Outcome, accepted, refused, refusal, placed}
+use Rattle.outcome.specs.declared.Refusal.{Refusal}
+use Rattle.outcome.specs.Outcome.{Outcome, accepted, refused, rowRefusal, placed}
 use Rattle.packbits.specs.Unpack.{Progress, progress}
 
 -- How far unpacking rows came.
@@ -32,7 +33,14 @@ stoppedIn begun p = record { rows = []; begun = begun; bytes = p .bytes; records
 -- a whole row, before further progress
 abbrev pub rowBefore : List ℕ → Progress → RowsProgress → RowsProgress
 rowBefore row p q =
-    record { rows = row ∷ q .rows; begun = q .begun; bytes = p .bytes + q .bytes; records = p .records + q .records; fault = q .fault }
+    record {
+      rows = row ∷ q .rows;
+      begun = q .begun;
+      bytes = p .bytes + q .bytes;
+      records =
+          p .records + q .records;
+      fault = q .fault;
+    }
 
 -- a row that has these bytes and whose rest came to p: a full one goes on with `next`, at the packed bytes used;
 -- another stops
@@ -60,10 +68,14 @@ pub record Rows : Type 0 where
 abbrev pub doneRows : ℕ → ℕ → List (List ℕ) → Outcome Rows
 doneRows bytes records rows = accepted (record { bytes = bytes; records = records; rows = rows })
 
--- full rows are accepted; a fault is refused, its place the number of packed bytes before it
+-- why rows are refused at a fault: the place is the number of packed bytes before it, the plane row, from 0, that of
+-- the whole rows before it, and the good bytes are those that the row under way has
+abbrev pub rowsFault : RowsProgress → Refusal
+rowsFault p = rowRefusal (p .fault) (p .bytes) (length (p .rows)) (length (p .begun))
+
+-- full rows are accepted; a fault is refused
 unfoldable pub rowsOutcome : RowsProgress → Outcome Rows
-rowsOutcome p =
-    cond (eqb (p .fault) 0) (doneRows (p .bytes) (p .records) (p .rows)) (refused (refusal (p .fault) (p .bytes)))
+rowsOutcome p = cond (eqb (p .fault) 0) (doneRows (p .bytes) (p .records) (p .rows)) (refused (rowsFault p))
 
 -- n rows of a width, unpacked from the front of the input; places count from the input's start
 abbrev pub unpackRows : ℕ → ℕ → List ℕ → Outcome Rows

@@ -4,7 +4,8 @@ use mathlib.Core.Bool.{cond}
 use mathlib.Core.List.{List, [], _++_}
 use lib.ListN.{length, drop}
 use lib.Dec.{ltb, eqb}
-use Rattle.outcome.specs.Outcome.{Outcome, refused, refusal, refuseIf, placed}
+use Rattle.outcome.specs.declared.Refusal.{Refusal}
+use Rattle.outcome.specs.Outcome.{Outcome, refused, rowRefusal, refuseIf, placed}
 use Rattle.outcome.specs.Refusal.{areaTooShort, inputEnds, outOfRange}
 use Rattle.packbits.specs.declared.Record.{Record}
 use Rattle.packbits.specs.Records.{packedLen, rowLen, rowBytes, fault, recordAt}
@@ -48,9 +49,14 @@ progressWithin (suc bound) input (suc room) =
 unfoldable pub progress : List ℕ → ℕ → Progress
 progress input width = progressWithin (suc (length input)) input width
 
--- a full row is accepted; a fault is refused, its place the number of packed bytes before it
+-- why a row is refused at a fault: the place is the number of packed bytes before it, and the row has the bytes that
+-- its whole records make
+abbrev pub rowFault : Progress → Refusal
+rowFault p = rowRefusal (p .fault) (p .bytes) 0 (length (p .made))
+
+-- a full row is accepted; a fault is refused
 unfoldable pub outcomeOf : Progress → Outcome Row
-outcomeOf p = cond (eqb (p .fault) 0) (done (p .bytes) (p .records) (p .made)) (refused (refusal (p .fault) (p .bytes)))
+outcomeOf p = cond (eqb (p .fault) 0) (done (p .bytes) (p .records) (p .made)) (refused (rowFault p))
 
 -- a row of `width` bytes, unpacked from the front of the input; places count from the input's start
 abbrev pub unpack : List ℕ → ℕ → Outcome Row

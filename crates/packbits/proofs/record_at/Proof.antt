@@ -9,15 +9,6 @@ use Rattle.packbits.proofs.record_at.Tie as tie
 returns : tie.Need-returns
 returns c = sym (no-input _ _ _ (c .if1 .taken))
 
-shared-slice-read-record-of : tie.Need-shared-slice-read-record-of
-shared-slice-read-record-of c = search needs
-
-sub-record-of : tie.Need-sub-record-of
-sub-record-of c = search needs
-
-record-of-requires : tie.Need-record-of-requires
-record-of-requires c κs = search needs
-
 returns-2 : tie.Need-returns-2
 returns-2 c =
     let a = c .before .before .before .before .args in
@@ -26,4 +17,4 @@ returns-2 c =
 pub record-at-spec : {M : Type 1} → statement M
 record-at-spec =
     tie.close
-    (tie.spec returns shared-slice-read-record-of sub-record-of record-of-requires returns-2)
+    (tie.spec returns (λ c. search needs) (λ c. search needs) (λ c κs. search needs) returns-2)
