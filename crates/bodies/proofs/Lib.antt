@@ -6,5 +6,4 @@ pub mod LeastRows
 pub mod Packing
 pub mod PlaneRow
 pub mod RoundTrip
-pub mod RowsPut
 pub mod Unpacking

@@ -1,50 +1,62 @@
--- A body unpacked: its cases, its bounds, and the area that it leaves.
-use mathlib.Core.Path.{_≡_, refl, ap, _∙_, subst}
-use mathlib.Core.List.{List}
+-- A body unpacked: its cases, its bounds, and the image that its rows make.
+use mathlib.Core.Path.{_≡_, refl, sym, ap, _∙_, subst}
+use mathlib.Core.List.{List, flatten}
 use Prim.Native.Nat.{ℕ, _-_, _≤_}
 use native.Mathlib.Omega.{arith}
 use lib.ListN.{length, drop, length-drop}
-use Rattle.lists.specs.Over.{over}
 use Rattle.lists.proofs.Cond.{cond-eqb}
+use Rattle.outcome.specs.declared.Refusal.{Refusal}
 use Rattle.outcome.specs.Outcome.{Outcome, accepted, refused, map, placed, later, Judged}
-use Rattle.packbits.specs.Rows.{Rows, RowsProgress, rowsProgress, rowsOutcome, unpackRows}
+use Rattle.packbits.specs.declared.RowAnswer.{RowAnswer}
+use Rattle.packbits.specs.Rows.{Rows, RowsProgress, rowsProgress, rowsOutcome, unpackRows, unpackRowsAt}
+use Rattle.packbits.proofs.Row.{in-range}
 use Rattle.packbits.proofs.RowsBounds.{RowsBounded, rows-bounded}
 use Rattle.raster.specs.declared.Raster.{Raster}
 use Rattle.raster.specs.Shape.{rowBytes, rows, bytes}
-use Rattle.raster.specs.PlaneRows.{putRows}
+use Rattle.raster.specs.Joined.{joinedImage}
+use Rattle.raster.proofs.Joined.{rows-bytes, joined-image}
 use Rattle.raster.proofs.PlaneRows.{length-imageOf}
-use Rattle.raster.proofs.PutRows.{put-all}
+use Rattle.unpack.specs.Rows.{rowsAnswer, judgeRows, RowsFit, wholeRows, Begins}
+use Rattle.unpack.proofs.JudgeRows.{judge-fit}
 use Rattle.bodies.specs.declared.BodyAnswer.{BodyAnswer}
 use Rattle.bodies.specs.Body.{judgeRaster, rasterRefusal, bodyRefused}
 use Rattle.bodies.specs.Unpacking.{UnpackedBody, bodyOf, unpackBody, unpackedAnswer}
-use Rattle.bodies.specs.Unpacking.{wholeRows, withRows, unpackedArea}
-use Rattle.bodies.proofs.JudgeRaster.{none-refused, judge-room, judge-refused, judge-accepted}
+use Rattle.bodies.specs.Unpacking.{RowsUnpacked}
+use Rattle.bodies.proofs.JudgeRaster.{refusal-none, none-refused, judge-room, judge-refused, judge-accepted}
 
 -- ---- the cases, in the order of judging
 
-module _ (file : List ℕ) (at : ℕ) (r : Raster) (area₀ : List ℕ) where
-  -- what `unpack_body` promises of its answer and of the area, which was area₀
-  abbrev pub Promised : BodyAnswer → List ℕ → Type 0
-  Promised a area =
-      (a ≡ unpackedAnswer (judgeRaster r (length area₀) (unpackBody file at r)))
-      × (area ≡ unpackedArea file at r area₀)
+-- a raster that is not refused has rows that fit
+pub rows-fit : (r : Raster) (room : ℕ) → rasterRefusal r room .number ≡ 0 → RowsFit (rows r) (rowBytes r) room
+rows-fit r room h =
+    let f = none-refused r room h in
+    let w = in-range (rowBytes r) (f .0) in
+    record { some = w .0; narrow = w .1; size = omega (arith, rows-bytes r, f .1) }
 
-  -- the raster or the area is refused
-  pub promised-refused : (rasterRefusal r (length area₀) .number ≡ 0 → ⊥)
-      → Promised (bodyRefused (rasterRefusal r (length area₀))) area₀
-  promised-refused h =
-      let answer = judge-refused r (length area₀) (unpackBody file at r) h in
-      let area = judge-refused r (length area₀) (accepted (wholeRows file at r)) h in
-      (rw answer refl, rw area refl)
+-- the answer of rows, as that of a body
+abbrev pub answerOf : RowAnswer → BodyAnswer
+answerOf a = record { refusal = a .refusal; body = a .bytes; records = a .records }
+
+rows-answer : (r : Raster) (o : Outcome Rows) → answerOf (rowsAnswer o) ≡ unpackedAnswer (map (bodyOf r) o)
+rows-answer r (accepted q) = refl
+rows-answer r (refused why) = refl
+
+module _ (file : List ℕ) (at : ℕ) (r : Raster) (room : ℕ) where
+  -- the raster or the buffer is refused
+  pub answer-refused : (rasterRefusal r room .number ≡ 0 → ⊥)
+      → bodyRefused (rasterRefusal r room) ≡ unpackedAnswer (judgeRaster r room (unpackBody file at r))
+  answer-refused h = rw (judge-refused r room (unpackBody file at r) h) refl
 
   -- or what the rows give
-  pub promised-rows : rasterRefusal r (length area₀) .number ≡ 0 → {a : BodyAnswer} {area : List ℕ}
-      → (a ≡ unpackedAnswer (unpackBody file at r)) × (area ≡ withRows r (wholeRows file at r) area₀) → Promised a area
-  promised-rows h p =
-      let f = none-refused r (length area₀) h in
-      let answer = judge-room r (length area₀) (unpackBody file at r) (f .0) (f .1) in
-      let area = judge-room r (length area₀) (accepted (wholeRows file at r)) (f .0) (f .1) in
-      (rw answer (p .0), rw area (p .1))
+  pub answer-rows : rasterRefusal r room .number ≡ 0 → (a : RowAnswer)
+      → a ≡ rowsAnswer (judgeRows (rows r) (rowBytes r) room (unpackRowsAt file at (rowBytes r) (rows r)))
+      → answerOf a ≡ unpackedAnswer (judgeRaster r room (unpackBody file at r))
+  answer-rows h a is =
+      let f = none-refused r room h in
+      let o = unpackRowsAt file at (rowBytes r) (rows r) in
+      ap answerOf (is ∙ ap rowsAnswer (judge-fit (rows r) (rowBytes r) room o (rows-fit r room h)))
+      ∙ rows-answer r o
+      ∙ sym (ap unpackedAnswer (judge-room r room (unpackBody file at r) (f .0) (f .1)))
 
 -- ---- what is accepted comes from accepted rows, which are whole
 
@@ -79,21 +91,20 @@ module _ (file : List ℕ) (at : ℕ) (r : Raster) where
       go (accepted q) b = (length-imageOf r (q .rows), omega (arith, length-drop at file, b .2), b .3)
       go (refused why) b = b .0
 
-  -- ---- the area
+  -- ---- the rows
 
-  -- an accepted body's image stands over the area's front
-  pub body-image : (area : List ℕ) (u : UnpackedBody) → judgeRaster r (length area) (unpackBody file at r) ≡ accepted u
-      → unpackedArea file at r area ≡ over (u .image) area
-  body-image area u e =
-      let j = judge-accepted r (length area) (unpackBody file at r) u e in
+  -- those of an accepted body make its image
+  pub body-image : (room : ℕ) (left : List ℕ) (u : UnpackedBody)
+      → judgeRaster r room (unpackBody file at r) ≡ accepted u → RowsUnpacked file at r room left
+      → joinedImage r left ≡ u .image
+  body-image room left u e unpacked =
+      let j = judge-accepted r room (unpackBody file at r) u e in
       let f = from-rows r at (unpackRows (rows r) (rowBytes r) (drop at file)) u (j .2) in
       let q : Rows = f .0 in
-      let whole : wholeRows file at r ≡ q .rows =
+      let whole : wholeRows file at (rows r) (rowBytes r) ≡ q .rows =
       rows-whole (rowsProgress (rows r) (rowBytes r) (drop at file)) q (f .1) in
-      let all : length (q .rows) ≡ rows r = subst (RowsBounded (drop at file) (rowBytes r) (rows r)) (f .1) bounds .0 in
-      ap (λ (o : Outcome (List (List ℕ))). later o (λ list. putRows r (length list) list area) area)
-      (judge-room r (length area) (accepted (wholeRows file at r)) (j .0) (j .1))
-      ∙ ap (λ (list : List (List ℕ)). putRows r (length list) list area) whole
-      ∙ ap (λ (n : ℕ). putRows r n (q .rows) area) all
-      ∙ put-all r (q .rows) area (j .1)
-      ∙ ap (λ (b : UnpackedBody). over (b .image) area) (f .2)
+      let b = subst (RowsBounded (drop at file) (rowBytes r) (rows r)) (f .1) bounds in
+      let begins = subst (λ (list : List (List ℕ)). Begins (flatten list) left) whole
+      (unpacked (ap (λ (w : Refusal). w .number) (refusal-none r room (j .0) (j .1)))) in
+      joined-image r (q .rows) left (b .1) (b .0) begins
+      ∙ ap (λ (v : UnpackedBody). v .image) (f .2)

@@ -1,14 +1,15 @@
 -- The packed body of a raster, unpacked from an offset of a file (document 01, "Packed rows").
 use Prim.Native.Nat.{ℕ}
-use mathlib.Core.List.{List}
-use lib.ListN.{length, drop}
-use Rattle.outcome.specs.Outcome.{Outcome, accepted, map, later}
-use Rattle.packbits.specs.Rows.{Rows, rowsProgress, unpackRowsAt}
+use mathlib.Core.Path.{_≡_}
+use mathlib.Core.List.{List, flatten}
+use Rattle.outcome.specs.Outcome.{Outcome, map}
+use Rattle.packbits.specs.Rows.{Rows, unpackRowsAt}
+use Rattle.unpack.specs.Rows.{wholeRows, Begins}
 use Rattle.raster.specs.declared.Raster.{Raster}
 use Rattle.raster.specs.Shape.{rowBytes, rows}
-use Rattle.raster.specs.PlaneRows.{imageOf, putRows}
+use Rattle.raster.specs.PlaneRows.{imageOf}
 use Rattle.bodies.specs.declared.BodyAnswer.{BodyAnswer}
-use Rattle.bodies.specs.Body.{judgeRaster, bodyAnswer}
+use Rattle.bodies.specs.Body.{rasterRefusal, bodyAnswer}
 
 -- a body that was unpacked
 pub record UnpackedBody : Type 0 where
@@ -31,16 +32,9 @@ unpackBody file at r = map (bodyOf r) (unpackRowsAt file at (rowBytes r) (rows r
 abbrev pub unpackedAnswer : Outcome UnpackedBody → BodyAnswer
 unpackedAnswer o = bodyAnswer (λ u. u .body) (λ u. u .records) o
 
--- the plane rows that are whole, also where a later record is at fault
-abbrev pub wholeRows : List ℕ → ℕ → Raster → List (List ℕ)
-wholeRows file at r = rowsProgress (rows r) (rowBytes r) (drop at file) .rows
-
--- an area with plane rows put into it, from the first on
-abbrev pub withRows : Raster → List (List ℕ) → List ℕ → List ℕ
-withRows r list area = putRows r (length list) list area
-
--- The area's later content: the whole rows are put, also those before a record at fault. Of an accepted body it is the
--- image over the area's front (proofs/Unpacking.antt, `body-image`).
-abbrev pub unpackedArea : List ℕ → ℕ → Raster → List ℕ → List ℕ
-unpackedArea file at r area =
-    later (judgeRaster r (length area) (accepted (wholeRows file at r))) (λ list. withRows r list area) area
+-- The buffer's later content, where neither the raster nor the buffer, of `room` bytes, is refused: it begins with the
+-- plane rows that are whole, one behind the other, also with those before a record at fault. Those of an accepted body
+-- make its image (proofs/Unpacking.antt, `body-image`).
+abbrev pub RowsUnpacked : List ℕ → ℕ → Raster → ℕ → List ℕ → Type 0
+RowsUnpacked file at r room later =
+    rasterRefusal r room .number ≡ 0 → Begins (flatten (wholeRows file at (rows r) (rowBytes r))) later

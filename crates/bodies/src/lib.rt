@@ -7,12 +7,12 @@ ghost use lib.Dec.{leb};
 ghost use Rattle.lists.specs.Over.{over};
 ghost use Rattle.packbits.specs.Row.{rowAnswer};
 ghost use Rattle.pack.specs.Least.{least};
-ghost use Rattle.raster.specs.Shape.{rowBytes, rows, bytes};
+ghost use Rattle.raster.specs.Shape.{rows, bytes};
 ghost use Rattle.raster.specs.PlaneRows.{planeRow};
 ghost use Rattle.bodies.specs.Body.{judgeRaster, rasterRefusal, bodyDone, bodyRefused, RowRoom};
 ghost use Rattle.bodies.specs.Packing.{packedRow, leastBody, leastBodyRecords};
 ghost use Rattle.bodies.specs.Packing.{belowLimit, packBody, packedAnswer, packedOutput};
-ghost use Rattle.bodies.specs.Unpacking.{unpackBody, unpackedAnswer, wholeRows, withRows, unpackedArea};
+ghost use Rattle.bodies.specs.Unpacking.{unpackBody, unpackedAnswer, RowsUnpacked};
 use outcome::AREA_TOO_SHORT;
 use outcome::NO_PACKED_BODY;
 use outcome::OUT_OF_RANGE;
@@ -52,48 +52,25 @@ fn raster_refusal(r: Raster, room: usize) -> Refusal
     outcome::none()
 }
 
-// Unpacks each plane row into a buffer of its width, and puts it to where it belongs in the area, until all are whole
-// or a record is at fault.
-fn put_rows(file: &[u8], at: usize, r: Raster, row: &mut [u8], area: &mut [u8]) -> BodyAnswer
-    requires { ⌜ (length (now row) ≡ rowBytes r) × (bytes r ≤ length (now area)) ⌝ }
-    ensures answer { λ a. ⌜ a ≡ unpackedAnswer (unpackBody (now (file .entry)) at r) ⌝ }
-    ensures area { λ _. ⌜ now (area .exit) ≡ withRows r (wholeRows (now (file .entry)) at r) (now (area .entry)) ⌝ }
-{
-    let rows = r.rows();
-    let mut used: usize = 0;
-    let mut records: usize = 0;
-    let mut n: usize = 0;
-    while n < rows {
-        let answer = unpack::unpack_into(file, at + used, row);
-        if answer.refusal.number != 0 {
-            return body_refused(answer.refusal);
-        }
-        raster::put_row(area, r, n, row);
-        used += answer.bytes;
-        records += answer.records;
-        n += 1;
-    }
-    BodyAnswer {
-        refusal: outcome::none(),
-        body: used,
-        records,
-    }
-}
-
-// Unpacks the body that starts at an offset of a file into an area. After a record at fault the area holds the rows
-// before it: a caller that must leave an area as it was lends a buffer of its own.
-pub fn unpack_body(file: &[u8], at: usize, r: Raster, area: &mut [u8]) -> BodyAnswer
+// Unpacks the plane rows of the body that starts at an offset of a file, each behind the one before it, to the front of
+// a buffer that holds the raster. After a record at fault the buffer holds the rows before it, and what stands behind
+// the rows may change too: `raster::put_rows` puts the rows of an accepted body into an area.
+pub fn unpack_body(file: &[u8], at: usize, r: Raster, rows: &mut [u8]) -> BodyAnswer
     ensures answer { λ a. ⌜ a
-        ≡ unpackedAnswer (judgeRaster r (length (now (area .entry))) (unpackBody (now (file .entry)) at r)) ⌝ }
-    ensures area { λ _. ⌜ now (area .exit) ≡ unpackedArea (now (file .entry)) at r (now (area .entry)) ⌝ }
+        ≡ unpackedAnswer (judgeRaster r (length (now (rows .entry))) (unpackBody (now (file .entry)) at r)) ⌝ }
+    ensures rows { λ _. ⌜ RowsUnpacked (now (file .entry)) at r (length (now (rows .entry))) (now (rows .exit)) ⌝ }
 {
-    let refusal = raster_refusal(r, area.len());
+    let refusal = raster_refusal(r, rows.len());
     if refusal.number != 0 {
         return body_refused(refusal);
     }
-    let width = r.row_bytes();
-    let mut row = [0u8; MAX_WIDTH];
-    put_rows(file, at, r, &mut row[..width], area)
+    let answer = unpack::unpack_rows(file, at, r.rows(), r.row_bytes(), rows);
+    let why = answer.refusal;
+    BodyAnswer {
+        refusal: why,
+        body: answer.bytes,
+        records: answer.records,
+    }
 }
 
 // The length of plane row n's least body; the row is taken into a buffer of its width.

@@ -7,6 +7,7 @@ ghost use Rattle.packbits.specs.Row.{rowAnswer, rowOutput};
 ghost use Rattle.packbits.specs.Unpack.{unpackRow};
 ghost use Rattle.pack.specs.Pack.{packRow};
 ghost use Rattle.lines.specs.Lines.{lineOut, lineIn};
+ghost use Rattle.lines.specs.Screens.{screenOut, screenIn};
 ghost use Rattle.tally.specs.Counts.{tallied, tallyAnswer};
 ghost use Rattle.colour.specs.Shown.{shown, colourAnswer};
 ghost use Rattle.pond.specs.Reading.{pondReading, pondAnswer};
@@ -82,6 +83,29 @@ pub extern "C" fn kutimuq_line_in(
         (λ s. s) (now (screen .entry)) ⌝ }
 {
     lines::line_in(screen, resolution, line, registers)
+}
+
+// Screen out.
+#[no_mangle]
+pub extern "C" fn kutimuq_screen_out(screen: &[u8], resolution: u16, out: &mut [u8]) -> Refusal
+    ensures answer { λ a. ⌜ a
+        ≡ refusalOf (screenOut (now (screen .entry)) resolution (length (now (out .entry)))) ⌝ }
+    ensures output { λ _. ⌜ now (out .exit)
+        ≡ later (screenOut (now (screen .entry)) resolution (length (now (out .entry))))
+        (λ l. over l (now (out .entry))) (now (out .entry)) ⌝ }
+{
+    lines::screen_out(screen, resolution, out)
+}
+
+// Screen in.
+#[no_mangle]
+pub extern "C" fn kutimuq_screen_in(screen: &mut [u8], resolution: u16, registers: &[u8]) -> Refusal
+    ensures answer { λ a. ⌜ a ≡ refusalOf (screenIn (now (screen .entry)) resolution (now (registers .entry))) ⌝ }
+    ensures screen { λ _. ⌜ now (screen .exit)
+        ≡ later (screenIn (now (screen .entry)) resolution (now (registers .entry)))
+        (λ s. s) (now (screen .entry)) ⌝ }
+{
+    lines::screen_in(screen, resolution, registers)
 }
 
 // Tally.

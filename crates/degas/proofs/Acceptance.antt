@@ -119,7 +119,8 @@ module _ (file : List ℕ) (r : Resolution) where
     packed-judged =
         cond-ltb (Judged PackedGiven) packedMost (length file) (λ _ n. omega arith) (λ short.
         judged-bind _ PackedGiven unpacked (judgeTail file r)
-        (judged-known (BodyBounded file headerLength (rasterOf r)) unpacked (body-bounded file headerLength (rasterOf r)))
+        (judged-known (BodyBounded file headerLength (rasterOf r)) unpacked
+        (body-bounded file headerLength (rasterOf r)))
         (λ u known. tail-judged short u (known .0)))
 
     -- the counts of an accepted packed file are those of the body that unpacks to its screen

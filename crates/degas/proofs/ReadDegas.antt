@@ -4,17 +4,18 @@ use mathlib.Core.List.{List}
 use Prim.Native.Nat.{ℕ, _+_, _-_, _≤_, _<_}
 use native.Mathlib.Omega.{arith}
 use lib.ListN.{length}
-use borrow.Author.Tests.{lt-ltb, le-ltb, eq-eqb, ne-eqb}
+use borrow.Author.Tests.{lt-ltb, le-ltb, le-leb, eq-eqb, ne-eqb}
 use Rattle.lists.specs.Over.{over}
-use Rattle.lists.proofs.Over.{over-whole}
 use Rattle.outcome.specs.Outcome.{Outcome, accepted, refused, refusal, refuse, none, bind, Judged}
 use Rattle.outcome.specs.Refusal.{areaTooShort, wrongLength, wrongTail}
+use Rattle.raster.specs.Shape.{bytes}
+use Rattle.raster.specs.Joined.{joinedImage, putJoined}
 use Rattle.resolution.specs.declared.Resolution.{Resolution}
 use Rattle.resolution.specs.Shapes.{screenBytes, rasterOf}
 use Rattle.resolution.proofs.Rasters.{raster-bytes}
 use Rattle.bodies.specs.declared.BodyAnswer.{BodyAnswer}
 use Rattle.bodies.specs.Body.{judgeRaster}
-use Rattle.bodies.specs.Unpacking.{UnpackedBody, unpackBody, unpackedAnswer, unpackedArea}
+use Rattle.bodies.specs.Unpacking.{UnpackedBody, unpackBody, unpackedAnswer, RowsUnpacked}
 use Rattle.bodies.proofs.Unpacking.{BodyBounded, body-bounded, body-image}
 use Rattle.picture.specs.declared.ReadAnswer.{ReadAnswer}
 use Rattle.picture.specs.Reading.{Reading, rawReading, readAnswer, readArea}
@@ -69,15 +70,16 @@ module _ (file : List ℕ) (r : Resolution) where
     pub packed-fits : length file ≡ packedLength (u .body) → readPacked file r ≡ accepted (packedReading file r u)
     packed-fits h = unpacked-judged ∙ simp (eq-eqb (length file) (packedLength (u .body)) h)
 
--- a file that is not too long, and what `unpack_body` answered of its body and left in a screen that was lent
-pub record BodyUnpacked (file : List ℕ) (r : Resolution) (screen : List ℕ) (a : BodyAnswer) : Type 0 where
+-- a file that is not too long, and what `unpack_body` answered of its body and left in the rows that were lent
+pub record BodyUnpacked (file : List ℕ) (r : Resolution) (rows : List ℕ) (a : BodyAnswer) : Type 0 where
   pub short : length file ≤ packedMost
   pub lent : List ℕ
   pub full : length lent ≡ screenBytes
+  pub kept : length rows ≡ length lent
   pub answer : a ≡ unpackedAnswer (judgeRaster (rasterOf r) (length lent) (unpacked file r))
-  pub made : screen ≡ unpackedArea file headerLength (rasterOf r) lent
+  pub made : RowsUnpacked file headerLength (rasterOf r) (length lent) rows
 
-module _ {file : List ℕ} {r : Resolution} {screen : List ℕ} {a : BodyAnswer} (b : BodyUnpacked file r screen a) where
+module _ {file : List ℕ} {r : Resolution} {rows : List ℕ} {a : BodyAnswer} (b : BodyUnpacked file r rows a) where
   judged : judgeRaster (rasterOf r) (length (b .lent)) (unpacked file r) ≡ unpacked file r
   judged = screen-judged r (length (b .lent)) (unpacked file r) (omega (arith, b .full))
 
@@ -130,18 +132,21 @@ module _ {file : List ℕ} {r : Resolution} {screen : List ℕ} {a : BodyAnswer}
     answerOf body records =
         record { refusal = none; picture = elitePicture file r (headerLength + body); body = body; records = records }
 
-    pub packed-done : length file ≡ packedLength (a .body) → (area : List ℕ)
+    pub packed-done : length file ≡ packedLength (a .body) → (area : List ℕ) → screenBytes ≤ length area
         → (answerOf (a .body) (a .records) ≡ readAnswer (readPacked file r))
-        × (over screen area ≡ readArea (readPacked file r) area)
-    packed-done h area =
+        × (putJoined (rasterOf r) rows area ≡ readArea (readPacked file r) area)
+    packed-done h area room =
         let u : UnpackedBody = known .value in
-        let image : screen ≡ u .image =
-        b .made
-        ∙ body-image file headerLength (rasterOf r) (b .lent) u (judged ∙ known .is)
-        ∙ over-whole (u .image) (b .lent) (omega (arith, b .full, known .bounds .0, raster-bytes r)) in
+        let image : joinedImage (rasterOf r) rows ≡ u .image =
+        body-image file headerLength (rasterOf r) (length (b .lent)) rows u (judged ∙ known .is) (b .made) in
+        let put : putJoined (rasterOf r) rows area ≡ over (joinedImage (rasterOf r) rows) area =
+        rw (
+          le-leb (bytes (rasterOf r)) (length area) (omega (arith, raster-bytes r)),
+          le-leb (bytes (rasterOf r)) (length rows) (omega (arith, raster-bytes r, b .full, b .kept)),
+        ) refl in
         let fits = packed-fits file r (b .short) u (known .is) (h ∙ ap packedLength (known .body)) in (
           ap₂ answerOf (known .body) (known .records) ∙ sym (ap readAnswer fits),
-          ap (λ (s : List ℕ). over s area) image ∙ sym (ap (λ (o : Outcome Reading). readArea o area) fits),
+          put ∙ ap (λ (s : List ℕ). over s area) image ∙ sym (ap (λ (o : Outcome Reading). readArea o area) fits),
         )
 
 -- ---- the area

@@ -7,7 +7,7 @@ use lib.Dec.{eqb}
 use lib.ListN.{length, take, drop, length-drop}
 use lib.Seq.{length-take-le}
 use Rattle.lists.proofs.Cond.{cond-elim, cond-ltb, cond-eqb}
-use Rattle.outcome.specs.Outcome.{Outcome, accepted, Judged}
+use Rattle.outcome.specs.Outcome.{Outcome, Judged}
 use Rattle.outcome.proofs.Outcome.{judged-bind}
 use Rattle.resolution.specs.declared.Resolution.{Resolution}
 use Rattle.resolution.specs.Shapes.{screenBytes, rasterOf}

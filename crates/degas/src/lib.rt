@@ -82,7 +82,8 @@ pub fn open_file(file: &[u8]) -> Opened
 // Reads a file into the first 32,000 bytes of an area. All is judged before the first byte is written.
 pub fn read(file: &[u8], area: &mut [u8]) -> ReadAnswer
     ensures answer { λ r. ⌜ r ≡ readAnswer (readDegas (now (file .entry)) (length (now (area .entry)))) ⌝ }
-    ensures area { λ _. ⌜ now (area .exit) ≡ readArea (readDegas (now (file .entry)) (length (now (area .entry)))) (now (area .entry)) ⌝ }
+    ensures area { λ _. ⌜ now (area .exit)
+        ≡ readArea (readDegas (now (file .entry)) (length (now (area .entry)))) (now (area .entry)) ⌝ }
 {
     if area.len() < SCREEN_BYTES {
         return picture::read_refused(outcome::refuse(AREA_TOO_SHORT));
@@ -95,8 +96,10 @@ pub fn read(file: &[u8], area: &mut [u8]) -> ReadAnswer
 
 // Writes a picture and its screen as a file of a form, over the front of the output.
 pub fn write(form: Form, picture: Picture, screen: &[u8], out: &mut [u8]) -> WriteAnswer
-    ensures answer { λ a. ⌜ a ≡ writeAnswer (writeDegas form picture (now (screen .entry)) (length (now (out .entry)))) ⌝ }
-    ensures output { λ _. ⌜ now (out .exit) ≡ writeOutput (writeDegas form picture (now (screen .entry)) (length (now (out .entry)))) (now (out .entry)) ⌝ }
+    ensures answer { λ a. ⌜ a
+        ≡ writeAnswer (writeDegas form picture (now (screen .entry)) (length (now (out .entry)))) ⌝ }
+    ensures output { λ _. ⌜ now (out .exit)
+        ≡ writeOutput (writeDegas form picture (now (screen .entry)) (length (now (out .entry)))) (now (out .entry)) ⌝ }
 {
     match picture::judge_writing(screen.len(), out.len(), picture.resolution) {
         Writable::At(r) => writing::write_form(form, r, picture, screen, out),

@@ -41,7 +41,8 @@ fn copy_screen(file: &[u8], picture: Picture, area: &mut [u8]) -> ReadAnswer
     requires { ⌜ plainLength ≤ length (now file) ⌝ }
     requires { ⌜ screenBytes ≤ length (now area) ⌝ }
     ensures answer { λ r. ⌜ r ≡ readAnswer (accepted (rawReading picture (now (file .entry)) headerLength)) ⌝ }
-    ensures area { λ _. ⌜ now (area .exit) ≡ readArea (accepted (rawReading picture (now (file .entry)) headerLength)) (now (area .entry)) ⌝ }
+    ensures area { λ _. ⌜ now (area .exit)
+        ≡ readArea (accepted (rawReading picture (now (file .entry)) headerLength)) (now (area .entry)) ⌝ }
 {
     bytes::copy(&file[HEADER_LENGTH..PLAIN_LENGTH], area);
     picture::read_done(picture, 0, 0)
@@ -62,7 +63,7 @@ fn read_raw(file: &[u8], r: Resolution, area: &mut [u8]) -> ReadAnswer
     picture::read_refused(outcome::refuse(WRONG_LENGTH))
 }
 
-// A packed file: its body, unpacked into a screen of the reader's own, and then exactly 32 bytes.
+// A packed file: its body, unpacked into plane rows of the reader's own, and then exactly 32 bytes.
 fn read_packed(file: &[u8], r: Resolution, area: &mut [u8]) -> ReadAnswer
     requires { ⌜ screenBytes ≤ length (now area) ⌝ }
     ensures answer { λ a. ⌜ a ≡ readAnswer (readPacked (now (file .entry)) r) ⌝ }
@@ -71,8 +72,8 @@ fn read_packed(file: &[u8], r: Resolution, area: &mut [u8]) -> ReadAnswer
     if PACKED_MOST < file.len() {
         return picture::read_refused(outcome::refuse(WRONG_LENGTH));
     }
-    let mut screen = [0u8; SCREEN_BYTES];
-    let unpacked = bodies::unpack_body(file, HEADER_LENGTH, r.raster(), &mut screen);
+    let mut rows = [0u8; SCREEN_BYTES];
+    let unpacked = bodies::unpack_body(file, HEADER_LENGTH, r.raster(), &mut rows);
     if unpacked.refusal.number != 0 {
         return picture::read_refused(unpacked.refusal);
     }
@@ -80,7 +81,7 @@ fn read_packed(file: &[u8], r: Resolution, area: &mut [u8]) -> ReadAnswer
     if file.len() != end + TAIL_LENGTH {
         return picture::read_refused(outcome::refuse_at(WRONG_TAIL, end));
     }
-    bytes::copy(&screen, area);
+    raster::put_rows(area, r.raster(), &rows);
     picture::read_done(
         elite_picture(file, r, end as u32),
         unpacked.body,

@@ -82,7 +82,8 @@ fn write_packed(r: Resolution, picture: Picture, screen: &[u8], out: &mut [u8]) 
     requires { ⌜ screenBytes ≤ length (now screen) ⌝ }
     requires { ⌜ fileBytes ≤ length (now out) ⌝ }
     ensures answer { λ a. ⌜ a ≡ writeAnswer (writePacked r picture (now (screen .entry))) ⌝ }
-    ensures output { λ _. ⌜ now (out .exit) ≡ writeOutput (writePacked r picture (now (screen .entry))) (now (out .entry)) ⌝ }
+    ensures output { λ _. ⌜ now (out .exit)
+        ≡ writeOutput (writePacked r picture (now (screen .entry))) (now (out .entry)) ⌝ }
 {
     let packed = bodies::pack_body(screen, r.raster(), BODY_LIMIT, &mut out[HEADER_LENGTH..]);
     if packed.refusal.number != 0 {
@@ -106,7 +107,8 @@ pub(crate) fn write_form(
     requires { ⌜ screenBytes ≤ length (now screen) ⌝ }
     requires { ⌜ fileBytes ≤ length (now out) ⌝ }
     ensures answer { λ a. ⌜ a ≡ writeAnswer (writeForm form r picture (now (screen .entry))) ⌝ }
-    ensures output { λ _. ⌜ now (out .exit) ≡ writeOutput (writeForm form r picture (now (screen .entry))) (now (out .entry)) ⌝ }
+    ensures output { λ _. ⌜ now (out .exit)
+        ≡ writeOutput (writeForm form r picture (now (screen .entry))) (now (out .entry)) ⌝ }
 {
     match form {
         Form::Plain => picture::write_done(put_plain(picture, screen, out), 0, 0),

@@ -1,5 +1,9 @@
+pub mod Bits
 pub mod Columns
 pub mod Lines
+pub mod Packed
+pub mod Pieces
 pub mod Places
 pub mod PlaneRegisters
 pub mod Registers
+pub mod Screens

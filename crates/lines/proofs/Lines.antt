@@ -14,7 +14,7 @@ use Rattle.lists.specs.Over.{over, overAt}
 use Rattle.lists.specs.Tabulate.{tabulate}
 use Rattle.lists.proofs.All.{allFirst-each, each-allFirst}
 use Rattle.lists.proofs.Digits.{fromBits-ext, bit-fromBits, fromBits-bits, sum-digits, sum-digit}
-use Rattle.lists.proofs.Over.{length-over, getD-over-in, length-overAt, getD-overAt-in, overAt-ext}
+use Rattle.lists.proofs.Over.{length-over, getD-over-in, length-overAt, getD-overAt-before, getD-overAt-in, overAt-ext}
 use Rattle.lists.proofs.Sum.{sum-ext}
 use Rattle.lists.proofs.Tabulate.{length-tabulate, getD-tabulate, tabulate-ext, tabulate-take}
 use Rattle.words.specs.Word.{wordAt, wordBytes}
@@ -32,6 +32,7 @@ use Rattle.resolution.specs.Shapes.{lineBytesOf, registersOf, rasterOf}
 use Rattle.resolution.proofs.Choice.{judgeScreen-fits}
 use Rattle.lines.specs.Registers.{pixelBit, register, scanLine, wordOf, lineByte, scanLineBytes, withLine}
 use Rattle.lines.specs.Lines.{registersFit, judgeLineAt, lineOutAt, lineOut, lineIn}
+use Rattle.lines.proofs.Pieces.{piece-within}
 use Rattle.lines.proofs.Places.{line-within, pixel-group}
 use Rattle.lines.proofs.Registers.{register-lt, length-scanLine, getD-scanLine}
 
@@ -70,7 +71,7 @@ line-room : (s : List ℕ) (r : Resolution) (y : ℕ) (line : List ℕ) → scre
     → y * lineBytesOf r + length (scanLineBytes r line) ≤ length s
 line-room s r y line long hy = omega (arith, line-within r y hy, length-scanLineBytes r line)
 
-length-withLine : (s : List ℕ) (r : Resolution) (y : ℕ) (line : List ℕ) → screenBytes ≤ length s → y < heightOf r
+pub length-withLine : (s : List ℕ) (r : Resolution) (y : ℕ) (line : List ℕ) → screenBytes ≤ length s → y < heightOf r
     → length (withLine s r y line) ≡ length s
 unfolding withLine
 length-withLine s r y line long hy =
@@ -109,7 +110,7 @@ module _ (s : List ℕ) (r : Resolution) (y : ℕ) (line : List ℕ) (long : scr
       ∙ ap₂ (λ (a b : ℕ). a * 256 + b) (byte-in g p 0 hg hp (omega arith)) (byte-in g p 1 hg hp (omega arith))
       ∙ div-add-mod' (wordOf line g p) 256
 
-  register-in : (x : ℕ) → x < widthOf r → getD line x 0 < registersOf r
+  pub register-in : (x : ℕ) → x < widthOf r → getD line x 0 < registersOf r
       → register (withLine s r y line) r x y ≡ getD line x 0
   unfolding register pixelBit wordOf
   register-in x hx hv =
@@ -123,6 +124,29 @@ module _ (s : List ℕ) (r : Resolution) (y : ℕ) (line : List ℕ) (long : scr
       ∙ ap (λ (m : ℕ). getD line m 0 / 2 ^ p % 2 * 2 ^ p) (div-add-mod' x 16))
       ∙ sum-digits (planesOf r) (getD line x 0)
       ∙ mod-eq-of-lt hv
+
+  -- a line above keeps its registers
+  byte-above : (z g p h : ℕ) → z < y → g < groupsOf r → p < planesOf r → h < 2
+      → getD (withLine s r y line) (wordOffset (rasterOf r) z g p + h) 0 ≡ getD s (wordOffset (rasterOf r) z g p + h) 0
+  unfolding withLine
+  byte-above z g p h hz hg hp hh =
+      let n : ℕ = lineBytesOf r in
+      let before : wordOffset (rasterOf r) z g p + h < y * n =
+      omega (arith, word-offset r z g p h, word-in-line r g p h hg hp hh, piece-within z y n hz) in
+      getD-overAt-before (y * n) (scanLineBytes r line) s (line-room s r y line long hy) _ 0 before
+
+  pub register-above : (x z : ℕ) → x < widthOf r → z < y → register (withLine s r y line) r x z ≡ register s r x z
+  unfolding register wordAt
+  register-above x z hx hz =
+      let t : List ℕ = withLine s r y line in
+      let o : ℕ → ℕ = wordOffset (rasterOf r) z (x / 16) in
+      let g : x / 16 < groupsOf r = pixel-group r x hx in
+      sum-ext (planesOf r) _ (λ p. pixelBit (getD s (o p) 0 * 256 + getD s (o p + 1) 0) (x % 16) * 2 ^ p)
+      (λ p hp.
+      let first = byte-above z (x / 16) p 0 hz g hp (omega arith) in
+      let second = byte-above z (x / 16) p 1 hz g hp (omega arith) in
+      let same : getD t (o p) 0 ≡ getD s (o p) 0 = rw (add-zero (o p)) at first in
+      ap₂ (λ (a b : ℕ). pixelBit (a * 256 + b) (x % 16) * 2 ^ p) same second)
 
 -- each of a line's first registers is one that the planes can name
 abbrev EachFits : Resolution → List ℕ → Type 0
@@ -155,7 +179,7 @@ module _ (s : List ℕ) (r : Resolution) (y : ℕ) (bytes : Bytes s) where
       ∙ mod-eq-of-lt (wordAt-lt s bytes (wordOffset (rasterOf r) y g p))
 
   -- nothing changes
-  withLine-scanLine : (line : List ℕ) → ((x : ℕ) → x < widthOf r → getD line x 0 ≡ register s r x y)
+  pub withLine-scanLine : (line : List ℕ) → ((x : ℕ) → x < widthOf r → getD line x 0 ≡ register s r x y)
       → screenBytes ≤ length s → y < heightOf r → withLine s r y line ≡ s
   unfolding withLine scanLineBytes
   withLine-scanLine line e long hy =

@@ -28,10 +28,29 @@ unfoldable pub columnRegister : PlaneBytes → ℕ → ℕ
 columnRegister b x =
     byteBit (b .first) x + byteBit (b .second) x * 2 + byteBit (b .third) x * 4 + byteBit (b .fourth) x * 8
 
--- the registers of the first `columns` columns of a scan line that begins at an offset
-unfoldable pub columnsLine : List ℕ → ℕ → ℕ → ℕ → List ℕ
-columnsLine s start planes columns =
-    tabulate (columns * 8) (λ x. columnRegister (planeBytes s (start + x / 8 / 2 * (planes * 2) + x / 8 % 2) planes) x)
+-- the register of pixel k of the group whose first byte stands at an offset
+abbrev pub groupRegister : List ℕ → ℕ → ℕ → ℕ → ℕ
+groupRegister s at planes k = columnRegister (planeBytes s (at + k / 8) planes) k
+
+-- the registers of the first `groups` groups of a scan line that begins at an offset
+unfoldable pub groupsLine : List ℕ → ℕ → ℕ → ℕ → List ℕ
+groupsLine s start planes groups =
+    tabulate (groups * 16) (λ x. groupRegister s (start + x / 16 * (planes * 2)) planes (x % 16))
+
+-- a byte's bits, one to a byte, the top one lowest
+unfoldable pub spread : ℕ → ℕ
+spread b =
+    b / 2 ^ 7 % 2 + b / 2 ^ 6 % 2 * 256 + b / 2 ^ 5 % 2 * 65536 + b / 2 ^ 4 % 2 * 16777216
+    + b / 2 ^ 3 % 2 * 4294967296 + b / 2 ^ 2 % 2 * 1099511627776 + b / 2 ^ 1 % 2 * 281474976710656
+    + b / 2 ^ 0 % 2 * 72057594037927936
+
+-- the registers of a column's eight pixels, one to a byte, the leftmost lowest
+unfoldable pub spreadColumn : PlaneBytes → ℕ
+spreadColumn b = spread (b .first) + spread (b .second) * 2 + spread (b .third) * 4 + spread (b .fourth) * 8
+
+-- byte i of a number, the lowest first
+unfoldable pub byteOf : ℕ → ℕ → ℕ
+byteOf v i = v / 2 ^ (i * 8) % 256
 
 -- plane p's byte of the eight registers from an offset on
 unfoldable pub planeByte : List ℕ → ℕ → ℕ → ℕ

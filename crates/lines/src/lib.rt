@@ -1,6 +1,6 @@
-// A scan line of registers taken from a screen or put into it. Definitions: specs/.
+// The registers of a scan line, or of all, taken from a screen or put into it. Definitions: specs/.
 ghost use mathlib.Core.Path.{_≡_};
-ghost use Prim.Native.Nat.{ℕ, _+_, _-_, _*_, _/_, _%_, _<_, _≤_};
+ghost use Prim.Native.Nat.{ℕ, _+_, _-_, _*_, _^_, _<_, _≤_};
 ghost use mathlib.Core.Bool.{true, cond};
 ghost use lib.ListN.{length, getD};
 ghost use lib.Dec.{ltb};
@@ -8,10 +8,17 @@ ghost use Rattle.lists.specs.All.{allFirst};
 ghost use Rattle.lists.specs.Over.{over, overAt};
 ghost use Rattle.lists.specs.Tabulate.{tabulate};
 ghost use Rattle.outcome.specs.Outcome.{refusalOf, later};
-ghost use Rattle.resolution.specs.Shapes.{widthOf, heightOf, lineBytesOf, screenBytes};
-ghost use Rattle.lines.specs.Columns.{planeBytes, columnRegister, columnsLine, planeByte};
-ghost use Rattle.lines.specs.Lines.{lineOutAt, lineInAt, lineOut, lineIn};
-ghost use Rattle.lines.specs.Registers.{scanLine, lineByte, withLine};
+ghost use Rattle.resolution.specs.Shapes.{widthOf, heightOf, screenBytes};
+ghost use Rattle.lines.specs.Columns.{planeBytes, groupRegister, groupsLine, planeByte};
+ghost use Rattle.lines.specs.Columns.{spread, spreadColumn, byteOf};
+ghost use Rattle.lines.specs.Lines.{registersFit, lineOutAt, lineInAt, lineOut, lineIn};
+ghost use Rattle.lines.specs.Packed.{fourRegisters, packed, packedByte, groupByte, groupsByte};
+ghost use Rattle.lines.specs.Registers.{scanLine, withLine};
+ghost use Rattle.lines.specs.Screens.{pixelsOf, screenRegisters, withLines, allFit};
+ghost use Rattle.lines.specs.Screens.{screenOutAt, screenInAt, screenOut, screenIn};
+
+mod spread;
+
 use outcome::AREA_TOO_SHORT;
 use outcome::OUT_OF_RANGE;
 use outcome::Refusal;
@@ -19,6 +26,7 @@ use outcome::UNKNOWN_RESOLUTION;
 use resolution::Chosen;
 use resolution::Resolution;
 use resolution::SCREEN_BYTES;
+use spread::SPREAD;
 
 // The bytes that hold eight pixels, one for each plane; 0 for a plane that is not there.
 struct PlaneBytes {
@@ -26,29 +34,6 @@ struct PlaneBytes {
     second: u8,
     third: u8,
     fourth: u8,
-}
-
-// The register of pixel x of a scan line, from the bytes of its column: plane p adds 2^p.
-fn column_register(b: PlaneBytes, x: usize) -> u8
-    ensures { λ v. ⌜ (v ≡ columnRegister b x) × (v < 16) ⌝ }
-{
-    let shift = 7 - x % 8;
-    (b.first >> shift) % 2
-        + (b.second >> shift) % 2 * 2
-        + (b.third >> shift) % 2 * 4
-        + (b.fourth >> shift) % 2 * 8
-}
-
-// The registers of the eight pixels of a scan line from column x on into out, from offset x on.
-fn copy_column(bytes: PlaneBytes, out: &mut [u8], x: usize)
-    requires { ⌜ x + 8 ≤ length (now out) ⌝ }
-    ensures { λ _. ⌜ now (out .exit) ≡ overAt x (tabulate 8 (λ k. columnRegister bytes (x + k))) (now (out .entry)) ⌝ }
-{
-    let mut k: usize = 0;
-    while k < 8 {
-        out[x + k] = column_register(bytes, x + k);
-        k += 1;
-    }
 }
 
 // The byte of a plane that is there, or 0.
@@ -72,46 +57,108 @@ fn column_planes(screen: &[u8], at: usize, planes: usize) -> PlaneBytes
     }
 }
 
-// The registers of the first columns of a scan line that begins at offset start, from the left, into out.
-fn copy_columns(screen: &[u8], start: usize, planes: usize, columns: usize, out: &mut [u8])
-    requires { ⌜ (screenBytes ≤ length (now screen)) × (planes ≤ 4)
-        × (columns ≤ 80) × (columns * 8 ≤ length (now out)) ⌝ }
-    requires { ⌜ ((h : ℕ) → h < columns → start + h / 2 * (planes * 2) + h % 2 + (planes - 1) * 2 < screenBytes) ⌝ }
-    ensures { λ _. ⌜ now (out .exit) ≡ over (columnsLine (now (screen .entry)) start planes columns)
+// The table of `spread`, entry by entry.
+fn spread_table() -> [u64; 256]
+    ensures { λ v. ⌜ v ≡ tabulate 256 spread ⌝ }
+{
+    SPREAD
+}
+
+// A byte's bits, one to a byte.
+fn spread_byte(table: &[u64; 256], b: u8) -> u64
+    requires { ⌜ now table ≡ tabulate 256 spread ⌝ }
+    ensures { λ v. ⌜ (v ≡ spread b) × (v ≤ 72340172838076673) ⌝ }
+{
+    table[b as usize]
+}
+
+// The registers of a column of eight pixels, one to a byte, the leftmost lowest: plane p adds 2^p.
+fn spread_planes(table: &[u64; 256], b: PlaneBytes) -> u64
+    requires { ⌜ now table ≡ tabulate 256 spread ⌝ }
+    ensures { λ v. ⌜ v ≡ spreadColumn b ⌝ }
+{
+    let first = spread_byte(table, b.first);
+    let second = spread_byte(table, b.second);
+    let third = spread_byte(table, b.third);
+    let fourth = spread_byte(table, b.fourth);
+    first + second * 2 + third * 4 + fourth * 8
+}
+
+// The same of the column that lies within the screen and whose plane 0 is at offset at. One and two planes are told
+// apart, so that the compiler reads no more than is there.
+fn spread_column(table: &[u64; 256], screen: &[u8], at: usize, planes: usize) -> u64
+    requires { ⌜ (now table ≡ tabulate 256 spread) × (at + (planes - 1) * 2 < screenBytes)
+        × (screenBytes ≤ length (now screen)) ⌝ }
+    ensures { λ v. ⌜ v ≡ spreadColumn (planeBytes (now (screen .entry)) at planes) ⌝ }
+{
+    if planes == 1 {
+        return spread_byte(table, screen[at]);
+    }
+    if planes == 2 {
+        return spread_byte(table, screen[at]) + spread_byte(table, screen[at + 2]) * 2;
+    }
+    spread_planes(table, column_planes(screen, at, planes))
+}
+
+// The eight bytes of a number, the lowest first, into out from offset x on.
+fn put_eight(v: u64, out: &mut [u8], x: usize)
+    requires { ⌜ x + 8 ≤ length (now out) ⌝ }
+    ensures { λ _. ⌜ now (out .exit) ≡ overAt x (tabulate 8 (byteOf v)) (now (out .entry)) ⌝ }
+{
+    let mut i: usize = 0;
+    while i < 8 {
+        out[x + i] = ((v >> (i * 8)) % 256) as u8;
+        i += 1;
+    }
+}
+
+// The registers of a group that lies within the screen, plane 0's word at offset at, into out from offset x on.
+fn copy_group(table: &[u64; 256], screen: &[u8], at: usize, planes: usize, out: &mut [u8], x: usize)
+    requires { ⌜ (now table ≡ tabulate 256 spread) × (at + 1 + (planes - 1) * 2 < screenBytes)
+        × (screenBytes ≤ length (now screen)) × (x + 16 ≤ length (now out)) ⌝ }
+    ensures { λ _. ⌜ now (out .exit)
+        ≡ overAt x (tabulate 16 (groupRegister (now (screen .entry)) at planes)) (now (out .entry)) ⌝ }
+{
+    let left = spread_column(table, screen, at, planes);
+    let right = spread_column(table, screen, at + 1, planes);
+    put_eight(left, out, x);
+    put_eight(right, out, x + 8);
+}
+
+// The registers of the first groups of a scan line that begins at offset start, from the left, into out.
+fn copy_groups(
+    table: &[u64; 256],
+    screen: &[u8],
+    start: usize,
+    planes: usize,
+    groups: usize,
+    out: &mut [u8],
+)
+    requires { ⌜ (now table ≡ tabulate 256 spread) × (screenBytes ≤ length (now screen)) × (groups ≤ 40)
+        × (groups * 16 ≤ length (now out)) ⌝ }
+    requires { ⌜ (0 < planes) × (planes ≤ 4) × (start + groups * (planes * 2) ≤ screenBytes) ⌝ }
+    ensures { λ _. ⌜ now (out .exit) ≡ over (groupsLine (now (screen .entry)) start planes groups)
         (now (out .entry)) ⌝ }
 {
-    let mut h: usize = 0;
-    while h < columns {
-        let at = start + h / 2 * (planes * 2) + h % 2;
-        let bytes = column_planes(screen, at, planes);
-        copy_column(bytes, out, h * 8);
-        h += 1;
+    let mut g: usize = 0;
+    while g < groups {
+        copy_group(table, screen, start + g * (planes * 2), planes, out, g * 16);
+        g += 1;
     }
 }
 
 // The registers of a scan line, from the left, into out. What the shape table says is repeated as constants of each
 // resolution, so that the compiler computes with constants.
-fn fill_line(screen: &[u8], r: Resolution, line: usize, out: &mut [u8])
-    requires { ⌜ (screenBytes ≤ length (now screen)) × (line < heightOf r) × (widthOf r ≤ length (now out)) ⌝ }
+fn fill_line(table: &[u64; 256], screen: &[u8], r: Resolution, line: usize, out: &mut [u8])
+    requires { ⌜ (now table ≡ tabulate 256 spread) × (screenBytes ≤ length (now screen)) × (line < heightOf r)
+        × (widthOf r ≤ length (now out)) ⌝ }
     ensures { λ _. ⌜ now (out .exit) ≡ over (scanLine (now (screen .entry)) r line) (now (out .entry)) ⌝ }
 {
     match r {
-        Resolution::Low => copy_columns(screen, line * 160, 4, 40, out),
-        Resolution::Medium => copy_columns(screen, line * 160, 2, 80, out),
-        Resolution::High => copy_columns(screen, line * 80, 1, 80, out),
+        Resolution::Low => copy_groups(table, screen, line * 160, 4, 20, out),
+        Resolution::Medium => copy_groups(table, screen, line * 160, 2, 40, out),
+        Resolution::High => copy_groups(table, screen, line * 80, 1, 40, out),
     }
-}
-
-// The registers of a scan line, from the left, into out, by way of an array of its own: the compiler then knows that
-// writing a register changes no byte of the screen, which makes it faster.
-fn copy_line(screen: &[u8], r: Resolution, line: usize, out: &mut [u8])
-    requires { ⌜ (screenBytes ≤ length (now screen)) × (line < heightOf r) × (widthOf r ≤ length (now out)) ⌝ }
-    ensures { λ _. ⌜ now (out .exit) ≡ over (scanLine (now (screen .entry)) r line) (now (out .entry)) ⌝ }
-{
-    let mut registers = [0u8; 640];
-    fill_line(screen, r, line, &mut registers);
-    let width = r.width();
-    bytes::copy(&registers[..width], out);
 }
 
 // Line out at a resolution.
@@ -127,7 +174,8 @@ fn line_out_at(screen: &[u8], r: Resolution, line: usize, out: &mut [u8]) -> Ref
     if out.len() < r.width() {
         return outcome::refuse(AREA_TOO_SHORT);
     }
-    copy_line(screen, r, line, out);
+    let table = spread_table();
+    fill_line(&table, screen, r, line, out);
     outcome::none()
 }
 
@@ -146,62 +194,149 @@ pub fn line_out(screen: &[u8], resolution: u16, line: usize, out: &mut [u8]) -> 
     }
 }
 
-// Whether each of the first n registers is below limit.
-fn all_below(registers: &[u8], n: usize, limit: u8) -> bool
+// The set bits of the first n registers: below a power of two just where each of them is.
+fn set_bits(registers: &[u8], n: usize) -> u8
     requires { ⌜ n ≤ length (now registers) ⌝ }
-    ensures { λ v. ⌜ v ≡ allFirst n (λ x. ltb x limit) (now (registers .entry)) ⌝ }
+    ensures { λ v. ⌜ ((p : ℕ) → ltb v (2 ^ p) ≡ allFirst n (λ x. ltb x (2 ^ p)) (now (registers .entry))) ⌝ }
 {
-    let mut fit = true;
+    let mut bits: u8 = 0;
     let mut i: usize = 0;
     while i < n {
-        if registers[i] >= limit {
-            fit = false;
-        }
+        bits = bits | registers[i];
         i += 1;
     }
-    fit
+    bits
 }
 
-// Plane p's byte of the eight registers from at on.
-fn plane_byte(registers: &[u8], at: usize, p: usize) -> u8
-    requires { ⌜ (at + 8 ≤ length (now registers)) × (p < 8) ⌝ }
-    ensures { λ v. ⌜ v ≡ planeByte (now (registers .entry)) at p ⌝ }
+fn wide(b: u8) -> u64
+    ensures { λ v. ⌜ (v ≡ b) × (v < 256) ⌝ }
 {
-    let mut byte: u8 = 0;
-    let mut k: usize = 0;
-    while k < 8 {
-        byte = byte * 2 + (registers[at + k] >> p) % 2;
-        k += 1;
+    b as u64
+}
+
+// Four registers, a byte each, the leftmost lowest.
+fn four_registers(registers: &[u8], at: usize) -> u64
+    requires { ⌜ at + 4 ≤ length (now registers) ⌝ }
+    ensures { λ v. ⌜ (v ≡ fourRegisters (now (registers .entry)) at) × (v < 4294967296) ⌝ }
+{
+    wide(registers[at])
+        + wide(registers[at + 1]) * 256
+        + wide(registers[at + 2]) * 65536
+        + wide(registers[at + 3]) * 16777216
+}
+
+// Eight registers, four bits each.
+fn eight_registers(registers: &[u8], at: usize) -> u64
+    requires { ⌜ at + 8 ≤ length (now registers) ⌝ }
+    ensures { λ v. ⌜ (v ≡ packed (now (registers .entry)) at) × (v < 73014444032) ⌝ }
+{
+    four_registers(registers, at) * 16 + four_registers(registers, at + 4)
+}
+
+// The lowest bit of each of eight packed registers.
+const LOW_BITS: u64 = 286331153;
+
+// 2^27 + 2^18 + 2^9 + 1: a product with it moves the two bits of byte k up by 27 - 9 * k, so that eight bits meet in
+// the byte that starts at bit 24.
+const GATHERER: u64 = 134480385;
+
+// Plane p's byte of eight packed registers.
+fn plane_byte(eight: u64, p: usize) -> u8
+    requires { ⌜ p < 4 ⌝ }
+    ensures { λ v. ⌜ v ≡ packedByte eight p ⌝ }
+{
+    ((((eight >> p) & LOW_BITS) * GATHERER >> 24) % 256) as u8
+}
+
+// Byte i of a group, from its left and its right eight registers.
+fn group_byte(left: u64, right: u64, i: usize) -> u8
+    requires { ⌜ i < 8 ⌝ }
+    ensures { λ v. ⌜ v ≡ groupByte left right i ⌝ }
+{
+    if i % 2 == 0 {
+        plane_byte(left, i / 2)
+    } else {
+        plane_byte(right, i / 2)
     }
-    byte
 }
 
-// Byte i of the scan line that the registers make. The planes are constants of each resolution, so that the compiler
-// divides by constants.
-fn line_byte(registers: &[u8], r: Resolution, i: usize) -> u8
-    requires { ⌜ (i < 160) × (i < lineBytesOf r) × (widthOf r ≤ length (now registers)) ⌝ }
-    ensures { λ v. ⌜ v ≡ lineByte r (now (registers .entry)) i ⌝ }
+// The first bytes of a group, size of them, into the screen from an offset on.
+fn put_group(left: u64, right: u64, size: usize, screen: &mut [u8], at: usize)
+    requires { ⌜ (size ≤ 8) × (at + size ≤ length (now screen)) ⌝ }
+    ensures { λ _. ⌜ now (screen .exit) ≡ overAt at (tabulate size (groupByte left right)) (now (screen .entry)) ⌝ }
 {
-    let word = i / 2;
-    let half = i % 2 * 8;
-    match r {
-        Resolution::Low => plane_byte(registers, word / 4 * 16 + half, word % 4),
-        Resolution::Medium => plane_byte(registers, word / 2 * 16 + half, word % 2),
-        Resolution::High => plane_byte(registers, word * 16 + half, 0),
-    }
-}
-
-// The scan line that the registers make, into the screen.
-fn put_line(screen: &mut [u8], r: Resolution, line: usize, registers: &[u8])
-    requires { ⌜ (screenBytes ≤ length (now screen)) × (line < heightOf r) × (widthOf r ≤ length (now registers)) ⌝ }
-    ensures { λ _. ⌜ now (screen .exit) ≡ withLine (now (screen .entry)) r line (now (registers .entry)) ⌝ }
-{
-    let size = r.line_bytes();
-    let start = line * size;
     let mut i: usize = 0;
     while i < size {
-        screen[start + i] = line_byte(registers, r, i);
+        screen[at + i] = group_byte(left, right, i);
         i += 1;
+    }
+}
+
+// The groups of size bytes that registers below 16 make, into the screen from offset start on.
+fn put_groups(screen: &mut [u8], start: usize, size: usize, groups: usize, registers: &[u8])
+    requires { ⌜ (0 < size) × (size ≤ 8) × (groups ≤ 40)
+        × (start + groups * size ≤ screenBytes) × (screenBytes ≤ length (now screen)) ⌝ }
+    requires { ⌜ (groups * 16 ≤ length (now registers))
+        × ((x : ℕ) → x < groups * 16 → getD (now registers) x 0 < 16) ⌝ }
+    ensures { λ _. ⌜ now (screen .exit)
+        ≡ overAt start (tabulate (groups * size) (groupsByte (now (registers .entry)) size)) (now (screen .entry)) ⌝ }
+{
+    let mut g: usize = 0;
+    while g < groups {
+        let left = eight_registers(registers, g * 16);
+        let right = eight_registers(registers, g * 16 + 8);
+        put_group(left, right, size, screen, start + g * size);
+        g += 1;
+    }
+}
+
+// The byte of eight registers below 2.
+fn column_byte(registers: &[u8], at: usize) -> u8
+    requires { ⌜ (at + 8 ≤ length (now registers)) × ((k : ℕ) → k < 8 → getD (now registers) (at + k) 0 < 2) ⌝ }
+    ensures { λ v. ⌜ v ≡ planeByte (now (registers .entry)) at 0 ⌝ }
+{
+    ((eight_registers(registers, at) * GATHERER >> 24) % 256) as u8
+}
+
+// The bytes of 64 registers below 2, from offset x on, into the screen from an offset on.
+fn put_eight_columns(screen: &mut [u8], at: usize, registers: &[u8], x: usize)
+    requires { ⌜ (at + 8 ≤ length (now screen)) × (x + 64 ≤ length (now registers))
+        × ((k : ℕ) → k < 64 → getD (now registers) (x + k) 0 < 2) ⌝ }
+    ensures { λ _. ⌜ now (screen .exit)
+        ≡ overAt at (tabulate 8 (λ k. planeByte (now (registers .entry)) (x + k * 8) 0)) (now (screen .entry)) ⌝ }
+{
+    let mut k: usize = 0;
+    while k < 8 {
+        screen[at + k] = column_byte(registers, x + k * 8);
+        k += 1;
+    }
+}
+
+// The bytes of 640 registers below 2, into the screen from offset start on.
+fn put_columns(screen: &mut [u8], start: usize, registers: &[u8])
+    requires { ⌜ (start + 80 ≤ screenBytes) × (screenBytes ≤ length (now screen))
+        × (640 ≤ length (now registers)) × ((x : ℕ) → x < 640 → getD (now registers) x 0 < 2) ⌝ }
+    ensures { λ _. ⌜ now (screen .exit)
+        ≡ overAt start (tabulate 80 (λ h. planeByte (now (registers .entry)) (h * 8) 0)) (now (screen .entry)) ⌝ }
+{
+    let mut h: usize = 0;
+    while h < 80 {
+        put_eight_columns(screen, start + h, registers, h * 8);
+        h += 8;
+    }
+}
+
+// The scan line that the registers make, into the screen. What the shape table says is repeated as constants of each
+// resolution, and each has a loop of its own, so that the compiler computes with constants.
+fn put_line(screen: &mut [u8], r: Resolution, line: usize, registers: &[u8])
+    requires { ⌜ (screenBytes ≤ length (now screen)) × (line < heightOf r) × (widthOf r ≤ length (now registers)) ⌝ }
+    requires { ⌜ registersFit r (now registers) ≡ true ⌝ }
+    ensures { λ _. ⌜ now (screen .exit) ≡ withLine (now (screen .entry)) r line (now (registers .entry)) ⌝ }
+{
+    match r {
+        Resolution::Low => put_groups(screen, line * 160, 8, 20, registers),
+        Resolution::Medium => put_groups(screen, line * 160, 4, 40, registers),
+        Resolution::High => put_columns(screen, line * 80, registers),
     }
 }
 
@@ -218,8 +353,8 @@ fn line_in_at(screen: &mut [u8], r: Resolution, line: usize, registers: &[u8]) -
     if registers.len() < r.width() {
         return outcome::refuse(AREA_TOO_SHORT);
     }
-    let fit = all_below(registers, r.width(), r.registers());
-    if !fit {
+    let bits = set_bits(registers, r.width());
+    if r.registers() <= bits {
         return outcome::refuse(OUT_OF_RANGE);
     }
     put_line(screen, r, line, registers);
@@ -237,6 +372,107 @@ pub fn line_in(screen: &mut [u8], resolution: u16, line: usize, registers: &[u8]
     }
     match Resolution::from_number(resolution) {
         Chosen::Known(r) => line_in_at(screen, r, line, registers),
+        Chosen::Unknown => outcome::refuse(UNKNOWN_RESOLUTION),
+    }
+}
+
+// Pixels of a screen.
+fn pixels(r: Resolution) -> usize
+    ensures { λ n. ⌜ n ≡ pixelsOf r ⌝ }
+{
+    r.height() * r.width()
+}
+
+// The registers of all pixels, line after line from the top, into out.
+fn copy_lines(table: &[u64; 256], screen: &[u8], r: Resolution, out: &mut [u8])
+    requires { ⌜ (now table ≡ tabulate 256 spread) × (screenBytes ≤ length (now screen))
+        × (pixelsOf r ≤ length (now out)) ⌝ }
+    ensures { λ _. ⌜ now (out .exit) ≡ over (screenRegisters (now (screen .entry)) r) (now (out .entry)) ⌝ }
+{
+    let width = r.width();
+    let height = r.height();
+    let mut y: usize = 0;
+    while y < height {
+        fill_line(table, screen, r, y, &mut out[y * width..]);
+        y += 1;
+    }
+}
+
+// Screen out at a resolution.
+fn screen_out_at(screen: &[u8], r: Resolution, out: &mut [u8]) -> Refusal
+    requires { ⌜ screenBytes ≤ length (now screen) ⌝ }
+    ensures { λ a. ⌜ a ≡ refusalOf (screenOutAt (now (screen .entry)) r (length (now (out .entry)))) ⌝ }
+    ensures { λ _. ⌜ now (out .exit) ≡ later (screenOutAt (now (screen .entry)) r (length (now (out .entry))))
+        (λ l. over l (now (out .entry))) (now (out .entry)) ⌝ }
+{
+    if out.len() < pixels(r) {
+        return outcome::refuse(AREA_TOO_SHORT);
+    }
+    let table = spread_table();
+    copy_lines(&table, screen, r, out);
+    outcome::none()
+}
+
+// Screen out: the registers of all pixels into out, line after line from the top, one byte a pixel.
+pub fn screen_out(screen: &[u8], resolution: u16, out: &mut [u8]) -> Refusal
+    ensures { λ a. ⌜ a ≡ refusalOf (screenOut (now (screen .entry)) resolution (length (now (out .entry)))) ⌝ }
+    ensures { λ _. ⌜ now (out .exit) ≡ later (screenOut (now (screen .entry)) resolution (length (now (out .entry))))
+        (λ l. over l (now (out .entry))) (now (out .entry)) ⌝ }
+{
+    if screen.len() < SCREEN_BYTES {
+        return outcome::refuse(AREA_TOO_SHORT);
+    }
+    match Resolution::from_number(resolution) {
+        Chosen::Known(r) => screen_out_at(screen, r, out),
+        Chosen::Unknown => outcome::refuse(UNKNOWN_RESOLUTION),
+    }
+}
+
+// The scan lines that the registers make, line after line from the top, into the screen.
+fn put_lines(screen: &mut [u8], r: Resolution, registers: &[u8])
+    requires { ⌜ (screenBytes ≤ length (now screen)) × (pixelsOf r ≤ length (now registers))
+        × (allFit r (now registers) ≡ true) ⌝ }
+    ensures { λ _. ⌜ now (screen .exit) ≡ withLines (now (screen .entry)) r (now (registers .entry)) (heightOf r) ⌝ }
+{
+    let width = r.width();
+    let height = r.height();
+    let mut y: usize = 0;
+    while y < height {
+        put_line(screen, r, y, &registers[y * width..]);
+        y += 1;
+    }
+}
+
+// Screen in at a resolution.
+fn screen_in_at(screen: &mut [u8], r: Resolution, registers: &[u8]) -> Refusal
+    requires { ⌜ screenBytes ≤ length (now screen) ⌝ }
+    ensures { λ a. ⌜ a ≡ refusalOf (screenInAt (now (screen .entry)) r (now (registers .entry))) ⌝ }
+    ensures { λ _. ⌜ now (screen .exit) ≡ later (screenInAt (now (screen .entry)) r (now (registers .entry)))
+        (λ s. s) (now (screen .entry)) ⌝ }
+{
+    let n = pixels(r);
+    if registers.len() < n {
+        return outcome::refuse(AREA_TOO_SHORT);
+    }
+    let all = set_bits(registers, n);
+    if r.registers() <= all {
+        return outcome::refuse(OUT_OF_RANGE);
+    }
+    put_lines(screen, r, registers);
+    outcome::none()
+}
+
+// Screen in: all pixels of the screen from registers, line after line from the top, one byte a pixel.
+pub fn screen_in(screen: &mut [u8], resolution: u16, registers: &[u8]) -> Refusal
+    ensures { λ a. ⌜ a ≡ refusalOf (screenIn (now (screen .entry)) resolution (now (registers .entry))) ⌝ }
+    ensures { λ _. ⌜ now (screen .exit) ≡ later (screenIn (now (screen .entry)) resolution (now (registers .entry)))
+        (λ s. s) (now (screen .entry)) ⌝ }
+{
+    if screen.len() < SCREEN_BYTES {
+        return outcome::refuse(AREA_TOO_SHORT);
+    }
+    match Resolution::from_number(resolution) {
+        Chosen::Known(r) => screen_in_at(screen, r, registers),
         Chosen::Unknown => outcome::refuse(UNKNOWN_RESOLUTION),
     }
 }

@@ -1,19 +1,17 @@
 -- Laws of control bytes: what each says, how its record is written, and the record that a least body begins with.
 use Prim.Native.Nat.{ℕ, suc, _+_, _-_, _≤_, _<_}
 use native.Mathlib.Omega.{arith}
-use native.Mathlib.Nat.{eq-or-lt-of-le}
 use native.Mathlib.Numerals.{add-one}
-use mathlib.Core.Path.{_≡_, refl, sym, ap, _∙_}
-use mathlib.Core.Logic.{⊎-elim}
+use mathlib.Core.Path.{_≡_, refl, ap, _∙_}
 use mathlib.Core.List.{List, [], _∷_, _++_}
 use borrow.Rule.Slice.PartMut.{putMid}
 use borrow.Author.Tests.{lt-ltb, le-ltb}
 use lib.ListN.{length, getD, take, drop, set, length-drop, length-set}
-use lib.Seq.{length-take-le, getD-set-same, getD-set-other}
+use lib.Seq.{length-take-le}
 use Rattle.lists.specs.Over.{over}
 use Rattle.lists.proofs.Parts.{tail-part, tail-put}
 use Rattle.pack.specs.Least.{Body, scan, least, leastRecords}
-use Rattle.pack.specs.Controls.{takenBy, shownBy, recordOf, ControlsFrom}
+use Rattle.pack.specs.Controls.{takenBy, shownBy, recordOf}
 use Rattle.pack.proofs.Valid.{FirstRecord, a-literal, a-repeat, first-record}
 
 -- ---- what a control byte says
@@ -101,16 +99,3 @@ leads-first x t b h (a-repeat k one l e) =
 pub leads : (s : List ℕ) → 1 ≤ length s → length s ≤ 128 → Leads (getD (least s) 0 0) s (scan s .best)
 leads [] l h = absurd (omega arith)
 leads (x ∷ t) l h = leads-first x t (scan (x ∷ t) .best) h (first-record x t)
-
--- ---- the control bytes from a place on, and one more before it
-
-pub controls-more : (row controls : List ℕ) (i v : ℕ) → i < length controls → v ≡ getD (least (drop i row)) 0 0
-    → ControlsFrom row controls (suc i) → ControlsFrom row (set controls i v) i
-controls-more row controls i v h e f j l m =
-    ⊎-elim
-    (λ q. ap (λ (k : ℕ). getD (set controls i v) k 0) (sym q)
-    ∙ getD-set-same controls i v 0 h
-    ∙ e
-    ∙ ap (λ (k : ℕ). getD (least (drop k row)) 0 0) q)
-    (λ q. getD-set-other controls i j v 0 (omega arith) ∙ f j q m)
-    (eq-or-lt-of-le l)

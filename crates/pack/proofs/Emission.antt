@@ -1,89 +1,108 @@
--- Writing the least body record by record: what the loop of `emit` keeps, and what a turn does to it.
+-- Writing the least body record by record: nothing, one record, one part after another, and all.
 use Prim.Native.Nat.{ℕ, _+_, _-_, _≤_, _<_}
 use native.Mathlib.Omega.{arith}
-use native.Mathlib.Nat.{le-antisymm}
-use mathlib.Core.Path.{_≡_, sym, ap, _∙_, subst}
-use mathlib.Core.List.{List, [], _++_}
-use lib.ListN.{length, getD, take, drop, length-drop}
-use lib.Seq.{drop-drop, drop-length}
+use mathlib.Core.Path.{_≡_, refl, sym, ap, _∙_, subst}
+use mathlib.Core.List.{List, [], _++_, append-assoc, append-nil}
+use lib.ListN.{length, getD, take, drop, length-append, length-drop, drop-of-length-le}
+use lib.Seq.{drop-drop}
 use borrow.Rule.Slice.PartMut.{putMid}
 use Rattle.lists.specs.Over.{over}
+use Rattle.lists.specs.Written.{Written}
 use Rattle.lists.proofs.Parts.{tail-part}
-use Rattle.lists.proofs.Pieces.{PartlyWritten, writing-start, writing-end, writing-more, piece-fits}
+use Rattle.lists.proofs.Pieces.{written-as, written-then, length-written}
 use Rattle.pack.specs.Least.{scan, least, leastRecords}
 use Rattle.pack.specs.Controls.{takenBy, shownBy, recordOf}
+use Rattle.pack.specs.Emitted.{Emitted}
 use Rattle.pack.proofs.Controls.{Leads, leads, record-length}
+use Rattle.pack.proofs.Records.{Puts}
 
--- after n records, which stand for i bytes of the row and are o bytes of out, first out₀
-pub record Emitted (row out₀ out : List ℕ) (i o n : ℕ) : Type 0 where
-  pub within : i ≤ length row
-  pub few : n ≤ i
-  pub records : n + leastRecords (drop i row) ≡ leastRecords row
-  pub writing : PartlyWritten (least row) (least (drop i row)) out₀ out o
+pub emitted-none : (row : List ℕ) (from : ℕ) (out : List ℕ) → from ≤ length row → Emitted row from from out out 0 0
+emitted-none row from out h =
+    record {
+      within = h;
+      few = omega arith;
+      body = [];
+      bytes = refl;
+      records = omega arith;
+      written = record { bytes = refl; all = refl };
+    }
 
-pub emit-start : (row out₀ : List ℕ) → Emitted row out₀ out₀ 0 0 0
-emit-start row out₀ =
-    record { within = omega arith; few = omega arith; records = omega arith; writing = writing-start (least row) out₀ }
+-- ---- the record of control byte c, with which the least body from the place i on begins
 
-pub emit-end : {row out₀ out : List ℕ} {i o n : ℕ} → Emitted row out₀ out i o n → length row ≤ i
-    → (n ≡ leastRecords row) × (out ≡ over (least row) out₀)
-unfolding scan
-emit-end {row} {out₀} {out} {i} {o} inv h =
-    let e : drop i row ≡ [] = ap (λ (k : ℕ). drop k row) (le-antisymm (inv .within) h) ∙ drop-length row in (
-      omega (arith, inv .records, ap leastRecords e),
-      writing-end (subst (λ (s : List ℕ). PartlyWritten (least row) (least s) out₀ out o) e (inv .writing)) .all,
-    )
-
--- ---- a turn, at the suffix from i, whose least body begins with control byte c
-
-module _ {row out₀ out : List ℕ} {i o n : ℕ} (inv : Emitted row out₀ out i o n) (more : i < length row)
-    (narrow : length row ≤ 128) (fits : length (least row) ≤ length out₀) (c : ℕ)
+module _ (row : List ℕ) (i : ℕ) (more : i < length row) (narrow : length row ≤ 128) (c : ℕ)
     (known : c ≡ getD (least (drop i row)) 0 0) where
-  -- the record, and what is left of the row
-  abbrev next : List ℕ
-  next = recordOf c (drop i row)
-
-  abbrev left : List ℕ
-  left = drop (takenBy c) (drop i row)
-
-  pub turn-leads : Leads c (drop i row) (scan (drop i row) .best)
-  turn-leads =
+  pub record-leads : Leads c (drop i row) (scan (drop i row) .best)
+  record-leads =
       let l = length-drop i row in
       subst (λ (k : ℕ). Leads k (drop i row) (scan (drop i row) .best)) (sym known)
       (leads (drop i row) (omega arith) (omega arith))
 
-  -- the record and the least body of what is left are still to come
-  turn-writing : PartlyWritten (least row) (next ++ least left) out₀ out o
-  turn-writing = subst (λ (b : List ℕ). PartlyWritten (least row) b out₀ out o) (turn-leads .bytes) (inv .writing)
-
-  -- the parts of row and out that the code lends
+  -- the part of the row that the code lends
   abbrev rowPart : List ℕ
   rowPart = take (length row - i) (drop i row)
 
-  abbrev outPart : List ℕ
-  outPart = take (length out - o) (drop o out)
+  pub record-room : (out : List ℕ) → length (least (drop i row)) ≤ length out
+      → (1 ≤ length rowPart) × (shownBy c ≤ length rowPart) × (shownBy c < length out)
+  record-room out fits =
+      let lead = record-leads in
+      let l = record-length c (drop i row) (lead .shown) in
+      let a = length-append (recordOf c (drop i row)) (least (drop (takenBy c) (drop i row))) in
+      rw (tail-part row i) (omega (arith, length-drop i row, lead .shown, l, a, ap length (lead .bytes)))
 
-  pub turn-room : (1 ≤ length rowPart) × (shownBy c ≤ length rowPart) × (shownBy c < length outPart)
-  turn-room =
-      rw (tail-part row i)
-      (omega (
-        arith,
-        length-drop i row,
-        turn-leads .shown,
-        record-length c (drop i row) (turn-leads .shown),
-        piece-fits next (least left) fits turn-writing,
-      ))
-
-  pub turn-emits : {last : List ℕ} {taken made : ℕ} → (taken ≡ takenBy c) × (made ≡ length (recordOf c rowPart))
-      → last ≡ over (recordOf c rowPart) outPart
-      → Emitted row out₀ (putMid o (length out - o) out last) (i + taken) (o + made) (n + 1)
-  turn-emits {last} (p, q) e =
-      let s : drop (i + takenBy c) row ≡ left = sym (drop-drop (takenBy c) i row) in
-      let w = writing-more next (least left) fits turn-writing last (rw (tail-part row i) at e) in
-      rw (p, q, tail-part row i)
+  pub emitted-record : {out last : List ℕ} {taken made : ℕ} → Puts c rowPart out last taken made
+      → Emitted row i (i + taken) out last made 1
+  emitted-record {out} {last} {taken} {made} p =
+      let lead = record-leads in
+      let w : Written (recordOf c rowPart) out last made = record { bytes = p .0 .1; all = p .1 } in
+      let s : drop (i + takenBy c) row ≡ drop (takenBy c) (drop i row) = sym (drop-drop (takenBy c) i row) in
+      rw (p .0 .0)
       (record {
-        within = omega (arith, turn-leads .within, length-drop i row, inv .within);
-        few = omega (arith, turn-leads .some, inv .few);
-        records = omega (arith, inv .records, turn-leads .records, ap leastRecords s);
-        writing = rw s w;
+        within = omega (arith, lead .within, length-drop i row);
+        few = omega (arith, lead .some);
+        body = recordOf c (drop i row);
+        bytes = ap (λ (t : List ℕ). recordOf c (drop i row) ++ least t) s ∙ sym (lead .bytes);
+        records = omega (arith, lead .records, ap leastRecords s);
+        written = rw (tail-part row i) at w;
       })
+
+-- ---- one part after another
+
+module _ {row out₀ out : List ℕ} {from i o n : ℕ} (e : Emitted row from i out₀ out o n) where
+  pub emitted-then : {last : List ℕ} {j m k : ℕ} → Emitted row i j (take (length out - o) (drop o out)) last m k
+      → Emitted row from j out₀ (putMid o (length out - o) out last) (o + m) (n + k)
+  emitted-then {last} {j} f =
+      record {
+        within = f .within;
+        few = omega (arith, e .few, f .few);
+        body = e .body ++ f .body;
+        bytes =
+            append-assoc (e .body) (f .body) (least (drop j row))
+            ∙ ap (λ (t : List ℕ). e .body ++ t) (f .bytes)
+            ∙ e .bytes;
+        records = omega (arith, e .records, f .records);
+        written = written-then (e .written) (f .written);
+      }
+
+  module _ (fits : length (least (drop from row)) ≤ length out₀) where
+    part-length : length (e .body) + length (least (drop i row)) ≡ length (least (drop from row))
+    part-length = sym (length-append (e .body) (least (drop i row))) ∙ ap length (e .bytes)
+
+    -- the output is as long as it was, and what is left of the body fits the part that is lent
+    pub emitted-kept : length out ≡ length out₀
+    emitted-kept = length-written (e .written) (omega (arith, part-length))
+
+    pub emitted-room : o ≤ length out
+    emitted-room = omega (arith, part-length, emitted-kept, e .written .bytes)
+
+    pub left-fits : length (least (drop i row)) ≤ length (take (length out - o) (drop o out))
+    left-fits =
+        rw (tail-part out o) (omega (arith, length-drop o out, part-length, emitted-kept, e .written .bytes))
+
+pub emitted-all : {row out₀ out : List ℕ} {i o n : ℕ} → Emitted row 0 i out₀ out o n → length row ≤ i
+    → ((o ≡ length (least row)) × (n ≡ leastRecords row)) × (out ≡ over (least row) out₀)
+unfolding scan
+emitted-all {row} e h =
+    let d = drop-of-length-le row h in
+    let b = sym (append-nil (e .body)) ∙ ap (λ (t : List ℕ). e .body ++ least t) (sym d) ∙ e .bytes in
+    let w = written-as (least row) b (e .written) in
+    ((w .bytes, omega (arith, e .records, ap leastRecords d)), w .all)

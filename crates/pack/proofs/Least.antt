@@ -5,7 +5,8 @@ use mathlib.Core.Path.{_≡_, refl}
 use mathlib.Core.List.{List, [], _∷_}
 use lib.ListN.{length}
 use Rattle.lists.proofs.Cond.{cond-leb, cond-eqb}
-use Rattle.pack.specs.Least.{Body, size, with-byte, Opening, Run, Suffix, openingOf, runOf, literalBody, repeatBody, prepend, scan}
+use Rattle.pack.specs.Least.{Body, size, with-byte, Opening, Run, Suffix, openingOf, runOf, literalBody}
+use Rattle.pack.specs.Least.{repeatBody, prepend, scan}
 
 -- ---- one step, for any suffix s
 

@@ -1,125 +1,100 @@
--- The scan in lengths follows the scan of bodies, and its numbers are small.
-use Prim.Native.Nat.{ℕ, suc, _+_, _-_, _≤_, _<_}
+-- Counting a row's runs from the left gives the length of its least body.
+use Prim.Native.Nat.{ℕ, zero, suc, _+_, _*_, _≤_, _<_}
 use native.Mathlib.Omega.{arith}
-use native.Mathlib.Numerals.{add-one, add-two}
-use mathlib.Core.Path.{_≡_, refl, sym, ap, ap₂, _∙_}
-use mathlib.Core.List.{List, [], _∷_}
-use borrow.Author.Tests.{le-leb, lt-leb, eq-eqb}
+use mathlib.Core.Path.{_≡_, refl, sym, ap, _∙_}
+use mathlib.Core.Bool.{Bool, true, false, cond}
+use mathlib.Core.List.{List, []}
 use lib.ListN.{length, getD, drop}
-use lib.Seq.{drop-cons}
-use lib.Dec.{leb, eqb}
-use Rattle.lists.proofs.Cond.{map-cond}
-use Rattle.pack.specs.declared.Costs.{Costs}
-use Rattle.pack.specs.declared.OpenLiteral.{OpenLiteral}
-use Rattle.pack.specs.declared.FirstRun.{FirstRun}
-use Rattle.pack.specs.Least.{Body, size, Opening, Run, openingOf, runOf, bestOf, with-byte, literalBody, repeatBody, prepend, scan}
-use Rattle.pack.specs.Costs.{costsOf, Small, RepeatIfShorter, openLiteralOf, firstRunOf, costsWith, prependCosts}
-use Rattle.pack.proofs.Least.{best-cases, run-byte, more-bound, count-bound, beyond≤best}
-use Rattle.pack.proofs.Bounds.{opening-bound, least-bound}
+use lib.Seq.{drop-length}
+use Rattle.lists.proofs.Cond.{cond-eqb}
+use Rattle.pack.specs.Least.{Body, size, with-byte, Opening, repeatBody, least}
+use Rattle.pack.specs.declared.Count.{Count}
+use Rattle.pack.specs.Plan.{run, runs, taking, runBefore, planned}
+use Rattle.pack.specs.Lengths.{countRun, bytesLeft}
+use Rattle.pack.specs.Runs.{runLength}
+use Rattle.pack.proofs.Plan.{closing, with-more, repeated, before-joined, before-repeated, before-single}
+use Rattle.pack.proofs.Plan.{longest-two, plan-length}
+use Rattle.pack.proofs.Runs.{run-bounds, planned-here}
 
--- ---- the lengths of what a step makes are made from the lengths of what it has
+-- ---- one run
 
-opening-lengths : Opening → OpenLiteral
-opening-lengths o = record { more = o .more; rest = size (o .rest) }
+left-single : (t : Bool) (x : ℕ) (o : Opening) → bytesLeft t (with-more x o) ≡ cond t 1 2 + size (o .rest)
+left-single true x o = omega arith
+left-single false x o = omega arith
 
-run-lengths : Run → FirstRun
-run-lengths r = record { count = r .count; beyond = size (r .beyond) }
+left-pair : (t : Bool) (x k : ℕ) (b : Body)
+    → bytesLeft t (runBefore (run x 2) (taking k b)) ≡ 2 + bytesLeft t (taking k b)
+left-pair t x zero b = rw (before-repeated x 2 (taking 0 b) (omega arith)) (go t)
+  where
+    go : (t : Bool) → bytesLeft t (taking 0 (repeatBody (repeated x 2 (taking 0 b)))) ≡ 2 + bytesLeft t (taking 0 b)
+    go true = omega arith
+    go false = omega arith
+left-pair t x (suc k) b =
+    let n : 2 + suc k ≡ suc (suc (suc k)) = omega arith in
+    rw (before-joined x 2 (taking (suc k) b) (omega arith), n) (go t)
+  where
+    go : (t : Bool)
+        → bytesLeft t (taking (suc (suc (suc k))) (with-byte x (with-byte x b))) ≡ 2 + bytesLeft t (taking (suc k) b)
+    go true = omega arith
+    go false = omega arith
 
-body-lengths : ℕ → Opening → Run → Body → Costs
-body-lengths x o r b =
+left-long : (t : Bool) (x n : ℕ) (o : Opening) → 2 < n → bytesLeft t (runBefore (run x n) o) ≡ 2 + size (closing o)
+left-long t x n o h = rw (before-repeated x n o (omega (arith, longest-two (o .more)))) (go t)
+  where
+    go : (t : Bool) → bytesLeft t (taking 0 (repeatBody (repeated x n o))) ≡ 2 + size (closing o)
+    go true = omega arith
+    go false = omega arith
+
+count-left : (n x : ℕ) (c : Count) (o : Opening) → 1 ≤ n
+    → countRun n c .len + bytesLeft (countRun n c .literal) o ≡ c .len + bytesLeft (c .literal) (runBefore (run x n) o)
+count-left n x c o h =
+    let all = c .len + bytesLeft (c .literal) (runBefore (run x n) o) in
+    cond-eqb (λ (r : Count). r .len + bytesLeft (r .literal) o ≡ all) n 1
+    (λ e. rw (e, before-single x o) (omega (arith, left-single (c .literal) x o)))
+    (λ e.
+    cond-eqb (λ (t : Bool). c .len + 2 + bytesLeft t o ≡ all) n 2
+    (λ q. rw q (omega (arith, left-pair (c .literal) x (o .more) (o .rest))))
+    (λ q. omega (arith, left-long (c .literal) x n o (omega arith))))
+
+-- ---- the loop of `body_len`
+
+-- the runs before the place at are counted
+pub record Counted (row : List ℕ) (at : ℕ) (c : Count) : Type 0 where
+  pub within : at ≤ length row
+  pub few : c .len ≤ 2 * at
+  pub left : c .len + bytesLeft (c .literal) (planned (runs (drop at row))) ≡ length (least row)
+
+pub counted-start : (row : List ℕ) → Counted row 0 (record { len = 0; literal = false })
+counted-start row = record { within = omega arith; few = omega arith; left = omega (arith, plan-length row) }
+
+few-more : (n at : ℕ) (c : Count) → 1 ≤ n → c .len ≤ 2 * at → countRun n c .len ≤ 2 * (at + n)
+few-more n at c h l =
+    cond-eqb (λ (r : Count). r .len ≤ 2 * (at + n)) n 1
+    (λ e. omega (arith, two (c .literal)))
+    (λ e. omega arith)
+  where
+    two : (t : Bool) → cond t 1 2 ≤ 2
+    two true = omega arith
+    two false = omega arith
+
+pub counted-more : (row : List ℕ) (at n : ℕ) (c : Count) → at < length row → n ≡ runLength (drop at row)
+    → Counted row at c → Counted row (at + n) (countRun n c)
+counted-more row at n c h e q =
+    let b = run-bounds row at n h e in
+    let p = ap (λ (o : Opening). c .len + bytesLeft (c .literal) o) (sym (planned-here row at n h e)) in
     record {
-      best = size b;
-      control = getD (b .bytes) 0 0;
-      more = o .more;
-      rest = size (o .rest);
-      byte = x;
-      count = r .count;
-      beyond = size (r .beyond);
+      within = b .1;
+      few = few-more n at c (b .0) (q .few);
+      left = count-left n (getD (drop at row) 0 0) c (planned (runs (drop (at + n) row))) (b .0) ∙ p ∙ q .left;
     }
 
-opening-agrees : (x : ℕ) (s : List ℕ) → openLiteralOf (costsOf s) ≡ opening-lengths (openingOf x (scan s))
-unfolding opening-lengths
-opening-agrees x s =
-    let b = scan s .best in
-    let o = scan s .opening in
-    simp add-one
-    (sym (map-cond opening-lengths (leb (size b) (size (o .rest)))
-    (record { more = 0; rest = with-byte x b })
-    (record { more = suc (o .more); rest = with-byte x (o .rest) })))
+none-left : (t : Bool) → bytesLeft t (planned (runs [])) ≡ 0
+unfolding planned runs
+none-left true = refl
+none-left false = refl
 
-run-agrees : (x : ℕ) (s : List ℕ) → firstRunOf x (costsOf s) ≡ run-lengths (runOf x (scan s))
-unfolding run-lengths
-run-agrees x s =
-    let r = scan s .run in
-    simp add-one
-    (sym (map-cond run-lengths (eqb x (r .byte))
-    (record { byte = x; count = suc (r .count); beyond = r .beyond })
-    (record { byte = x; count = 1; beyond = scan s .best })))
-
-costs-agree : (x : ℕ) (o : Opening) (r : Run)
-    → costsWith x (opening-lengths o) (run-lengths r) ≡ body-lengths x o r (bestOf o r)
-unfolding opening-lengths run-lengths body-lengths
-costs-agree x o r =
-    simp (add-one, add-two)
-    (sym (map-cond (body-lengths x o r) (leb (size (o .rest)) (suc (size (r .beyond)))) (literalBody o) (repeatBody r)))
-
-costs-prepend : (x : ℕ) (s : List ℕ) → costsOf (x ∷ s) ≡ prependCosts x (costsOf s)
-unfolding scan prepend body-lengths
-costs-prepend x s =
-    ap (λ (y : ℕ). body-lengths y (scan (x ∷ s) .opening) (scan (x ∷ s) .run) (scan (x ∷ s) .best)) (run-byte x s)
-    ∙ sym (ap₂ (costsWith x) (opening-agrees x s) (run-agrees x s)
-    ∙ costs-agree x (openingOf x (scan s)) (runOf x (scan s)))
-
--- ---- a turn of the loop, from the place i to the place before it
-
-drop-before : (row : List ℕ) (i : ℕ) → 1 ≤ i → i ≤ length row → drop (i - 1) row ≡ getD row (i - 1) 0 ∷ drop i row
-drop-before row i h l =
-    let e : suc (i - 1) ≡ i = omega arith in
-    drop-cons row (i - 1) 0 (omega arith) ∙ ap (λ (k : ℕ). getD row (i - 1) 0 ∷ drop k row) e
-
-pub costs-before : (row : List ℕ) (i : ℕ) → 1 ≤ i → i ≤ length row
-    → costsOf (drop (i - 1) row) ≡ prependCosts (getD row (i - 1) 0) (costsOf (drop i row))
-costs-before row i h l = ap costsOf (drop-before row i h l) ∙ costs-prepend (getD row (i - 1) 0) (drop i row)
-
--- ---- a run that goes on
-
-pub repeat-if-shorter : (s : List ℕ) → RepeatIfShorter (costsOf s)
-unfolding scan
-repeat-if-shorter [] h = absurd (omega arith)
-repeat-if-shorter (x ∷ s) h =
-    let r = scan (x ∷ s) .run in
-    best-cases x (scan s) (λ b. (size b ≡ size (r .beyond) + 2) × (getD (b .bytes) 0 0 ≡ 257 - r .count))
-    (λ l. absurd (omega arith))
-    (λ l. (omega arith, refl))
-
--- the repeat stays chosen, one byte longer
-abbrev pub lengthened : Costs → Costs
-lengthened t =
-    record {
-      best = t .best;
-      control = t .control - 1;
-      more = 0;
-      rest = t .best + 1;
-      byte = t .byte;
-      count = t .count + 1;
-      beyond = t .beyond;
-    }
-
-pub prepend-lengthened : (t : Costs) → RepeatIfShorter t → t .beyond + 1 < t .rest
-    → lengthened t ≡ prependCosts (t .byte) t
-prepend-lengthened t k h =
-    let b : t .best ≡ t .beyond + 2 = k h .0 in
-    let c : t .control - 1 ≡ 257 - (t .count + 1) = omega (arith, k h .1) in
-    let ends = le-leb (t .best) (t .rest) (omega arith) in
-    let chosen = lt-leb (t .best + 1) (t .beyond + 1) (omega arith) in
-    rw (ends, eq-eqb (t .byte) (t .byte) refl, chosen, c, b) refl
-
--- ---- no sum overflows
-
-opening-small : (s : List ℕ) → length s ≤ 128 → (scan s .opening .more ≤ 128) × (size (scan s .opening .rest) ≤ 128)
-unfolding scan
-opening-small [] h = omega arith
-opening-small (x ∷ s) h = omega (arith, more-bound x s, opening-bound x s)
-
-pub costs-small : (s : List ℕ) → length s ≤ 128 → Small (costsOf s)
-costs-small s h = omega (arith, opening-small s h, least-bound s, count-bound s, beyond≤best s)
+pub counted-end : {row : List ℕ} {at : ℕ} {c : Count} → length row ≤ at → Counted row at c → c .len ≡ length (least row)
+counted-end {row} {at} {c} h q =
+    let e : at ≡ length row = omega (arith, q .within) in
+    let d : drop at row ≡ [] = ap (λ (k : ℕ). drop k row) e ∙ drop-length row in
+    omega (arith, q .left, ap (λ (s : List ℕ). bytesLeft (c .literal) (planned (runs s))) d, none-left (c .literal))

@@ -9,8 +9,10 @@ use lib.ListN.{length, replicate, length-append}
 use Rattle.packbits.specs.Unpacks.{Unpacks, full, literal, repeat, nothing}
 use Rattle.pack.specs.IsLeast.{Preferred}
 use Rattle.pack.specs.Least.{size, Run, Suffix, literalBody, repeatBody, prepend, scan, least}
-use Rattle.pack.proofs.Order.{preferred-refl, preferred-length, preferred-trans, preferred-cons, preferred-append, preferred-control, preferred-longer}
-use Rattle.pack.proofs.Least.{opening-cases, run-cases, best-cases, run-byte, no-run, more-bound, count-bound, beyond≤best}
+use Rattle.pack.proofs.Order.{preferred-refl, preferred-length, preferred-trans, preferred-cons}
+use Rattle.pack.proofs.Order.{preferred-append, preferred-control, preferred-longer}
+use Rattle.pack.proofs.Least.{opening-cases, run-cases, best-cases, run-byte, no-run, more-bound, count-bound}
+use Rattle.pack.proofs.Least.{beyond≤best}
 
 -- ---- what a step makes is preferred to both kinds of first record
 

@@ -1,12 +1,9 @@
--- One record as it is written, by its control byte, and the control bytes of all suffixes of a row. No public contract
--- cites it.
-use Prim.Native.Nat.{ℕ, _+_, _-_, _≤_, _<_}
-use mathlib.Core.Path.{_≡_}
+-- One record as it is written, by its control byte. No public contract cites it.
+use Prim.Native.Nat.{ℕ, _+_, _-_}
 use mathlib.Core.Bool.{cond}
 use mathlib.Core.List.{List, _∷_}
-use lib.ListN.{length, getD, take, drop}
+use lib.ListN.{take}
 use lib.Dec.{ltb}
-use Rattle.pack.specs.Least.{least}
 
 -- how many bytes of the row a record of control byte c, other than 128, stands for
 unfoldable pub takenBy : ℕ → ℕ
@@ -19,7 +16,3 @@ shownBy c = cond (ltb c 128) (c + 1) 1
 -- the record of control byte c, for the front of the row
 abbrev pub recordOf : ℕ → List ℕ → List ℕ
 recordOf c row = c ∷ take (shownBy c) row
-
--- from the place i on, controls has the control bytes that the least bodies of the row's suffixes begin with
-abbrev pub ControlsFrom : List ℕ → List ℕ → ℕ → Type 0
-ControlsFrom row controls i = (j : ℕ) → i ≤ j → j < length row → getD controls j 0 ≡ getD (least (drop j row)) 0 0

@@ -1,7 +1,10 @@
 pub mod Controls
-pub mod Costs
+pub mod Emitted
 pub mod IsLeast
 pub mod Least
 pub mod LeastRows
+pub mod Lengths
 pub mod Pack
-pub mod Scanned
+pub mod Plan
+pub mod Runs
+pub mod ShortRuns

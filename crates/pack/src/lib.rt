@@ -1,15 +1,19 @@
-// One row of 1 to 128 bytes packed to its least body. Definitions, of rows end to end as well: specs/.
+// One row of 1 to 128 bytes packed to its least body, run by run from the left. Definitions, of rows end to end as
+// well: specs/.
 ghost use mathlib.Core.Path.{_≡_};
-ghost use Prim.Native.Nat.{_+_, _≤_, _<_};
-ghost use mathlib.Core.List.{[]};
-ghost use lib.ListN.{length};
+ghost use mathlib.Core.List.{[], _∷_};
+ghost use Prim.Native.Nat.{_+_, _-_, _≤_, _<_};
+ghost use lib.ListN.{length, drop};
+ghost use lib.Dec.{ltb};
 ghost use Rattle.lists.specs.Over.{over};
 ghost use Rattle.packbits.specs.Row.{rowAnswer, rowOutput};
+ghost use Rattle.pack.specs.Controls.{recordOf, takenBy, shownBy};
+ghost use Rattle.pack.specs.Emitted.{Emitted};
 ghost use Rattle.pack.specs.Least.{least, leastRecords};
-ghost use Rattle.pack.specs.Controls.{recordOf, takenBy, shownBy, ControlsFrom};
-ghost use Rattle.pack.specs.Costs.{costsOf, Small, RepeatIfShorter, openLiteralOf, firstRunOf, costsWith, prependCosts};
-ghost use Rattle.pack.specs.Scanned.{Scanned};
+ghost use Rattle.pack.specs.Lengths.{countRun};
 ghost use Rattle.pack.specs.Pack.{packRow, packInto, leastLen};
+ghost use Rattle.pack.specs.Runs.{runLength, endOf, littleEndian, FirstOther};
+ghost use Rattle.pack.specs.ShortRuns.{stretchAt, controlAt, LongRun, Known};
 use outcome::AREA_TOO_SHORT;
 use outcome::OUT_OF_RANGE;
 use packbits::MAX_WIDTH;
@@ -18,187 +22,183 @@ use packbits::RowAnswer;
 // The longest body that packing makes of a row.
 pub const MAX_BODY: usize = 129;
 
-// What is known of a suffix of the row: control is the control byte that its least body begins with, byte the byte of
-// its first run, and the others are lengths. The terms are those of specs/Least.antt.
-struct Costs {
-    best: usize,
-    control: usize,
-    more: usize,
-    rest: usize,
-    byte: u8,
-    count: usize,
-    beyond: usize,
-}
+// Bytes compared at once, and bits of a byte.
+const WORD: usize = 8;
 
-// A literal that is under way at the start of a suffix.
-struct OpenLiteral {
-    more: usize,
-    rest: usize,
-}
+const BYTE_BITS: usize = 8;
 
-// The run of equal bytes at the start of a suffix.
-struct FirstRun {
-    count: usize,
-    beyond: usize,
-}
-
-// The literal from one byte further left: it ends there, or goes on where that is shorter.
-fn open_literal_of(t: Costs) -> OpenLiteral
-    requires { ⌜ Small t ⌝ }
-    ensures { λ r. ⌜ r ≡ openLiteralOf t ⌝ }
+// Eight bytes as one number, the first one lowest. The compiler makes it one load.
+fn word(a: u8, b: u8, c: u8, d: u8, e: u8, f: u8, g: u8, h: u8) -> u64
+    ensures { λ r. ⌜ r ≡ littleEndian (a ∷ b ∷ c ∷ d ∷ e ∷ f ∷ g ∷ h ∷ []) ⌝ }
 {
-    if t.best <= t.rest {
-        OpenLiteral {
-            more: 0,
-            rest: t.best + 1,
+    let behind = ((h as u64 * 256 + g as u64) * 256 + f as u64) * 256 + e as u64;
+    (((behind * 256 + d as u64) * 256 + c as u64) * 256 + b as u64) * 256 + a as u64
+}
+
+// What differs between eight bytes and eight bytes x.
+fn differing(x: u8, a: u8, b: u8, c: u8, d: u8, e: u8, f: u8, g: u8, h: u8) -> u64
+    ensures { λ r. ⌜ FirstOther x (a ∷ b ∷ c ∷ d ∷ e ∷ f ∷ g ∷ h ∷ []) r ⌝ }
+{
+    word(a, b, c, d, e, f, g, h) ^ word(x, x, x, x, x, x, x, x)
+}
+
+// Where the bytes x from a place on end, byte by byte.
+fn end_by_bytes(row: &[u8], x: u8, from: usize) -> usize
+    requires { ⌜ from ≤ length (now row) ⌝ }
+    ensures { λ r. ⌜ r ≡ endOf x (now (row .entry)) from ⌝ }
+{
+    let mut n = from;
+    while n < row.len() && row[n] == x {
+        n += 1;
+    }
+    n
+}
+
+// The same, eight bytes at a time where there are so many.
+fn end_by_words(row: &[u8], x: u8, from: usize) -> usize
+    requires { ⌜ (from ≤ length (now row)) × (length (now row) ≤ 128) ⌝ }
+    ensures { λ r. ⌜ r ≡ endOf x (now (row .entry)) from ⌝ }
+{
+    let mut n = from;
+    while n + WORD <= row.len() {
+        let d = differing(
+            x,
+            row[n],
+            row[n + 1],
+            row[n + 2],
+            row[n + 3],
+            row[n + 4],
+            row[n + 5],
+            row[n + 6],
+            row[n + 7],
+        );
+        if d != 0 {
+            return n + u64::trailing_zeros(d) as usize / BYTE_BITS;
         }
-    } else {
-        OpenLiteral {
-            more: t.more + 1,
-            rest: t.rest + 1,
+        n += WORD;
+    }
+    end_by_bytes(row, x, n)
+}
+
+// The length of the run of equal bytes at the place at. Its first three bytes are compared one by one, so that a run of
+// one or two bytes needs no word.
+fn run_at(row: &[u8], at: usize) -> usize
+    requires { ⌜ (at < length (now row)) × (length (now row) ≤ 128) ⌝ }
+    ensures { λ r. ⌜ r ≡ runLength (drop at (now (row .entry))) ⌝ }
+{
+    let x = row[at];
+    if row.len() <= at + 2 {
+        return end_by_bytes(row, x, at + 1) - at;
+    }
+    if row[at + 1] != x {
+        return 1;
+    }
+    if row[at + 2] != x {
+        return 2;
+    }
+    end_by_words(row, x, at + 3) - at
+}
+
+// Packed bytes counted, and whether a literal is under way.
+struct Count {
+    len: usize,
+    literal: bool,
+}
+
+// After a run of n bytes.
+fn count_run(c: Count, n: usize) -> Count
+    requires { ⌜ c .len < 1000 ⌝ }
+    ensures { λ r. ⌜ r ≡ countRun n c ⌝ }
+{
+    if n == 1 {
+        if c.literal {
+            return Count {
+                len: c.len + 1,
+                literal: true,
+            };
         }
+        return Count {
+            len: c.len + 2,
+            literal: true,
+        };
+    }
+    if n == 2 {
+        return Count {
+            len: c.len + 2,
+            literal: c.literal,
+        };
+    }
+    Count {
+        len: c.len + 2,
+        literal: false,
     }
 }
 
-// The run from one byte further left: the byte lengthens it or starts one.
-fn first_run_of(x: u8, t: Costs) -> FirstRun
-    requires { ⌜ Small t ⌝ }
-    ensures { λ r. ⌜ r ≡ firstRunOf x t ⌝ }
-{
-    if x == t.byte {
-        FirstRun {
-            count: t.count + 1,
-            beyond: t.beyond,
-        }
-    } else {
-        FirstRun {
-            count: 1,
-            beyond: t.best,
-        }
-    }
-}
-
-// The shorter of the two, the literal where they are equally long.
-fn costs_with(x: u8, l: OpenLiteral, r: FirstRun) -> Costs
-    requires { ⌜ (l .rest ≤ 1001) × (r .beyond ≤ 1001) × (r .count ≤ 256) ⌝ }
-    ensures { λ c. ⌜ c ≡ costsWith x l r ⌝ }
-{
-    if l.rest <= r.beyond + 1 {
-        Costs {
-            best: l.rest + 1,
-            control: l.more,
-            more: l.more,
-            rest: l.rest,
-            byte: x,
-            count: r.count,
-            beyond: r.beyond,
-        }
-    } else {
-        Costs {
-            best: r.beyond + 2,
-            control: 257 - r.count,
-            more: l.more,
-            rest: l.rest,
-            byte: x,
-            count: r.count,
-            beyond: r.beyond,
-        }
-    }
-}
-
-// The suffix that begins one byte further left, with the byte x.
-fn prepend(x: u8, t: Costs) -> Costs
-    requires { ⌜ Small t ⌝ }
-    ensures { λ r. ⌜ r ≡ prependCosts x t ⌝ }
-{
-    let l = open_literal_of(t);
-    let r = first_run_of(x, t);
-    costs_with(x, l, r)
-}
-
-// The same with the byte of the run, where the repeat is chosen: it stays so.
-fn lengthened(t: Costs) -> Costs
-    requires { ⌜ Small t × RepeatIfShorter t × (t .beyond + 1 < t .rest) ⌝ }
-    ensures { λ r. ⌜ r ≡ prependCosts (t .byte) t ⌝ }
-    ensures { λ r. ⌜ r .beyond + 1 < r .rest ⌝ }
-{
-    Costs {
-        best: t.best,
-        control: t.control - 1,
-        more: 0,
-        rest: t.best + 1,
-        byte: t.byte,
-        count: t.count + 1,
-        beyond: t.beyond,
-    }
-}
-
-// The empty suffix.
-fn costs_at_end() -> Costs
-    ensures { λ r. ⌜ r ≡ costsOf [] ⌝ }
-{
-    Costs {
-        best: 0,
-        control: 0,
-        more: 0,
-        rest: 0,
-        byte: 0,
-        count: 0,
-        beyond: 0,
-    }
-}
-
-// How far a scan of a row from its right end has come: to the suffix at this place.
-struct Scan {
-    at: usize,
-    costs: Costs,
-}
-
-// One byte further left, with its control byte.
-fn scan_byte(row: &[u8], s: Scan, controls: &mut [u8; MAX_WIDTH]) -> Scan
-    requires { ⌜ (1 ≤ s .at) × (length (now row) ≤ 128) × Scanned (now row) (now controls) (s .at) (s .costs) ⌝ }
-    ensures { λ r. ⌜ (r .at < s .at) × Scanned (now (row .entry)) (now (controls .exit)) (r .at) (r .costs) ⌝ }
-{
-    let at = s.at - 1;
-    let t = prepend(row[at], s.costs);
-    controls[at] = t.control as u8;
-    Scan { at, costs: t }
-}
-
-// As far to the left as a run goes on for which the repeat is chosen. No costs are compared there.
-fn scan_run(row: &[u8], s: Scan, controls: &mut [u8; MAX_WIDTH]) -> Scan
-    requires { ⌜ (length (now row) ≤ 128) × Scanned (now row) (now controls) (s .at) (s .costs) ⌝ }
-    ensures { λ r. ⌜ (r .at ≤ s .at) × Scanned (now (row .entry)) (now (controls .exit)) (r .at) (r .costs) ⌝ }
-{
-    let mut t = s.costs;
-    if t.rest <= t.beyond + 1 {
-        return s;
-    }
-    let mut at = s.at;
-    while 0 < at && row[at - 1] == t.byte {
-        t = lengthened(t);
-        at -= 1;
-        controls[at] = t.control as u8;
-    }
-    Scan { at, costs: t }
-}
-
-// For each place of the row the control byte that the least body of the rest of the row begins with. Gives the length
-// of the whole row's least body.
-fn plan_of(row: &[u8], controls: &mut [u8; MAX_WIDTH]) -> usize
-    requires { ⌜ (length (now row) ≤ 128) × (length (now controls) ≡ 128) ⌝ }
+// The length of the least body of a row that is not too wide.
+fn body_len(row: &[u8]) -> usize
+    requires { ⌜ length (now row) ≤ 128 ⌝ }
     ensures { λ r. ⌜ r ≡ length (least (now (row .entry))) ⌝ }
-    ensures { λ _. ⌜ ControlsFrom (now (row .entry)) (now (controls .exit)) 0 ⌝ }
 {
-    let mut s = Scan {
-        at: row.len(),
-        costs: costs_at_end(),
+    let mut c = Count {
+        len: 0,
+        literal: false,
     };
-    while 0 < s.at {
-        let byte = scan_byte(row, s, controls);
-        s = scan_run(row, byte, controls);
+    let mut at = 0;
+    while at < row.len() {
+        let n = run_at(row, at);
+        c = count_run(c, n);
+        at += n;
     }
-    s.costs.best
+    c.len
+}
+
+// The length of the row's least body; 0 of a row wider than 128.
+pub fn least_len(row: &[u8]) -> usize
+    ensures { λ r. ⌜ r ≡ leastLen (now (row .entry)) ⌝ }
+{
+    if MAX_WIDTH < row.len() {
+        return 0;
+    }
+    body_len(row)
+}
+
+// The short runs, of one or two bytes each, from a place on: where the literal of them ends, where they end, and the
+// length of the run there, 0 at the end of the row.
+struct Stretch {
+    single: usize,
+    end: usize,
+    count: usize,
+}
+
+// The short runs from the place i on.
+fn short_runs(row: &[u8], i: usize) -> Stretch
+    requires { ⌜ (i ≤ length (now row)) × (length (now row) ≤ 128) ⌝ }
+    ensures { λ r. ⌜ r ≡ stretchAt (now (row .entry)) i ⌝ }
+    ensures { λ r. ⌜ (r ≡ stretchAt (now (row .entry)) (r .single)) × (r .single ≤ r .end)
+        × (r .end ≤ length (now (row .entry))) ⌝ }
+    ensures { λ r. ⌜ ((r .count ≡ 0 → ⊥) → LongRun (now (row .entry)) r) ⌝ }
+{
+    let mut single = i;
+    let mut at = i;
+    while at < row.len() {
+        let n = run_at(row, at);
+        if 2 < n {
+            return Stretch {
+                single,
+                end: at,
+                count: n,
+            };
+        }
+        at += n;
+        if n == 1 {
+            single = at;
+        }
+    }
+    Stretch {
+        single,
+        end: at,
+        count: 0,
+    }
 }
 
 // One record: the bytes of the row that it stands for, and the bytes that it is.
@@ -219,59 +219,143 @@ fn put_literal(shown: &[u8], out: &mut [u8])
     }
 }
 
-// The record of control byte c, for the front of the row, to the front of out.
-fn put_record(c: u8, row: &[u8], out: &mut [u8]) -> Put
-    requires { ⌜ (1 ≤ length (now row)) × (shownBy c ≤ length (now row)) × (shownBy c < length (now out)) ⌝ }
-    ensures { λ r. ⌜ (r .taken ≡ takenBy c) × (r .made ≡ length (recordOf c (now (row .entry)))) ⌝ }
-    ensures { λ r. ⌜ now (out .exit) ≡ over (recordOf c (now (row .entry))) (now (out .entry)) ⌝ }
+// The literal of the first n bytes of the row to the front of out.
+fn put_bytes(n: usize, row: &[u8], out: &mut [u8]) -> Put
+    requires { ⌜ (1 ≤ n) × (n ≤ 128) × (n ≤ length (now row)) × (n < length (now out)) ⌝ }
+    ensures { λ r. ⌜ (r .taken ≡ n) × (r .made ≡ n + 1) ⌝ }
+    ensures { λ r. ⌜ now (out .exit) ≡ over (recordOf (n - 1) (now (row .entry))) (now (out .entry)) ⌝ }
 {
-    out[0] = c;
-    let k = c as usize;
-    if k < 128 {
-        let n = k + 1;
-        put_literal(&row[..n], &mut out[1..]);
-        Put {
-            taken: n,
-            made: n + 1,
-        }
-    } else {
-        out[1] = row[0];
-        Put {
-            taken: 257 - k,
-            made: 2,
-        }
+    out[0] = (n - 1) as u8;
+    put_literal(&row[..n], &mut out[1..]);
+    Put {
+        taken: n,
+        made: n + 1,
     }
 }
 
-// The least body of the row, by its control bytes, to the front of out. Gives its number of records.
-fn emit(row: &[u8], controls: &[u8; MAX_WIDTH], out: &mut [u8]) -> usize
+// The repeat of the first n bytes of the row, which are equal, to the front of out.
+fn put_repeat(n: usize, row: &[u8], out: &mut [u8]) -> Put
+    requires { ⌜ (2 ≤ n) × (n ≤ 128) × (1 ≤ length (now row)) × (2 ≤ length (now out)) ⌝ }
+    ensures { λ r. ⌜ (r .taken ≡ n) × (r .made ≡ 2) ⌝ }
+    ensures { λ r. ⌜ now (out .exit) ≡ over (recordOf (257 - n) (now (row .entry))) (now (out .entry)) ⌝ }
+{
+    out[0] = (257 - n) as u8;
+    out[1] = row[0];
+    Put { taken: n, made: 2 }
+}
+
+// The record at the place i, before the end of the short runs s: of the literal or of a pair. The row from there on and
+// the front of out are lent.
+fn put_next(i: usize, s: Stretch, row: &[u8], out: &mut [u8]) -> Put
+    requires { ⌜ (s .single ≤ 128) × (1 ≤ length (now row)) ⌝ }
+    requires { ⌜ (shownBy (controlAt i s) ≤ length (now row)) × (shownBy (controlAt i s) < length (now out)) ⌝ }
+    ensures { λ r. ⌜ (r .taken ≡ takenBy (controlAt i s))
+        × (r .made ≡ length (recordOf (controlAt i s) (now (row .entry)))) ⌝ }
+    ensures { λ r. ⌜ now (out .exit) ≡ over (recordOf (controlAt i s) (now (row .entry))) (now (out .entry)) ⌝ }
+{
+    if i < s.single {
+        return put_bytes(s.single - i, row, out);
+    }
+    put_repeat(2, row, out)
+}
+
+// Some records: their bytes and their number.
+struct Packed {
+    bytes: usize,
+    records: usize,
+}
+
+// The records of the short runs s from the place i on, to the front of out.
+fn put_short(row: &[u8], i: usize, s: Stretch, out: &mut [u8]) -> Packed
+    requires { ⌜ (length (now row) ≤ 128) × (i ≤ s .end) × Known (now row) i s ⌝ }
+    requires { ⌜ length (least (drop i (now row))) ≤ length (now out) ⌝ }
+    ensures { λ r. ⌜ Emitted (now (row .entry)) i (s .end) (now (out .entry)) (now (out .exit)) (r .bytes)
+        (r .records) ⌝ }
+{
+    let mut at = i;
+    let mut o = 0;
+    let mut n = 0;
+    while at < s.end {
+        let p = put_next(at, s, &row[at..], &mut out[o..]);
+        at += p.taken;
+        o += p.made;
+        n += 1;
+    }
+    Packed {
+        bytes: o,
+        records: n,
+    }
+}
+
+// The same. Most often there is one byte, which is put without a loop.
+fn put_before(row: &[u8], i: usize, s: Stretch, out: &mut [u8]) -> Packed
+    requires { ⌜ (length (now row) ≤ 128) × (i ≤ s .end) × Known (now row) i s ⌝ }
+    requires { ⌜ length (least (drop i (now row))) ≤ length (now out) ⌝ }
+    ensures { λ r. ⌜ Emitted (now (row .entry)) i (s .end) (now (out .entry)) (now (out .exit)) (r .bytes)
+        (r .records) ⌝ }
+{
+    if s.end == i + 1 {
+        let p = put_bytes(1, &row[i..], out);
+        return Packed {
+            bytes: p.made,
+            records: 1,
+        };
+    }
+    put_short(row, i, s, out)
+}
+
+// The records of the short runs s from the place i on and of the run after them, to the front of out.
+fn put_stretch(row: &[u8], i: usize, s: Stretch, out: &mut [u8]) -> Packed
+    requires { ⌜ (length (now row) ≤ 128) × (i ≤ s .end) × Known (now row) i s ⌝ }
+    requires { ⌜ length (least (drop i (now row))) ≤ length (now out) ⌝ }
+    ensures { λ r. ⌜ Emitted (now (row .entry)) i (s .end + s .count) (now (out .entry)) (now (out .exit)) (r .bytes)
+        (r .records) ⌝ }
+{
+    let p = put_before(row, i, s, out);
+    if s.count == 0 {
+        return p;
+    }
+    let end = s.end;
+    let bytes = p.bytes;
+    let q = put_repeat(s.count, &row[end..], &mut out[bytes..]);
+    Packed {
+        bytes: bytes + q.made,
+        records: p.records + 1,
+    }
+}
+
+// The least body of the row to the front of out.
+fn emit(row: &[u8], out: &mut [u8]) -> Packed
     requires { ⌜ length (now row) ≤ 128 ⌝ }
-    requires { ⌜ ControlsFrom (now row) (now controls) 0 ⌝ }
     requires { ⌜ length (least (now row)) ≤ length (now out) ⌝ }
-    ensures { λ r. ⌜ r ≡ leastRecords (now (row .entry)) ⌝ }
+    ensures { λ r. ⌜ (r .bytes ≡ length (least (now (row .entry)))) × (r .records ≡ leastRecords (now (row .entry))) ⌝ }
     ensures { λ r. ⌜ now (out .exit) ≡ over (least (now (row .entry))) (now (out .entry)) ⌝ }
 {
     let mut i = 0;
     let mut o = 0;
     let mut n = 0;
     while i < row.len() {
-        let p = put_record(controls[i], &row[i..], &mut out[o..]);
-        i += p.taken;
-        o += p.made;
-        n += 1;
+        let s = short_runs(row, i);
+        let p = put_stretch(row, i, s, &mut out[o..]);
+        i = s.end + s.count;
+        o += p.bytes;
+        n += p.records;
     }
-    n
+    Packed {
+        bytes: o,
+        records: n,
+    }
 }
 
-// The length of the row's least body; 0 of a row wider than 128.
-pub fn least_len(row: &[u8]) -> usize
-    ensures { λ r. ⌜ r ≡ leastLen (now (row .entry)) ⌝ }
+// Whether the least body has more bytes than an output. It is not counted where the output is longer than the row.
+fn exceeds(row: &[u8], room: usize) -> bool
+    requires { ⌜ length (now row) ≤ 128 ⌝ }
+    ensures { λ r. ⌜ r ≡ ltb room (length (least (now (row .entry)))) ⌝ }
 {
-    if MAX_WIDTH < row.len() {
-        return 0;
+    if row.len() < room {
+        return false;
     }
-    let mut controls = [0u8; MAX_WIDTH];
-    plan_of(row, &mut controls)
+    room < body_len(row)
 }
 
 // Packs the row to the front of out, which need have no more bytes than are written.
@@ -283,16 +367,14 @@ pub fn pack_into(row: &[u8], out: &mut [u8]) -> RowAnswer
     if packbits::width_out_of_range(row.len()) {
         return packbits::row_refused(outcome::refuse(OUT_OF_RANGE));
     }
-    let mut controls = [0u8; MAX_WIDTH];
-    let bytes = plan_of(row, &mut controls);
-    if out.len() < bytes {
+    if exceeds(row, out.len()) {
         return packbits::row_refused(outcome::refuse(AREA_TOO_SHORT));
     }
-    let records = emit(row, &controls, out);
+    let p = emit(row, out);
     RowAnswer {
         refusal: outcome::none(),
-        bytes,
-        records,
+        bytes: p.bytes,
+        records: p.records,
     }
 }
 

@@ -1,6 +1,9 @@
 pub mod Fits
+pub mod Joined
 pub mod Offsets
 pub mod Places
 pub mod PlaneRows
 pub mod PutRows
 pub mod Strides
+pub mod Interleave
+pub mod InterleaveLines

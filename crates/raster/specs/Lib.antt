@@ -1,3 +1,4 @@
+pub mod Joined
 pub mod Offsets
 pub mod PlaneRows
 pub mod Shape

@@ -1,10 +1,13 @@
 // A raster of plane rows: scan lines of groups of 16 pixels, a group one word for each plane. Definitions: specs/.
 ghost use mathlib.Core.Path.{_≡_};
 ghost use Prim.Native.Nat.{_+_, _*_, _/_, _%_, _<_, _≤_};
-ghost use lib.ListN.{length};
+ghost use mathlib.Core.Bool.{true};
+ghost use lib.ListN.{length, take};
 ghost use Rattle.lists.specs.Over.{over};
 ghost use Rattle.raster.specs.Shape.{rowBytes, rows, lineBytes, bytes};
 ghost use Rattle.raster.specs.PlaneRows.{rowOffset, planeRow, withRow, rowFits, takeRow, putRow};
+ghost use Rattle.raster.specs.Joined.{joinedImage, putJoined, interleavedLine, interleavedLines, planesOf};
+ghost use Rattle.raster.specs.Joined.{planeBytes, Interleaved};
 
 // Scan lines, groups of 16 pixels in a scan line, and planes. The types keep every product below 2^34.
 pub struct Raster {
@@ -137,4 +140,185 @@ pub fn put_row(area: &mut [u8], r: Raster, n: usize, row: &[u8])
     if row_fits(area.len(), r, n, row.len()) {
         store_row(area, r, n, row);
     }
+}
+
+// Eight bytes of each of two plane rows, the second one a gap behind the first: their words in turn.
+fn interleaved_eight(source: &[u8], at: usize, gap: usize) -> [u8; 16]
+    requires { ⌜ at + gap + 8 ≤ length (now source) ⌝ }
+    ensures { λ w. ⌜ w ≡ interleavedLine (now (source .entry)) at 2 gap 16 ⌝ }
+{
+    let mut interleaved = [0u8; 16];
+    let mut k: usize = 0;
+    while k < 16 {
+        interleaved[k] = source[at + (k / 2 % 2 * gap + (k / 4 * 2 + k % 2))];
+        k += 1;
+    }
+    interleaved
+}
+
+// Sixteen bytes to the front of an output.
+fn put_sixteen(sixteen: [u8; 16], out: &mut [u8])
+    requires { ⌜ (length sixteen ≡ 16) × (16 ≤ length (now out)) ⌝ }
+    ensures { λ _. ⌜ now (out .exit) ≡ over sixteen (now (out .entry)) ⌝ }
+{
+    let mut k: usize = 0;
+    while k < 16 {
+        out[k] = sixteen[k];
+        k += 1;
+    }
+}
+
+// Interleaves two plane rows of so many times eight bytes, the second one a gap behind the first, to the front of out.
+// All
+// of eight bytes is read before it is written, so that the compiler moves the bytes together.
+fn interleave_two(source: &[u8], at: usize, gap: usize, eights: usize, out: &mut [u8])
+    requires { ⌜ (at + gap + eights * 8 ≤ length (now source)) × (eights * 16 ≤ length (now out)) ⌝ }
+    ensures { λ _. ⌜ now (out .exit)
+        ≡ over (interleavedLine (now (source .entry)) at 2 gap (eights * 16)) (now (out .entry)) ⌝ }
+{
+    let mut k: usize = 0;
+    while k < eights {
+        let interleaved = interleaved_eight(source, at + k * 8, gap);
+        put_sixteen(interleaved, &mut out[k * 16..]);
+        k += 1;
+    }
+}
+
+// Interleaves the four plane rows of a scan line: the first and the third, and the second and the fourth, into a
+// buffer, and
+// then those two to the front of out.
+fn interleave_four(source: &[u8], at: usize, eights: usize, half: &mut [u8], out: &mut [u8])
+    requires { ⌜ (at + eights * 32 ≤ length (now source)) × (eights * 32 ≤ length (now half)) ⌝ }
+    requires { ⌜ eights * 32 ≤ length (now out) ⌝ }
+    ensures { λ _. ⌜ now (out .exit)
+        ≡ over (interleavedLine (now (source .entry)) at 4 (eights * 8) (eights * 32)) (now (out .entry)) ⌝ }
+{
+    let pair = eights * 16;
+    interleave_two(source, at, pair, eights, half);
+    interleave_two(source, at + eights * 8, pair, eights, &mut half[pair..]);
+    interleave_two(half, 0, pair, eights * 2, out);
+}
+
+// Interleaves the plane rows of a scan line, two or four, to the front of out.
+fn interleave_line(
+    source: &[u8],
+    at: usize,
+    four: bool,
+    eights: usize,
+    half: &mut [u8],
+    out: &mut [u8],
+)
+    requires { ⌜ (at + eights * planeBytes four ≤ length (now source)) × (eights * 32 ≤ length (now half)) ⌝ }
+    requires { ⌜ eights * planeBytes four ≤ length (now out) ⌝ }
+    ensures { λ _. ⌜ now (out .exit) ≡ over (interleavedLine (now (source .entry)) at (planesOf four) (eights * 8)
+        (eights * planeBytes four)) (now (out .entry)) ⌝ }
+{
+    if four {
+        interleave_four(source, at, eights, half, out);
+    } else {
+        interleave_two(source, at, eights * 8, eights, out);
+    }
+}
+
+// The bytes of eight columns of four planes or two.
+fn plane_bytes(four: bool) -> usize
+    ensures { λ n. ⌜ n ≡ planeBytes four ⌝ }
+{
+    if four { 32 } else { 16 }
+}
+
+// Interleaves the plane rows of all scan lines, of two planes or four.
+fn interleave_lines(source: &[u8], lines: usize, four: bool, eights: usize, area: &mut [u8])
+    requires { ⌜ (lines * (eights * planeBytes four) ≤ length (now source)) × (eights ≤ 16) ⌝ }
+    requires { ⌜ lines * (eights * planeBytes four) ≤ length (now area) ⌝ }
+    ensures { λ _. ⌜ now (area .exit) ≡ over (interleavedLines (now (source .entry)) lines (planesOf four) (eights * 8)
+        (eights * planeBytes four)) (now (area .entry)) ⌝ }
+{
+    let line = eights * plane_bytes(four);
+    let mut half = [0u8; 512];
+    let mut at: usize = 0;
+    let mut y: usize = 0;
+    while y < lines {
+        interleave_line(source, at, four, eights, &mut half, &mut area[at..]);
+        at += line;
+        y += 1;
+    }
+}
+
+// Copies the first n bytes of a source to the front of an output.
+fn copy_front(source: &[u8], n: usize, out: &mut [u8])
+    requires { ⌜ (n ≤ length (now source)) × (n ≤ length (now out)) ⌝ }
+    ensures { λ _. ⌜ now (out .exit) ≡ over (take n (now (source .entry))) (now (out .entry)) ⌝ }
+{
+    let mut k: usize = 0;
+    while k < n {
+        out[k] = source[k];
+        k += 1;
+    }
+}
+
+// Puts joined plane rows into the area row by row.
+fn put_each(area: &mut [u8], r: Raster, rows: &[u8])
+    requires { ⌜ (bytes r ≤ length (now area)) × (bytes r ≤ length (now rows)) ⌝ }
+    ensures { λ _. ⌜ now (area .exit) ≡ over (joinedImage r (now (rows .entry))) (now (area .entry)) ⌝ }
+{
+    let count = r.rows();
+    let width = r.row_bytes();
+    let mut at: usize = 0;
+    let mut n: usize = 0;
+    while n < count {
+        store_row(area, r, n, &rows[at..]);
+        at += width;
+        n += 1;
+    }
+}
+
+// Whether the scan lines are interleaved: two planes or four, and plane rows of a multiple of eight bytes, 128 at most.
+fn is_interleaved(r: Raster) -> bool
+    ensures { λ b. ⌜ (b ≡ true → Interleaved r) ⌝ }
+{
+    if r.groups % 4 != 0 {
+        return false;
+    }
+    if 64 < r.groups {
+        return false;
+    }
+    if r.planes == 2 {
+        return true;
+    }
+    r.planes == 4
+}
+
+// Puts joined plane rows into the area.
+fn put_all(area: &mut [u8], r: Raster, rows: &[u8])
+    requires { ⌜ (bytes r ≤ length (now area)) × (bytes r ≤ length (now rows)) ⌝ }
+    ensures { λ _. ⌜ now (area .exit) ≡ over (joinedImage r (now (rows .entry))) (now (area .entry)) ⌝ }
+{
+    if r.planes == 1 {
+        copy_front(rows, r.bytes(), area);
+    } else if is_interleaved(r) {
+        interleave_lines(
+            rows,
+            r.lines as usize,
+            r.planes == 4,
+            r.groups as usize / 4,
+            area,
+        );
+    } else {
+        put_each(area, r, rows);
+    }
+}
+
+// Puts all plane rows into the area, from where they stand one behind the other. Where the area or the rows are shorter
+// than the raster nothing changes.
+pub fn put_rows(area: &mut [u8], r: Raster, rows: &[u8])
+    ensures { λ _. ⌜ now (area .exit) ≡ putJoined r (now (rows .entry)) (now (area .entry)) ⌝ }
+{
+    if area.len() < r.bytes() {
+        return;
+    }
+    if rows.len() < r.bytes() {
+        return;
+    }
+    put_all(area, r, rows);
 }

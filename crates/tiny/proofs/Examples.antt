@@ -72,7 +72,8 @@ pub record FaultyRuns : Type 0 where
   pub second : RefusedAt (replicate 34 0 ++ 2 ∷ 0 ∷ 1 ∷ 2 ∷ 2 ∷ 9 ∷ 9 ∷ []) 12 38
 
 pub faulty-runs : FaultyRuns
-unfolding readTiny readSections readRuns paletteStart expand expandWithin runStep runAt runOf longRun wordAt wordsAt tabulate
+unfolding readTiny readSections readRuns paletteStart expand expandWithin runStep runAt runOf longRun wordAt wordsAt
+    tabulate
 faulty-runs =
     record { undefined = refl; rotated = refl; low = refl; high = refl; past = refl; cut = refl; second = refl }
 

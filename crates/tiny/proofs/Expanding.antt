@@ -1,35 +1,24 @@
--- Sections expanded run by run into a screen: the loop's invariant and its laws.
+-- Sections expanded run by run: the loop's invariant and its laws.
 use mathlib.Core.Path.{_≡_, refl, sym, ap, _∙_}
-use Prim.Native.Nat.{ℕ, zero, suc, _+_, _-_, _*_, _≤_, _<_}
+use Prim.Native.Nat.{ℕ, _+_, _-_, _*_, _≤_, _<_}
 use native.Mathlib.Nat.{add-zero}
 use native.Mathlib.Omega.{arith}
 use mathlib.Core.Bool.{Bool, true, false, cond}
-use mathlib.Core.List.{List, _++_}
-use lib.ListN.{length, getD, take, drop, set, replicate, length-append, length-drop, getD-replicate}
+use mathlib.Core.List.{List, _++_, flatten}
+use borrow.Rule.Slice.PartMut.{putMid}
+use lib.ListN.{length, getD, take, drop, replicate, length-append, length-drop, getD-replicate}
 use lib.ListN.{drop-of-length-le, List·getD-append}
 use lib.Seq.{drop-drop, drop-at, getD-take, getD-drop}
-use Rattle.lists.specs.Stores.{stores}
+use Rattle.lists.specs.Over.{over}
 use Rattle.lists.specs.Tabulate.{tabulate}
-use Rattle.lists.proofs.Stores.{length-stores, stores-ext}
 use Rattle.lists.proofs.Tabulate.{length-tabulate, getD-tabulate}
-use Rattle.words.specs.Word.{wordAt, wordsAt}
+use Rattle.words.specs.Word.{wordAt, wordsAt, wordsBytes}
 use Rattle.tiny.specs.declared.Run.{Run}
 use Rattle.tiny.specs.Runs.{runAt, wordsMade, sourceOf}
 use Rattle.tiny.specs.Expansion.{Expansion, screenWords, noRun, runBefore, expand, expandSection, counted}
-use Rattle.tiny.specs.ScreenWords.{screenWord, storedFrom, storedWords}
 use Rattle.tiny.proofs.Runs.{RunFits, sound-fits}
 use Rattle.tiny.proofs.Expansion.{expand-none, expand-whole, expand-fault}
-
--- ---- stores after stores
-
-stores-more : (m n : ℕ) (at v : ℕ → ℕ) (d : List ℕ)
-    → stores n (λ i. at (m + i)) (λ i. v (m + i)) (stores m at v d) ≡ stores (m + n) at v d
-unfolding stores
-stores-more m zero at v d = ap (λ (k : ℕ). stores k at v d) (sym (add-zero m))
-stores-more m (suc n) at v d =
-    let e : m + suc n ≡ suc (m + n) = omega arith in
-    ap (λ (l : List ℕ). set l (at (m + n)) (v (m + n))) (stores-more m n at v d)
-    ∙ ap (λ (k : ℕ). stores k at v d) (sym e)
+use Rattle.tiny.proofs.WordBytes.{words-piece, words-all}
 
 -- ---- the words of a run, from the data section
 
@@ -64,9 +53,9 @@ abbrev left : List ℕ → List ℕ → ℕ → ℕ → ℕ → ℕ → Expansio
 left controls section n used taken to =
     expand (drop used controls) (drop taken (wordsAt n section 0)) (screenWords - to)
 
--- `used` and `taken` of the sections are used by `runs` runs, the `to` words that they make are stored, and what is
--- left gives the rest of the whole
-pub record Expanding (controls section : List ℕ) (n : ℕ) (screen₀ screen : List ℕ) (used taken runs to : ℕ) :
+-- `used` and `taken` of the sections are used by `runs` runs, the bytes of the `to` words that they make are put, and
+-- what is left gives the rest of the whole
+pub record Expanding (controls section : List ℕ) (n : ℕ) (out₀ out : List ℕ) (used taken runs to : ℕ) :
     Type 0 where
   pub inside : to ≤ screenWords
   pub within : used ≤ length controls
@@ -78,12 +67,11 @@ pub record Expanding (controls section : List ℕ) (n : ℕ) (screen₀ screen :
   pub fault : left controls section n used taken to .fault ≡ expandSection controls section n .fault
   pub rest : drop to (expandSection controls section n .made) ≡ left controls section n used taken to .made
   pub long : to + length (left controls section n used taken to .made) ≡ length (expandSection controls section n .made)
-  pub stored : screen ≡ stores to screenWord (λ k. getD (expandSection controls section n .made) k 0) screen₀
+  pub put : out ≡ over (wordsBytes (take to (expandSection controls section n .made))) out₀
 
-pub expanding-start : (controls section : List ℕ) (n : ℕ) (screen : List ℕ)
-    → Expanding controls section n screen screen 0 0 0 0
-unfolding stores
-expanding-start controls section n screen = record {
+pub expanding-start : (controls section : List ℕ) (n : ℕ) (out : List ℕ) → Expanding controls section n out out 0 0 0 0
+unfolding wordsBytes flatten
+expanding-start controls section n out = record {
   inside = omega arith;
   within = omega arith;
   given = omega arith;
@@ -94,21 +82,19 @@ expanding-start controls section n screen = record {
   fault = refl;
   rest = refl;
   long = omega arith;
-  stored = refl;
+  put = refl;
 }
 
-pub expanding-length : {controls section : List ℕ} {n : ℕ} {screen₀ screen : List ℕ} {used taken runs to : ℕ}
-    → Expanding controls section n screen₀ screen used taken runs to → length screen ≡ length screen₀
-expanding-length {screen₀ = screen₀} {to = to} p = ap length (p .stored) ∙ length-stores to screenWord _ screen₀
-
-module _ {controls section : List ℕ} {n : ℕ} {screen₀ screen : List ℕ} {used taken runs to : ℕ}
-    (p : Expanding controls section n screen₀ screen used taken runs to) where
+module _ {controls section : List ℕ} {n : ℕ} {out₀ out : List ℕ} {used taken runs to : ℕ}
+    (p : Expanding controls section n out₀ out used taken runs to) where
   abbrev datas : List ℕ
   datas = wordsAt n section 0
 
-  -- expanded word k
-  abbrev word : ℕ → ℕ
-  word k = getD (expandSection controls section n .made) k 0
+  abbrev whole : List ℕ
+  whole = expandSection controls section n .made
+
+  to-within : to ≤ length whole
+  to-within = omega (arith, p .long)
 
   -- the next run, judged against the data words that are left
   module _ {r : Run} (is : r ≡ runAt (drop used controls) (n - taken) (screenWords - to))
@@ -144,6 +130,9 @@ module _ {controls section : List ℕ} {n : ℕ} {screen₀ screen : List ℕ} {
             omega (arith, w .fits, p .inside),
           )
 
+      pub next-uses : r .datas .0 ≡ cond (r .repeats) 1 (r .count)
+      next-uses = next-whole .uses
+
       abbrev made : List ℕ
       made = wordsMade r (drop taken datas)
 
@@ -159,22 +148,25 @@ module _ {controls section : List ℕ} {n : ℕ} {screen₀ screen : List ℕ} {
       rest-is : drop to (expandSection controls section n .made) ≡ made ++ then .made
       rest-is = p .rest ∙ ap (λ (q : Expansion). q .made) left-whole
 
+      abbrev value : ℕ → ℕ
+      value i = wordAt section (sourceOf (r .repeats) taken i * 2)
+
       -- word i of the run
-      value-is : (i : ℕ) → i < r .count
-          → wordAt section (sourceOf (r .repeats) taken i * 2) ≡ word (to + i)
+      value-is : (i : ℕ) → i < r .count → value i ≡ getD whole (to + i) 0
       unfolding wordsMade
       value-is i l =
           sym (made-at n section taken (r .count) i (r .repeats) l
-          (omega (arith, next-fits .2, next-whole .uses)))
+          (omega (arith, next-fits .2, next-uses)))
           ∙ sym (List·getD-append made (then .made) 0 i (omega (arith, next-whole .makes)))
           ∙ sym (ap (λ (l : List ℕ). getD l i 0) rest-is)
-          ∙ getD-drop to (expandSection controls section n .made) i 0
+          ∙ getD-drop to whole i 0
 
-      pub expanding-turn : (last : List ℕ)
-          → last ≡ storedFrom to (r .count) (λ i. wordAt section (sourceOf (r .repeats) taken i * 2)) screen
-          → Expanding controls section n screen₀ last (used + r .controls .0) (taken + r .datas .0) (runs + 1)
-          (to + r .count)
-      expanding-turn last e =
+      -- the part of the output behind the words before the run was lent, and given back with the run's words
+      pub expanding-turn : (part : List ℕ)
+          → part ≡ over (wordsBytes (tabulate (r .count) value)) (take (length out - to * 2) (drop (to * 2) out))
+          → Expanding controls section n out₀ (putMid (to * 2) (length out - to * 2) out part)
+          (used + r .controls .0) (taken + r .datas .0) (runs + 1) (to + r .count)
+      expanding-turn part e =
           let w = next-whole in
           let lm : length (made ++ then .made) ≡ length made + length (then .made) = length-append made (then .made) in
           record {
@@ -191,11 +183,9 @@ module _ {controls section : List ℕ} {n : ℕ} {screen₀ screen : List ℕ} {
                 ∙ ap (drop (r .count)) rest-is
                 ∙ drop-at made (then .made) (r .count) (w .makes);
             long = omega (arith, ap (λ (q : Expansion). length (q .made)) left-whole, lm, w .makes, p .long);
-            stored =
-                e
-                ∙ stores-ext (r .count) (λ i. screenWord (to + i)) _ (λ i. word (to + i)) screen value-is
-                ∙ ap (storedFrom to (r .count) (λ i. word (to + i))) (p .stored)
-                ∙ stores-more to (r .count) screenWord word screen₀;
+            put =
+                words-piece whole out₀ out to to-within (p .put) (r .count) value part
+                (omega (arith, ap (λ (q : Expansion). length (q .made)) left-whole, lm, w .makes, p .long)) value-is e;
           }
 
   -- no control byte is left
@@ -226,6 +216,5 @@ module _ {controls section : List ℕ} {n : ℕ} {screen₀ screen : List ℕ} {
         let w : to ≡ length (expandSection controls section n .made) = sym words-is in
         cc
 
-    pub stored-done : screen ≡ storedWords (expandSection controls section n) screen₀
-    unfolding storedWords
-    stored-done = p .stored ∙ ap (λ (k : ℕ). stores k screenWord word screen₀) (sym words-is)
+    pub put-done : out ≡ over (wordsBytes whole) out₀
+    put-done = words-all whole out₀ out to to-within (p .put) (omega (arith, words-is))

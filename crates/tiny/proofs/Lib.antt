@@ -7,4 +7,4 @@ pub mod Reading
 pub mod Runs
 pub mod ScreenWords
 pub mod Screens
-pub mod Storing
+pub mod WordBytes

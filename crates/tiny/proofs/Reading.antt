@@ -1,18 +1,19 @@
 -- Laws of reading a Tiny file: each case of its judgement.
 use mathlib.Core.Path.{_≡_, sym, ap, _∙_}
-use Prim.Native.Nat.{ℕ, _+_, _-_, _*_, _/_, _≤_, _<_}
+use Prim.Native.Nat.{ℕ, _+_, _-_, _*_, _≤_, _<_}
 use native.Mathlib.Omega.{arith}
 use mathlib.Core.List.{List}
-use lib.ListN.{length, getD, take, drop, replicate, length-drop}
+use lib.ListN.{length, take, drop, replicate, length-drop, length-replicate}
 use lib.Seq.{length-take-le}
 use borrow.Author.Tests.{lt-ltb, le-ltb, eq-eqb, ne-eqb}
 use Rattle.lists.specs.Over.{over}
-use Rattle.lists.specs.Stores.{stores}
+use Rattle.lists.specs.Tabulate.{tabulate}
+use Rattle.lists.proofs.Over.{over-whole}
 use Rattle.lists.proofs.Parts.{tail-part}
 use Rattle.outcome.specs.Outcome.{accepted, refused, refusal, refuse, none}
 use Rattle.outcome.specs.Refusal.{areaTooShort, wrongLength, unknownResolution, sizeMismatch}
-use Rattle.words.specs.Word.{wordsAt, wordsBytes}
-use Rattle.words.proofs.Word.{length-wordsBytes, words-room}
+use Rattle.words.specs.Word.{wordAt, wordsAt, wordsBytes}
+use Rattle.words.proofs.Word.{length-wordsBytes}
 use Rattle.resolution.specs.Shapes.{screenBytes}
 use Rattle.picture.specs.declared.Picture.{Picture}
 use Rattle.picture.specs.Reading.{readAnswer}
@@ -21,10 +22,10 @@ use Rattle.tiny.specs.declared.Expanded.{Expanded}
 use Rattle.tiny.specs.Layout.{shortestLength, highestByte, resolutionByte, controlStart, controlCount, dataCount}
 use Rattle.tiny.specs.Layout.{bodyLength, controlSection, dataSection}
 use Rattle.tiny.specs.Expansion.{Expansion, screenWords, expand, counted}
-use Rattle.tiny.specs.ScreenWords.{screenWord, storedWords, screenWordsOf, screenBytesOf}
+use Rattle.tiny.specs.ScreenWords.{expandedWord, screenBytesOf}
 use Rattle.tiny.specs.Reading.{expanded, tinyPicture, tinyReading, readRuns, readSections, readTiny}
 use Rattle.tiny.proofs.Expansion.{bounded}
-use Rattle.tiny.proofs.Screens.{length-screenBytesOf}
+use Rattle.tiny.proofs.Screens.{ordered-words}
 
 -- ---- the whole file
 
@@ -113,24 +114,25 @@ module _ (file : List ℕ) (p : Expansion) {done : Expanded} (is : done ≡ coun
 -- ---- the sections of a file
 
 module _ (file : List ℕ) where
-  -- a screen of zeros in which 16,000 words are stored has each of them at its place, and is put into the area whole
-  pub area-is : (screen area last : List ℕ) → screen ≡ storedWords (expanded file) (replicate screenWords 0)
-      → screenWords ≤ length (expanded file .made) → screenBytes ≤ length area
-      → last ≡ over (wordsBytes (take (length area / 2) screen)) area
+  -- the bytes of 16,000 words, each put at its place
+  pub area-is : (made area last : List ℕ)
+      → made ≡ over (wordsBytes (expanded file .made)) (replicate screenBytes 0)
+      → screenWords ≤ length (expanded file .made)
+      → last ≡ over (wordsBytes (tabulate screenWords (λ p. wordAt made (expandedWord p * 2)))) area
       → last ≡ over (screenBytesOf (expanded file .made)) area
-  unfolding screenBytesOf storedWords screenWordsOf
-  area-is screen area last e h room is =
-      let made : List ℕ = expanded file .made in
-      let all : length (expanded file .made) ≡ screenWords =
+  unfolding screenBytesOf
+  area-is made area last e h is =
+      let words : List ℕ = expanded file .made in
+      let full : length (expanded file .made) ≡ screenWords =
       omega (arith, bounded (controlSection file) (dataSection file) screenWords .fits) in
-      let w : screen ≡ screenWordsOf (expanded file .made) =
-      e ∙ ap (λ (n : ℕ). stores n screenWord (λ k. getD made k 0) (replicate screenWords 0)) all in
-      let same = ap (λ (ws : List ℕ). length (wordsBytes ws)) w in
-      let size : length screen * 2 ≤ length area =
-      omega (arith, length-wordsBytes screen, same, length-screenBytesOf made) in
+      let all : made ≡ wordsBytes words =
+      e
+      ∙ over-whole (wordsBytes words) (replicate screenBytes 0)
+      (omega (arith, length-replicate {A = ℕ} screenBytes 0, length-wordsBytes words))
+      in
       is
-      ∙ ap (λ (ws : List ℕ). over (wordsBytes ws) area) (words-room screen area size)
-      ∙ ap (λ (ws : List ℕ). over (wordsBytes ws) area) w
+      ∙ ap (λ (m : List ℕ). over (wordsBytes (tabulate screenWords (λ p. wordAt m (expandedWord p * 2)))) area) all
+      ∙ ap (λ (ws : List ℕ). over (wordsBytes ws) area) (ordered-words words full)
 
   -- the answer of an accepted file
   pub answer-is : (p : Expansion) (picture : Picture) (body runs : ℕ) → picture ≡ tinyPicture file

@@ -1,21 +1,20 @@
--- The screen word of an expanded word: one-to-one onto 0 .. 15,999; and that of the next.
+-- The screen word of an expanded word: one-to-one onto 0 .. 15,999.
 use mathlib.Core.Path.{_≡_, sym, ap, _∙_}
-use Prim.Native.Nat.{ℕ, _+_, _-_, _*_, _/_, _%_, _<_}
+use Prim.Native.Nat.{ℕ, _+_, _*_, _/_, _%_, _<_}
 use native.Mathlib.Omega.{arith}
 use lib.Arith.{digits-div, digits-mod}
-use Rattle.lists.proofs.Cond.{cond-ltb}
 use Rattle.tiny.specs.Expansion.{screenWords}
-use Rattle.tiny.specs.ScreenWords.{lineWords, columnWords, sets, setWords, lastLine, lastColumns}
-use Rattle.tiny.specs.ScreenWords.{screenWord, expandedWord, nextPlace}
+use Rattle.tiny.specs.ScreenWords.{lineWords, columnWords, sets, setWords, groups}
+use Rattle.tiny.specs.ScreenWords.{screenWord, expandedWord}
 
--- set s, column group g and line y: expanded word 4000 s + 200 g + y is screen word 80 y + 4 g + s
+-- set s, group g and line y: expanded word 4000 s + 200 g + y is screen word 80 y + 4 g + s
 abbrev expandedAt : ℕ → ℕ → ℕ → ℕ
 expandedAt s g y = s * setWords + (g * columnWords + y)
 
 abbrev screenAt : ℕ → ℕ → ℕ → ℕ
 screenAt s g y = y * lineWords + (g * sets + s)
 
-module _ (s g y : ℕ) (hg : g < 20) (hy : y < columnWords) where
+module _ (s g y : ℕ) (hg : g < groups) (hy : y < columnWords) where
   screen-at : screenWord (expandedAt s g y) ≡ screenAt s g y
   unfolding screenWord
   screen-at =
@@ -32,14 +31,14 @@ module _ (s g y : ℕ) (hg : g < 20) (hy : y < columnWords) where
 
 -- what holds of every set, group and line holds of every expanded word, and of every screen word
 by-expanded : (P : ℕ → Type 0)
-    → ((s g y : ℕ) → s < sets → g < 20 → y < columnWords → P (expandedAt s g y))
+    → ((s g y : ℕ) → s < sets → g < groups → y < columnWords → P (expandedAt s g y))
     → (k : ℕ) → k < screenWords → P k
 by-expanded P h k l =
     let e : k / 4000 * 4000 + (k % 4000 / 200 * 200 + k % 4000 % 200) ≡ k = omega arith in
     rw e at (h (k / 4000) (k % 4000 / 200) (k % 4000 % 200) (omega arith) (omega arith) (omega arith))
 
 by-screen : (P : ℕ → Type 0)
-    → ((s g y : ℕ) → s < sets → g < 20 → y < columnWords → P (screenAt s g y))
+    → ((s g y : ℕ) → s < sets → g < groups → y < columnWords → P (screenAt s g y))
     → (p : ℕ) → p < screenWords → P p
 by-screen P h p l =
     let e : p / 80 * 80 + (p % 80 / 4 * 4 + p % 80 % 4) ≡ p = omega arith in
@@ -68,26 +67,7 @@ pub screenWord-injective : (j k : ℕ) → j < screenWords → k < screenWords �
 screenWord-injective j k hj hk e =
     sym (expandedWord-screenWord j hj) ∙ ap expandedWord e ∙ expandedWord-screenWord k hk
 
--- ---- that of the next expanded word
-
-next-at : (s g y : ℕ) → s < sets → g < 20 → y < columnWords
-    → nextPlace (screenWord (expandedAt s g y)) ≡ screenWord (expandedAt s g y + 1)
-unfolding nextPlace
-next-at s g y hs hg hy =
-    let goal : ℕ → Type 0 = λ (n : ℕ). n ≡ screenWord (expandedAt s g y + 1) in
-    let p : ℕ = screenAt s g y in
-    ap nextPlace (screen-at s g y hg hy)
-    ∙ cond-ltb goal p lastLine
-    (λ a.
-    let e : expandedAt s g (y + 1) ≡ expandedAt s g y + 1 = omega arith in
-    omega (arith, screen-at s g (y + 1) hg (omega arith), ap screenWord e))
-    (λ a. cond-ltb goal (p - lastLine) lastColumns
-    (λ b.
-    let e : expandedAt s (g + 1) 0 ≡ expandedAt s g y + 1 = omega arith in
-    omega (arith, screen-at s (g + 1) 0 (omega arith) (omega arith), ap screenWord e))
-    (λ b.
-    let e : expandedAt (s + 1) 0 0 ≡ expandedAt s g y + 1 = omega arith in
-    omega (arith, screen-at (s + 1) 0 0 (omega arith) (omega arith), ap screenWord e)))
-
-pub next-screenWord : (k : ℕ) → k < screenWords → nextPlace (screenWord k) ≡ screenWord (k + 1)
-next-screenWord = by-expanded (λ k. nextPlace (screenWord k) ≡ screenWord (k + 1)) next-at
+-- the word of set s in group g of line y, in bytes
+pub group-word : (s g y : ℕ) → s < sets → g < groups → y < columnWords
+    → expandedWord (y * lineWords + (g * sets + s)) * 2 ≡ g * 400 + y * 2 + s * 8000
+group-word s g y hs hg hy = omega (arith, expanded-at s g y hg hy hs)

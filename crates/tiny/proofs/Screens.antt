@@ -4,8 +4,9 @@ use Prim.Native.Nat.{ℕ, _+_, _*_, _<_}
 use native.Mathlib.Omega.{arith}
 use mathlib.Core.List.{List, [], append-nil}
 use lib.ListN.{length, getD, replicate, length-replicate}
+use Rattle.lists.specs.Tabulate.{tabulate}
 use Rattle.lists.proofs.Stores.{length-stores, getD-stores-at}
-use Rattle.lists.proofs.Tabulate.{getD-tabulate}
+use Rattle.lists.proofs.Tabulate.{getD-tabulate, tabulate-ext, tabulate-getD}
 use Rattle.words.specs.Word.{wordAt, wordsAt, wordsBytes}
 use Rattle.words.proofs.Word.{length-wordsBytes, words-back}
 use Rattle.resolution.specs.Shapes.{screenBytes}
@@ -57,3 +58,19 @@ module _ (words : List ℕ) where
   screen-word-back p h =
       ap (λ (q : ℕ). wordAt (screenBytesOf words) (q * 2)) (sym (screenWord-expandedWord p h))
       ∙ screen-word (expandedWord p) (expandedWord-lt p h)
+
+  -- the words of the bytes, each put at its place
+  pub ordered-words : length words ≡ screenWords
+      → tabulate screenWords (λ p. wordAt (wordsBytes words) (expandedWord p * 2)) ≡ screenWordsOf words
+  ordered-words full =
+      tabulate-ext screenWords (λ p. wordAt (wordsBytes words) (expandedWord p * 2))
+      (λ p. getD (screenWordsOf words) p 0) (λ p h. ordered p h)
+      ∙ ap (λ (n : ℕ). tabulate n (λ p. getD (screenWordsOf words) p 0)) (sym length-words)
+      ∙ tabulate-getD (screenWordsOf words) 0
+    where
+      ordered : (p : ℕ) → p < screenWords
+          → wordAt (wordsBytes words) (expandedWord p * 2) ≡ getD (screenWordsOf words) p 0
+      ordered p h =
+          word-of-bytes words (expandedWord p) (omega (arith, expandedWord-lt p h, full))
+          ∙ sym (stored-at (expandedWord p) (expandedWord-lt p h))
+          ∙ ap (λ (q : ℕ). getD (screenWordsOf words) q 0) (screenWord-expandedWord p h)

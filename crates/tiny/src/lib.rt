@@ -1,15 +1,18 @@
 // Tiny files, read (document 02, ticket 1; source 001, <Tiny>). Definitions: specs/.
 ghost use mathlib.Core.Path.{_≡_};
+ghost use mathlib.Core.Bool.{cond};
 ghost use Prim.Native.Nat.{_+_, _-_, _*_, _≤_, _<_};
 ghost use lib.ListN.{length, drop};
-ghost use Rattle.words.specs.Word.{wordAt};
+ghost use Rattle.lists.specs.Over.{over};
+ghost use Rattle.lists.specs.Tabulate.{tabulate};
+ghost use Rattle.words.specs.Word.{wordAt, wordBytes, wordsBytes};
 ghost use Rattle.resolution.specs.Shapes.{screenBytes};
 ghost use Rattle.picture.specs.Reading.{readAnswer, readArea};
 ghost use Rattle.tiny.specs.Layout.{resolutionByte, paletteStart, controlCount, dataCount, controlStart};
 ghost use Rattle.tiny.specs.Layout.{bodyLength};
 ghost use Rattle.tiny.specs.Runs.{defined, faulty, longRun, runOf, fitted, runAt, sourceOf};
 ghost use Rattle.tiny.specs.Expansion.{expandSection, screenWords, counted};
-ghost use Rattle.tiny.specs.ScreenWords.{screenWord, nextPlace, storedFrom, storedWords};
+ghost use Rattle.tiny.specs.ScreenWords.{lineWords, columnWords, sets, groups, expandedWord};
 ghost use Rattle.tiny.specs.Reading.{expanded, tinyPicture, readRuns, readSections, readTiny};
 use outcome::AREA_TOO_SHORT;
 use outcome::RUN_TOO_LONG;
@@ -49,21 +52,25 @@ const LEAST_COUNT: u16 = 128;
 
 const MOST_COUNT: u16 = 32767;
 
-// Words of a screen, of a line, of a column and of a set; each set has every fourth column.
+// Words of a screen.
 const SCREEN_WORDS: usize = 16000;
 
-const LINE_WORDS: usize = 80;
+// Of the expanded words, bytes of a set and of a column, which has one word of each line.
+const SET_BYTES: usize = 8000;
 
-const COLUMN_WORDS: usize = 200;
+const COLUMN_BYTES: usize = 400;
 
+// There are as many sets; a group is four neighbouring words of a line, one of each set.
 const SETS: usize = 4;
 
-const SET_WORDS: usize = 4000;
+// Lines of a screen, groups of a line, and bytes of each.
+const LINES: usize = 200;
 
-// Where the last line starts, and in a line the last columns of the sets.
-const LAST_LINE: usize = 15920;
+const GROUPS: usize = 20;
 
-const LAST_COLUMNS: usize = 76;
+const LINE_BYTES: usize = 160;
+
+const GROUP_BYTES: usize = 8;
 
 // A count of control bytes.
 struct ControlBytes(usize);
@@ -266,76 +273,58 @@ fn datas_after(taken: DataWords, run: Run) -> DataWords
     DataWords(taken.0 + run.datas.0)
 }
 
-// ---- the words of a run put into a screen
+// ---- the words of a run, as bytes
 
-// The screen word of expanded word k.
-fn screen_word(k: usize) -> usize
-    requires { ⌜ k ≤ screenWords ⌝ }
-    ensures { λ p. ⌜ p ≡ screenWord k ⌝ }
+// The word of two bytes.
+fn put_word(high: u8, low: u8, out: &mut [u8])
+    requires { ⌜ 2 ≤ length (now out) ⌝ }
+    ensures { λ _. ⌜ now (out .exit) ≡ over (wordBytes (high * 256 + low)) (now (out .entry)) ⌝ }
 {
-    let r = k % SET_WORDS;
-    LINE_WORDS * (r % COLUMN_WORDS) + k / SET_WORDS + SETS * (r / COLUMN_WORDS)
+    out[0] = high;
+    out[1] = low;
 }
 
-// The screen word of the expanded word behind that of screen word `place`.
-fn next_place(place: usize) -> usize
-    requires { ⌜ place < screenWords ⌝ }
-    ensures { λ p. ⌜ p ≡ nextPlace place ⌝ }
-{
-    if place < LAST_LINE {
-        return place + LINE_WORDS;
-    }
-    let column = place - LAST_LINE;
-    if column < LAST_COLUMNS {
-        return column + SETS;
-    }
-    column - LAST_COLUMNS + 1
-}
-
-// Stores a word as the expanded words from `to` on, `count` times.
-fn put_repeat(word: u16, count: usize, to: usize, screen: &mut [u16])
-    requires { ⌜ (to + count ≤ screenWords) × (length (now screen) ≡ screenWords) ⌝ }
-    ensures { λ _. ⌜ now (screen .exit) ≡ storedFrom to count (λ i. word) (now (screen .entry)) ⌝ }
-{
-    let mut place = screen_word(to);
-    let mut k: usize = 0;
-    while k < count {
-        screen[place] = word;
-        place = next_place(place);
-        k += 1;
-    }
-}
-
-// Stores `count` words of a section, from word `taken` on, as the expanded words from `to` on.
-fn put_literal(section: &[u8], taken: usize, count: usize, to: usize, screen: &mut [u16])
-    requires { ⌜ (taken < 65536) × (to + count ≤ screenWords) × (length (now screen) ≡ screenWords) ⌝ }
+// The word of two bytes, `count` times.
+fn put_repeat(high: u8, low: u8, count: usize, out: &mut [u8])
+    requires { ⌜ count * 2 ≤ length (now out) ⌝ }
     ensures { λ _.
-        ⌜ now (screen .exit)
-        ≡ storedFrom to count (λ i. wordAt (now (section .entry)) ((taken + i) * 2)) (now (screen .entry)) ⌝ }
+        ⌜ now (out .exit) ≡ over (wordsBytes (tabulate count (λ i. high * 256 + low))) (now (out .entry)) ⌝ }
 {
-    let mut place = screen_word(to);
-    let mut k: usize = 0;
-    while k < count {
-        screen[place] = words::word_at(section, (taken + k) * 2);
-        place = next_place(place);
-        k += 1;
+    for i in 0..count {
+        put_word(high, low, &mut out[i * 2..]);
     }
 }
 
-// Stores the words of a run as the expanded words from `to` on.
-fn put_run(run: Run, section: &[u8], taken: DataWords, to: usize, screen: &mut [u16])
-    requires { ⌜ (taken .0 < 65536) × (to + run .count ≤ screenWords) × (length (now screen) ≡ screenWords) ⌝ }
+// `count` words of a section, from word `taken` on.
+fn put_literal(section: &[u8], taken: usize, count: usize, out: &mut [u8])
+    requires { ⌜ (taken < 65536) × ((taken + count) * 2 ≤ length (now section)) × (count * 2 ≤ length (now out)) ⌝ }
     ensures { λ _.
-        ⌜ now (screen .exit)
-        ≡ storedFrom to (run .count)
-        (λ i. wordAt (now (section .entry)) (sourceOf (run .repeats) (taken .0) i * 2)) (now (screen .entry)) ⌝ }
+        ⌜ now (out .exit)
+        ≡ over (wordsBytes (tabulate count (λ i. wordAt (now (section .entry)) ((taken + i) * 2))))
+        (now (out .entry)) ⌝ }
+{
+    for i in 0..count {
+        let at = (taken + i) * 2;
+        put_word(section[at], section[at + 1], &mut out[i * 2..]);
+    }
+}
+
+// The words of a run, which `taken` data words precede.
+fn put_run(run: Run, section: &[u8], taken: DataWords, out: &mut [u8])
+    requires { ⌜ (taken .0 < 65536) × (run .count * 2 ≤ length (now out)) ⌝ }
+    requires { ⌜ (taken .0 + cond (run .repeats) 1 (run .count)) * 2 ≤ length (now section) ⌝ }
+    ensures { λ _.
+        ⌜ now (out .exit)
+        ≡ over (wordsBytes (tabulate (run .count)
+        (λ i. wordAt (now (section .entry)) (sourceOf (run .repeats) (taken .0) i * 2)))) (now (out .entry)) ⌝ }
 {
     let start = taken.0;
     if run.repeats {
-        put_repeat(words::word_at(section, start * 2), run.count, to, screen);
+        let at = start * 2;
+        put_repeat(section[at], section[at + 1], run.count, out);
         return;
     }
-    put_literal(section, start, run.count, to, screen);
+    put_literal(section, start, run.count, out);
 }
 
 // ---- the sections expanded
@@ -353,15 +342,16 @@ fn ended(fault: u8, used: ControlBytes, taken: DataWords, runs: usize, words: us
     }
 }
 
-// Expands the control bytes and the first data words of a section into a screen, until no control byte is left or a run
-// is at fault.
-fn expand(controls: &[u8], section: &[u8], datas: DataWords, screen: &mut [u16]) -> Expanded
-    requires { ⌜ (length (now controls) < 65536) × (datas .0 < 65536) × (length (now screen) ≡ screenWords) ⌝ }
+// Expands the control bytes and the data words of a section, and puts the bytes of the words made one after the other,
+// until no control byte is left or a run is at fault.
+fn expand(controls: &[u8], section: &[u8], datas: DataWords, made: &mut [u8]) -> Expanded
+    requires { ⌜ (length (now controls) < 65536) × (datas .0 < 65536) × (length (now made) ≡ screenBytes) ⌝ }
+    requires { ⌜ length (now section) ≡ datas .0 * 2 ⌝ }
     ensures answer { λ r. ⌜ r ≡ counted (expandSection (now (controls .entry)) (now (section .entry)) (datas .0)) ⌝ }
-    ensures screen { λ _.
-        ⌜ now (screen .exit)
-        ≡ storedWords (expandSection (now (controls .entry)) (now (section .entry)) (datas .0))
-        (now (screen .entry)) ⌝ }
+    ensures made { λ _.
+        ⌜ now (made .exit)
+        ≡ over (wordsBytes (expandSection (now (controls .entry)) (now (section .entry)) (datas .0) .made))
+        (now (made .entry)) ⌝ }
 {
     let mut used = ControlBytes(0);
     let mut taken = DataWords(0);
@@ -372,7 +362,7 @@ fn expand(controls: &[u8], section: &[u8], datas: DataWords, screen: &mut [u16])
         if run.fault != 0 {
             return ended(run.fault, used, taken, runs, to);
         }
-        put_run(run, section, taken, to, screen);
+        put_run(run, section, taken, &mut made[to * 2..]);
         used = controls_after(used, run);
         taken = datas_after(taken, run);
         to += run.count;
@@ -381,25 +371,69 @@ fn expand(controls: &[u8], section: &[u8], datas: DataWords, screen: &mut [u16])
     ended(0, used, taken, runs, to)
 }
 
-// Expands the sections of a file into a screen.
-fn expand_sections(file: &[u8], screen: &mut [u16]) -> Expanded
+// Expands the sections of a file.
+fn expand_sections(file: &[u8], made: &mut [u8]) -> Expanded
     requires { ⌜ length (now file) ≡ controlStart (now file) + bodyLength (now file) ⌝ }
-    requires { ⌜ length (now screen) ≡ screenWords ⌝ }
+    requires { ⌜ length (now made) ≡ screenBytes ⌝ }
     ensures answer { λ r. ⌜ r ≡ counted (expanded (now (file .entry))) ⌝ }
-    ensures screen { λ _. ⌜ now (screen .exit) ≡ storedWords (expanded (now (file .entry))) (now (screen .entry)) ⌝ }
+    ensures made { λ _.
+        ⌜ now (made .exit) ≡ over (wordsBytes (expanded (now (file .entry)) .made)) (now (made .entry)) ⌝ }
     ensures used { λ r. ⌜ r .controls .0 < 65536 ⌝ }
 {
     let start = control_start(file);
     let controls = control_count(file);
     let datas = data_count(file);
     let middle = start + controls.0;
-    expand(&file[start..middle], &file[middle..], datas, screen)
+    expand(&file[start..middle], &file[middle..], datas, made)
+}
+
+// ---- the expanded words put into a screen
+
+// Group g of line y: a word of each set.
+fn put_group(made: &[u8], y: usize, g: usize, out: &mut [u8])
+    requires { ⌜ (y < columnWords) × (g < groups) ⌝ }
+    requires { ⌜ (screenBytes ≤ length (now made)) × (sets * 2 ≤ length (now out)) ⌝ }
+    ensures { λ _.
+        ⌜ now (out .exit)
+        ≡ over (wordsBytes (tabulate sets
+        (λ s. wordAt (now (made .entry)) (expandedWord (y * lineWords + (g * sets + s)) * 2)))) (now (out .entry)) ⌝ }
+{
+    for s in 0..SETS {
+        let at = g * COLUMN_BYTES + y * 2 + s * SET_BYTES;
+        put_word(made[at], made[at + 1], &mut out[s * 2..]);
+    }
+}
+
+// Line y.
+fn put_line(made: &[u8], y: usize, out: &mut [u8])
+    requires { ⌜ (y < columnWords) × (screenBytes ≤ length (now made)) × (lineWords * 2 ≤ length (now out)) ⌝ }
+    ensures { λ _.
+        ⌜ now (out .exit)
+        ≡ over (wordsBytes (tabulate lineWords
+        (λ c. wordAt (now (made .entry)) (expandedWord (y * lineWords + c) * 2)))) (now (out .entry)) ⌝ }
+{
+    for g in 0..GROUPS {
+        put_group(made, y, g, &mut out[g * GROUP_BYTES..]);
+    }
+}
+
+// The whole screen.
+fn put_screen(made: &[u8], area: &mut [u8])
+    requires { ⌜ (screenBytes ≤ length (now made)) × (screenBytes ≤ length (now area)) ⌝ }
+    ensures { λ _.
+        ⌜ now (area .exit)
+        ≡ over (wordsBytes (tabulate screenWords (λ p. wordAt (now (made .entry)) (expandedWord p * 2))))
+        (now (area .entry)) ⌝ }
+{
+    for y in 0..LINES {
+        put_line(made, y, &mut area[y * LINE_BYTES..]);
+    }
 }
 
 // ---- the file read
 
-// The runs of a file whose sections have their lengths, expanded into a screen of the reader's own and then put into
-// the area.
+// The runs of a file whose sections have their lengths, expanded into bytes of the reader's own and then put into the
+// area.
 fn read_runs(file: &[u8], area: &mut [u8]) -> ReadAnswer
     requires { ⌜ length (now file) ≡ controlStart (now file) + bodyLength (now file) ⌝ }
     requires { ⌜ screenBytes ≤ length (now area) ⌝ }
@@ -410,8 +444,8 @@ fn read_runs(file: &[u8], area: &mut [u8]) -> ReadAnswer
 {
     let start = control_start(file);
     let datas = data_count(file);
-    let mut screen = [0u16; SCREEN_WORDS];
-    let done = expand_sections(file, &mut screen);
+    let mut made = [0u8; SCREEN_BYTES];
+    let done = expand_sections(file, &mut made);
     if done.fault != 0 {
         return picture::read_refused(outcome::refuse_at(done.fault, start + done.controls.0));
     }
@@ -421,7 +455,7 @@ fn read_runs(file: &[u8], area: &mut [u8]) -> ReadAnswer
     if done.words < SCREEN_WORDS {
         return picture::read_refused(outcome::refuse(SIZE_MISMATCH));
     }
-    words::put_words(&screen, area);
+    put_screen(&made, area);
     picture::read_done(picture_of(file), file.len() - start, done.runs)
 }
 

@@ -1,4 +1,9 @@
+pub mod Ahead
+pub mod Filling
+pub mod Front
+pub mod JudgeRows
 pub mod Put
 pub mod Records
 pub mod RecordsRead
 pub mod RowUnpack
+pub mod RowsRead

@@ -3,10 +3,10 @@ use mathlib.Core.Path.{_≡_, refl, sym, ap, _∙_}
 use Prim.Native.Nat.{ℕ, _+_, _-_, _≤_, _<_}
 use native.Mathlib.Omega.{arith}
 use mathlib.Core.List.{List}
-use lib.ListN.{drop}
+use lib.ListN.{length, drop, length-append}
 use lib.Seq.{drop-drop}
 use borrow.Author.Tests.{eq-eqb, ne-eqb}
-use Rattle.outcome.specs.Outcome.{refused, refusal, none}
+use Rattle.outcome.specs.Outcome.{refused, rowRefusal, none}
 use Rattle.packbits.specs.declared.Record.{Record}
 use Rattle.packbits.specs.Records.{packedLen, rowLen, rowBytes, fault, recordAt}
 use Rattle.packbits.specs.Row.{rowAnswer}
@@ -25,9 +25,11 @@ pub record RecordsRead (file : List ℕ) (at width from room records : ℕ) : Ty
   pub bytes : from + left file from room .bytes ≡ at + left file at width .bytes
   pub total : records + left file from room .records ≡ left file at width .records
   pub fault : left file from room .fault ≡ left file at width .fault
+  pub made : width + length (left file from room .made) ≡ room + length (left file at width .made)
 
 pub read-start : (file : List ℕ) (at width : ℕ) → RecordsRead file at width at width 0
-read-start file at width = record { counted = omega arith; bytes = refl; total = omega arith; fault = refl }
+read-start file at width =
+    record { counted = omega arith; bytes = refl; total = omega arith; fault = refl; made = refl }
 
 -- ---- no room left
 
@@ -49,11 +51,14 @@ module _ (file : List ℕ) (from room : ℕ) (r : Record) (is : r ≡ recordAt (
         → RecordsRead file at width (from + packedLen r) (room - rowLen r) (records + 1)
     read-turn g =
         let w : WholeAt r file from room = whole-at file from room r is ok in
+        let longer =
+        length-append (rowBytes r (drop from file)) (left file (from + packedLen r) (room - rowLen r) .made) in
         record {
           counted = omega (arith, w .takes, g .counted);
           bytes = omega (arith, ap (λ (p : Progress). p .bytes) left-whole, g .bytes);
           total = omega (arith, ap (λ (p : Progress). p .records) left-whole, g .total);
           fault = sym (ap (λ (p : Progress). p .fault) left-whole) ∙ g .fault;
+          made = omega (arith, ap (λ (p : Progress). length (p .made)) left-whole, longer, w .makes, w .fits, g .made);
         }
 
 -- ---- the answer, where no record is left or the next is at fault
@@ -75,9 +80,13 @@ module _ {file : List ℕ} {at width from room records number : ℕ} (g : Record
   records-is : all .records ≡ records
   records-is = omega (arith, ap (λ (p : Progress). p .records) stop, g .total)
 
-  pub answer-refused : (number ≡ 0 → ⊥) → rowAnswer (unpackAt file at width) ≡ rowAnswer (refused (refusal number from))
+  made-is : {to : ℕ} → width ≡ room + to → length (all .made) ≡ to
+  made-is e = omega (arith, ap (λ (p : Progress). length (p .made)) stop, g .made)
+
+  pub answer-refused : {to : ℕ} → width ≡ room + to → (number ≡ 0 → ⊥)
+      → rowAnswer (unpackAt file at width) ≡ rowAnswer (refused (rowRefusal number from 0 to))
   unfolding outcomeOf
-  answer-refused e = rw fault-is (simp (ne-eqb number 0 e, place-is))
+  answer-refused reached e = rw fault-is (simp (ne-eqb number 0 e, place-is, made-is reached))
 
   pub answer-accepted : number ≡ 0
       → rowAnswer (unpackAt file at width) ≡ record { refusal = none; bytes = from - at; records = records }

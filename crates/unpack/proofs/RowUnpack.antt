@@ -13,7 +13,7 @@ use Rattle.lists.specs.Over.{over}
 use Rattle.lists.proofs.Cond.{cond-eqb}
 use Rattle.lists.proofs.Over.{over-whole}
 use Rattle.outcome.specs.declared.Refusal.{Refusal}
-use Rattle.outcome.specs.Outcome.{Outcome, accepted, refused, refuse, refusal, placed}
+use Rattle.outcome.specs.Outcome.{Outcome, accepted, refused, refuse, rowRefusal, placed}
 use Rattle.outcome.specs.Refusal.{areaTooShort, outOfRange}
 use Rattle.packbits.specs.Row.{Row, done, rowAnswer, rowOutput, widthOutOfRange}
 use Rattle.packbits.specs.Unpack.{progress, outcomeOf, unpack, unpackRow}
@@ -42,7 +42,9 @@ module _ (packed : List ℕ) (width room : ℕ) where
 
 pub answer-placed : (o : Outcome Row) → rowAnswer (placed 0 o) ≡ rowAnswer o
 answer-placed (accepted r) = refl
-answer-placed (refused why) = ap (λ (k : ℕ). rowAnswer (refused (refusal (why .number) k))) (omega arith)
+answer-placed (refused why) =
+    ap (λ (k : ℕ). rowAnswer (refused (rowRefusal (why .number) k (why .«plane_row») (why .«good_bytes»))))
+    (omega arith)
 
 -- a refusal leaves the output as it was
 pub refused-output : (o : Outcome Row) (out : List ℕ) → (rowAnswer o .refusal .number ≡ 0 → ⊥) → rowOutput o out ≡ out

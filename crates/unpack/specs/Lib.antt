@@ -1,1 +1,2 @@
 pub mod AcceptsRow
+pub mod Rows

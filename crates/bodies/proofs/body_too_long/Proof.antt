@@ -51,15 +51,6 @@ measured-here c =
     rw (c .before .before .before .before .row-bytes .ensures .0, c .least-row-len .ensures)
     (most-turn (plane-rows (now (a .area)) (a .r)) (i .before .loop .inv .3) (more-here i))
 
-rows-requires : tie.Need-rows-requires Inv-loop μ-loop
-rows-requires c κs = search needs
-
-row-bytes-requires : tie.Need-row-bytes-requires Inv-loop μ-loop
-row-bytes-requires c κs = search needs
-
-add-longest : tie.Need-add-longest Inv-loop μ-loop
-add-longest c = search needs
-
 mul-most : tie.Need-mul-most Inv-loop μ-loop
 mul-most c =
     let w : c .row-bytes .result + 1 ≤ 511 = omega (arith, c .row-bytes .ensures .1) in
@@ -87,20 +78,11 @@ sub-most-2 c =
     rw (width .ensures .0) (most-row (plane-rows (now (a .area)) (a .r)) (l .inv .3) (more-here i)) in
     omega (arith, counted)
 
-same-length : tie.Need-same-length Inv-loop μ-loop
-same-length c = search needs
-
 returns : tie.Need-returns Inv-loop μ-loop
 returns c =
     let a = c .before .before .before .before .before .before .before .before .before .before .before .args in
     let bound = most-bound (plane-rows (now (a .area)) (a .r)) (measured-here (c .before .before .before)) in
     sym (lt-leb (a .limit) (length (leastBody (a .r) (now (a .area)))) (omega (arith, bound, c .if1 .taken)))
-
-add-n : tie.Need-add-n Inv-loop μ-loop
-add-n c = search needs
-
-loop-less : tie.Need-loop-less Inv-loop μ-loop
-loop-less c = search needs
 
 loop-again : tie.Need-loop-again Inv-loop μ-loop
 loop-again c =
@@ -111,9 +93,6 @@ loop-again c =
       record { range = room .range; full = room .full; width = search needs },
       measured-here (c .before .before .before),
     )
-
-same-length-2 : tie.Need-same-length-2 Inv-loop μ-loop
-same-length-2 c = search needs
 
 returns-2 : tie.Need-returns-2 Inv-loop μ-loop
 returns-2 c =
@@ -128,18 +107,18 @@ body-too-long-spec =
     (tie.spec
     Inv-loop
     μ-loop
-    rows-requires
-    row-bytes-requires
-    add-longest
+    (λ c κs. search needs)
+    (λ c κs. search needs)
+    (λ c. search needs)
     mul-most
     loop-holds
     least-row-len-requires
     sub-most
     sub-most-2
-    same-length
+    (λ c. search needs)
     returns
-    add-n
-    loop-less
+    (λ c. search needs)
+    (λ c. search needs)
     loop-again
-    same-length-2
+    (λ c. search needs)
     returns-2)

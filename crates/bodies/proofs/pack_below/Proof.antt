@@ -16,18 +16,6 @@ below-here : (e : tie.Else1)
     leb (a .limit) (length (leastBody (a .r) (now (a .area)))) ≡ false
 below-here e = sym (e .before .before .before .body-too-long .ensures) ∙ e .if1 .left
 
-body-too-long-requires : tie.Need-body-too-long-requires
-body-too-long-requires c κs = search needs
-
-refuse-requires : tie.Need-refuse-requires
-refuse-requires c κs = search needs
-
-body-refused-requires : tie.Need-body-refused-requires
-body-refused-requires c κs = search needs
-
-same-length : tie.Need-same-length
-same-length c = search needs
-
 returns : tie.Need-returns
 returns c =
     let t = c .before .before in
@@ -46,12 +34,6 @@ put-body-requires c κs =
       below-fits (a .r) (now (a .area)) (a .limit) (length (now (a .out))) (below-here e) (s .pre .1),
     )
 
-same-length-2 : tie.Need-same-length-2
-same-length-2 c = search needs
-
-same-length-3 : tie.Need-same-length-3
-same-length-3 c = search needs
-
 returns-2 : tie.Need-returns-2
 returns-2 c =
     let e = c .before .before .before .before .before .before .before in
@@ -63,12 +45,12 @@ pub pack-below-spec : {M : Type 1} → statement M
 pack-below-spec =
     tie.close
     (tie.spec
-    body-too-long-requires
-    refuse-requires
-    body-refused-requires
-    same-length
+    (λ c κs. search needs)
+    (λ c κs. search needs)
+    (λ c κs. search needs)
+    (λ c. search needs)
     returns
     put-body-requires
-    same-length-2
-    same-length-3
+    (λ c. search needs)
+    (λ c. search needs)
     returns-2)

@@ -32,12 +32,6 @@ room-here e = rw (e .before .longest-below .ensures) at (e .if2 .left)
 width-here : (c : tie.After-row-bytes) → widthOutOfRange (c .row-bytes .result) ≡ false
 width-here c = rw (c .row-bytes .ensures .0) (fits-here (c .before .before .before) .0)
 
-raster-refusal-requires : tie.Need-raster-refusal-requires
-raster-refusal-requires c κs = search needs
-
-body-refused-requires : tie.Need-body-refused-requires
-body-refused-requires c κs = search needs
-
 returns : tie.Need-returns
 returns c =
     let t = c .before in
@@ -45,15 +39,6 @@ returns c =
     let why = t .before .before .raster-refusal .ensures in
     let all = pack-refused (a .r) (now (a .area)) (a .limit) (length (now (a .out))) (rw why at (t .if1 .taken)) in
     rw (c .body-refused .ensures, why, all) (refl, refl)
-
-longest-below-requires : tie.Need-longest-below-requires
-longest-below-requires c κs = search needs
-
-refuse-requires : tie.Need-refuse-requires
-refuse-requires c κs = search needs
-
-body-refused-requires-2 : tie.Need-body-refused-requires-2
-body-refused-requires-2 c κs = search needs
 
 returns-2 : tie.Need-returns-2
 returns-2 c =
@@ -64,9 +49,6 @@ returns-2 c =
     let h : room < a .limit - 1 = rw (t .before .longest-below .ensures) at (t .if2 .taken) in
     let all = pack-no-room (a .r) (now (a .area)) (a .limit) room (fits-here e .0) (fits-here e .1) h in
     rw (c .body-refused2 .ensures, c .before .refuse .ensures, all) (refl, refl)
-
-row-bytes-requires : tie.Need-row-bytes-requires
-row-bytes-requires c κs = search needs
 
 array-borrow-prefix-row : tie.Need-array-borrow-prefix-row
 array-borrow-prefix-row c = in-range _ (width-here c) .1
@@ -81,9 +63,6 @@ pack-below-requires c κs =
     let width = length-lent _ (width-here w) ∙ w .row-bytes .ensures .0 in
     (record { range = fits-here e .0; full = fits-here e .1; width = width }, room-here (w .before))
 
-same-length : tie.Need-same-length
-same-length c = search needs
-
 returns-3 : tie.Need-returns-3
 returns-3 c =
     let f = c .before .before .before .before .before .before .before in
@@ -97,16 +76,16 @@ pub pack-body-spec : {M : Type 1} → statement M
 pack-body-spec =
     tie.close
     (tie.spec
-    raster-refusal-requires
-    body-refused-requires
+    (λ c κs. search needs)
+    (λ c κs. search needs)
     returns
-    longest-below-requires
-    refuse-requires
-    body-refused-requires-2
+    (λ c κs. search needs)
+    (λ c κs. search needs)
+    (λ c κs. search needs)
     returns-2
-    row-bytes-requires
+    (λ c κs. search needs)
     array-borrow-prefix-row
     slice-aggregate-pack-below
     pack-below-requires
-    same-length
+    (λ c. search needs)
     returns-3)

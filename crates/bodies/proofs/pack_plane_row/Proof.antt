@@ -6,18 +6,6 @@ use borrow.Author.Needs.{needs}
 use Rattle.bodies.proofs.pack_plane_row.Statement.{statement}
 use Rattle.bodies.proofs.pack_plane_row.Tie as tie
 
-take-row-requires : tie.Need-take-row-requires
-take-row-requires c κs = search needs
-
-pack-into-requires : tie.Need-pack-into-requires
-pack-into-requires c κs = search needs
-
-same-length : tie.Need-same-length
-same-length c = search needs
-
-same-length-2 : tie.Need-same-length-2
-same-length-2 c = search needs
-
 returns : tie.Need-returns
 returns c =
     let s = c .before .before .before .before .before .before .before .before .before .before .before .before in
@@ -27,4 +15,4 @@ returns c =
 
 pub pack-plane-row-spec : {M : Type 1} → statement M
 pack-plane-row-spec =
-    tie.close (tie.spec take-row-requires pack-into-requires same-length same-length-2 returns)
+    tie.close (tie.spec (λ c κs. search needs) (λ c κs. search needs) (λ c. search needs) (λ c. search needs) returns)

@@ -42,23 +42,11 @@ bounds-here c =
     rw (c .pack-plane-row .ensures .0)
     (row-bounds list (narrow-here i) (s .pre .1) (i .before .loop .inv .3) (more-here i))
 
-rows-requires : tie.Need-rows-requires Inv-loop μ-loop
-rows-requires c κs = search needs
-
 loop-holds : tie.Need-loop-holds Inv-loop μ-loop
 loop-holds c =
     let s = c .before .before .before .before in
     let a = s .args in
     (c .rows .ensures .0, omega arith, s .pre .0, rows-start (plane-rows (now (a .area)) (a .r)) (now (a .out)))
-
-sub-pack-plane-row : tie.Need-sub-pack-plane-row Inv-loop μ-loop
-sub-pack-plane-row c = search needs
-
-part-pack-plane-row-start : tie.Need-part-pack-plane-row-start Inv-loop μ-loop
-part-pack-plane-row-start c = search needs
-
-part-pack-plane-row-end : tie.Need-part-pack-plane-row-end Inv-loop μ-loop
-part-pack-plane-row-end c = search needs
 
 pack-plane-row-requires : tie.Need-pack-plane-row-requires Inv-loop μ-loop
 pack-plane-row-requires c κs =
@@ -81,12 +69,6 @@ add-records c =
     let l = p .before .before .before .before .loop in
     omega (arith, l .inv .1, l .inv .3 .bound, l .inv .3 .few, bounds-here p)
 
-add-n : tie.Need-add-n Inv-loop μ-loop
-add-n c = search needs
-
-loop-less : tie.Need-loop-less Inv-loop μ-loop
-loop-less c = search needs
-
 loop-again : tie.Need-loop-again Inv-loop μ-loop
 loop-again c =
     let p = c .before .before .before .before .before .before in
@@ -102,15 +84,6 @@ loop-again c =
       rw (e .0) (row-written list (narrow-here i) (s .pre .1) (l .inv .3) (more-here i) _ (e .1)),
     )
 
-none-requires : tie.Need-none-requires Inv-loop μ-loop
-none-requires c κs = search needs
-
-same-length : tie.Need-same-length Inv-loop μ-loop
-same-length c = search needs
-
-same-length-2 : tie.Need-same-length-2 Inv-loop μ-loop
-same-length-2 c = search needs
-
 returns : tie.Need-returns Inv-loop μ-loop
 returns c =
     let l = c .before .before .loop in
@@ -124,18 +97,18 @@ put-body-spec =
     (tie.spec
     Inv-loop
     μ-loop
-    rows-requires
+    (λ c κs. search needs)
     loop-holds
-    sub-pack-plane-row
-    part-pack-plane-row-start
-    part-pack-plane-row-end
+    (λ c. search needs)
+    (λ c. search needs)
+    (λ c. search needs)
     pack-plane-row-requires
     add-end
     add-records
-    add-n
-    loop-less
+    (λ c. search needs)
+    (λ c. search needs)
     loop-again
-    none-requires
-    same-length
-    same-length-2
+    (λ c κs. search needs)
+    (λ c. search needs)
+    (λ c. search needs)
     returns)

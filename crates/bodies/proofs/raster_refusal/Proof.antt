@@ -13,27 +13,12 @@ width-here : (e : tie.Else1) → widthOutOfRange (rowBytes (e .before .before .b
 width-here e =
     rw (e .before .before .row-bytes .ensures .0) at (sym (e .before .width-out-of-range .ensures) ∙ e .if1 .left)
 
-row-bytes-requires : tie.Need-row-bytes-requires
-row-bytes-requires c κs = search needs
-
-width-out-of-range-requires : tie.Need-width-out-of-range-requires
-width-out-of-range-requires c κs = search needs
-
-refuse-requires : tie.Need-refuse-requires
-refuse-requires c κs = search needs
-
 returns : tie.Need-returns
 returns c =
     let t = c .before in
     let a = t .before .before .before .args in
     let out = sym (t .before .width-out-of-range .ensures) ∙ t .if1 .taken in
     c .refuse .ensures ∙ sym (refusal-out (a .r) (a .room) (rw (t .before .before .row-bytes .ensures .0) at out))
-
-bytes-requires : tie.Need-bytes-requires
-bytes-requires c κs = search needs
-
-refuse-requires-2 : tie.Need-refuse-requires-2
-refuse-requires-2 c κs = search needs
 
 returns-2 : tie.Need-returns-2
 returns-2 c =
@@ -42,9 +27,6 @@ returns-2 c =
     let a = e .before .before .before .args in
     let short = rw (t .before .bytes .ensures .0) at (t .if2 .taken) in
     c .refuse2 .ensures ∙ sym (refusal-short (a .r) (a .room) (width-here e) short)
-
-none-requires : tie.Need-none-requires
-none-requires c κs = search needs
 
 returns-3 : tie.Need-returns-3
 returns-3 c =
@@ -58,12 +40,12 @@ pub raster-refusal-spec : {M : Type 1} → statement M
 raster-refusal-spec =
     tie.close
     (tie.spec
-    row-bytes-requires
-    width-out-of-range-requires
-    refuse-requires
+    (λ c κs. search needs)
+    (λ c κs. search needs)
+    (λ c κs. search needs)
     returns
-    bytes-requires
-    refuse-requires-2
+    (λ c κs. search needs)
+    (λ c κs. search needs)
     returns-2
-    none-requires
+    (λ c κs. search needs)
     returns-3)

@@ -16,28 +16,13 @@ chosen-here : (f : tie.After-from-number)
     → chosen (resolutionNumber (now (f .before .before .before .before .args .file))) ≡ f .from-number .result
 chosen-here f = ap (λ (w : ℕ). chosen (w % 4)) (sym (f .before .word-at .ensures)) ∙ sym (f .from-number .ensures)
 
-refuse-requires : tie.Need-refuse-requires
-refuse-requires c κs = search needs
-
 returns : tie.Need-returns
 returns c =
     let file = now (c .before .before .before .args .file) in
     ap Refused (c .refuse .ensures) ∙ sym (ap openedAs (opening-short file (c .before .if1 .taken)))
 
-word-at-requires : tie.Need-word-at-requires
-word-at-requires c κs = search needs
-
-from-number-requires : tie.Need-from-number-requires
-from-number-requires c κs = search needs
-
-enum-known-resolution : tie.Need-enum-known-resolution
-enum-known-resolution c = search needs
-
 enum-told : tie.Need-enum-told
 enum-told c = search needs
-
-refuse-requires-2 : tie.Need-refuse-requires-2
-refuse-requires-2 c κs = search needs
 
 returns-2 : tie.Need-returns-2
 returns-2 c =
@@ -57,12 +42,12 @@ pub open-file-spec : {M : Type 1} → statement M
 open-file-spec =
     tie.close
     (tie.spec
-    refuse-requires
+    (λ c κs. search needs)
     returns
-    word-at-requires
-    from-number-requires
-    enum-known-resolution
+    (λ c κs. search needs)
+    (λ c κs. search needs)
+    (λ c. search needs)
     enum-told
-    refuse-requires-2
+    (λ c κs. search needs)
     returns-2
     returns-3)

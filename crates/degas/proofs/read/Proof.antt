@@ -12,35 +12,11 @@ use borrow.Author.Needs.{needs}
 use Rattle.degas.proofs.read.Statement.{statement}
 use Rattle.degas.proofs.read.Tie as tie
 
-refuse-requires : tie.Need-refuse-requires
-refuse-requires c κs = search needs
-
-read-refused-requires : tie.Need-read-refused-requires
-read-refused-requires c κs = search needs
-
 returns : tie.Need-returns
 returns c =
     let a = c .before .before .before .before .before .args in
     rw (read-short (now (a .file)) (length (now (a .area))) (c .before .before .if1 .taken))
     (c .read-refused .ensures ∙ ap (λ (w : Refusal). readAnswer (refused w)) (c .before .refuse .ensures), refl)
-
-open-file-requires : tie.Need-open-file-requires
-open-file-requires c κs = search needs
-
-enum-known-h : tie.Need-enum-known-h
-enum-known-h c = search needs
-
-read-opened-requires : tie.Need-read-opened-requires
-read-opened-requires c κs = search needs
-
-enum-known-why : tie.Need-enum-known-why
-enum-known-why c = search needs
-
-read-refused-requires-2 : tie.Need-read-refused-requires-2
-read-refused-requires-2 c κs = search needs
-
-same-length : tie.Need-same-length
-same-length c = search needs
 
 returns-2 : tie.Need-returns-2
 returns-2 c =
@@ -64,14 +40,14 @@ pub read-spec : {M : Type 1} → statement M
 read-spec =
     tie.close
     (tie.spec
-    refuse-requires
-    read-refused-requires
+    (λ c κs. search needs)
+    (λ c κs. search needs)
     returns
-    open-file-requires
-    enum-known-h
-    read-opened-requires
-    enum-known-why
-    read-refused-requires-2
-    same-length
+    (λ c κs. search needs)
+    (λ c. search needs)
+    (λ c κs. search needs)
+    (λ c. search needs)
+    (λ c κs. search needs)
+    (λ c. search needs)
     returns-2
     returns-3)

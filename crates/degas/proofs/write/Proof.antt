@@ -16,23 +16,8 @@ passed j =
     let is = sym (j .r .given .1) ∙ j .before .before .judge-writing .ensures in
     at-passed (length (now (a .screen))) (length (now (a .out))) (a .picture .resolution) _ is
 
-judge-writing-requires : tie.Need-judge-writing-requires
-judge-writing-requires c κs = search needs
-
-enum-known-r : tie.Need-enum-known-r
-enum-known-r c = search needs
-
 write-form-requires : tie.Need-write-form-requires
 write-form-requires c κs = let p = passed (c .before .before) in (p .known, (p .screen-fits, p .output-fits))
-
-enum-known-why : tie.Need-enum-known-why
-enum-known-why c = search needs
-
-write-refused-requires : tie.Need-write-refused-requires
-write-refused-requires c κs = search needs
-
-same-length : tie.Need-same-length
-same-length c = search needs
 
 returns : tie.Need-returns
 returns c =
@@ -54,11 +39,11 @@ pub write-spec : {M : Type 1} → statement M
 write-spec =
     tie.close
     (tie.spec
-    judge-writing-requires
-    enum-known-r
+    (λ c κs. search needs)
+    (λ c. search needs)
     write-form-requires
-    enum-known-why
-    write-refused-requires
-    same-length
+    (λ c. search needs)
+    (λ c κs. search needs)
+    (λ c. search needs)
     returns
     returns-2)

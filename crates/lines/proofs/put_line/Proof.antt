@@ -1,119 +1,130 @@
--- `lines::put_line` meets its contract: the loop has written the first i bytes of the line.
-use mathlib.Core.Path.{_≡_, refl, sym, _∙_}
+-- `lines::put_line` meets its contract: at each resolution the bytes are the scan line's.
+use mathlib.Core.Path.{_≡_, sym, ap, _∙_}
+use mathlib.Core.Bool.{Bool, true}
+use mathlib.Core.List.{List}
+use Prim.Native.Nat.{ℕ, _+_, _*_, _≤_, _<_}
 use native.Mathlib.Omega.{arith}
-use Prim.Native.Nat.{ℕ, _≤_, _+_, _-_, _*_}
 use denote.Ref.{now}
-use borrow.Author.Needs.{needs}
-use lib.ListN.{length, take, length-set, take-append-drop}
+use lib.Dec.{ltb}
+use lib.ListN.{getD}
+use borrow.Author.Tests.{ltb-true}
 use Rattle.lists.specs.Over.{overAt}
 use Rattle.lists.specs.Tabulate.{tabulate}
-use Rattle.lists.proofs.Over.{overAt-turn, overAt-done}
-use Rattle.lists.proofs.Tabulate.{length-tabulate, getD-tabulate}
-use Rattle.resolution.specs.Shapes.{screenBytes, widthOf, lineBytesOf}
+use Rattle.lists.proofs.All.{allFirst-each}
+use Rattle.lists.proofs.Tabulate.{tabulate-ext}
+use Rattle.resolution.specs.declared.Resolution.{Resolution}
+use Rattle.resolution.specs.declared.Resolution.the-variants.{Low, Medium, High}
+use Rattle.resolution.specs.Shapes.{screenBytes, widthOf, heightOf, lineBytesOf, registersOf}
+use Rattle.resolution.proofs.Shapes.{height-le}
+use Rattle.lines.specs.Lines.{registersFit}
 use Rattle.lines.specs.Registers.{lineByte, scanLineBytes, withLine}
+use Rattle.lines.proofs.Packed.{groupsByte-line, planeByte-high}
 use Rattle.lines.proofs.Places.{line-within}
-use Rattle.resolution.proofs.Shapes.{lineBytes-le}
+use borrow.Author.Needs.{needs}
 use Rattle.lines.proofs.put_line.Statement.{statement}
 use Rattle.lines.proofs.put_line.Tie as tie
 
-abbrev Inv-loop : tie.InvT-loop
-Inv-loop screen₀ r line registers size start i₀ screen i =
-    (screenBytes ≤ length screen₀) × (size ≡ lineBytesOf r) × (start ≡ line * lineBytesOf r)
-    × (start + size ≤ screenBytes) × (widthOf r ≤ length registers) × (size ≤ 160)
-    × (i ≤ size) × (length screen ≡ length screen₀)
-    × (screen ≡ overAt (line * lineBytesOf r) (take i (scanLineBytes r registers)) screen₀)
+-- the resolution that was matched is the line's
+module _ (r q : Resolution) (e : r ≡ q) where
+  in-screen : (y : ℕ) → y < heightOf r → y * lineBytesOf q + lineBytesOf q ≤ screenBytes
+  in-screen y h = line-within q y (omega (arith, ap heightOf e))
 
-abbrev μ-loop : tie.MeasureT-loop
-μ-loop screen₀ r line registers size start i₀ screen i = size - i
+  below : (line : List ℕ) → registersFit r line ≡ true → (x : ℕ) → x < widthOf q → getD line x 0 < registersOf q
+  below line fit x h =
+      let test : ℕ → Bool = λ v. ltb v (registersOf r) in
+      let passed = allFirst-each test line (widthOf r) fit x (omega (arith, ap widthOf e)) in
+      omega (arith, ltb-true (getD line x 0) (registersOf r) passed, ap registersOf e)
 
-line-bytes-requires : tie.Need-line-bytes-requires Inv-loop μ-loop
-line-bytes-requires c κs = search needs
+  made : (y : ℕ) (line s : List ℕ) {f : ℕ → ℕ} → ((i : ℕ) → f i ≡ lineByte q line i)
+      → overAt (y * lineBytesOf q) (tabulate (lineBytesOf q) f) s ≡ withLine s r y line
+  unfolding withLine scanLineBytes
+  made y line s {f} is =
+      ap (λ (t : List ℕ). overAt (y * lineBytesOf q) t s)
+      (tabulate-ext (lineBytesOf q) f (lineByte q line) (λ i h. is i))
+      ∙ ap (λ (p : Resolution). withLine s p y line) (sym e)
 
-mul-start : tie.Need-mul-start Inv-loop μ-loop
-mul-start c =
-    let a = c .before .before .before .args in
-    rw (c .line-bytes .ensures) (omega (arith, line-within (a .r) (a .line) (search needs)))
+enum-told : tie.Need-enum-told
+enum-told c = search needs
 
-loop-holds : tie.Need-loop-holds Inv-loop μ-loop
-loop-holds c =
-    let a = c .before .before .before .args in
-    let e = c .line-bytes .ensures in (
-      search needs,
-      e,
-      rw e,
-      rw e (line-within (a .r) (a .line) (search needs)),
-      search needs,
-      omega (arith, lineBytes-le (a .r)),
-      search needs,
-      refl,
-      sym (take-append-drop (a .line * lineBytesOf (a .r)) (now (a .screen))),
+mul-put-groups : tie.Need-mul-put-groups
+mul-put-groups c = omega (arith, height-le (c .before .before .before .before .before .args .r))
+
+put-groups-requires : tie.Need-put-groups-requires
+put-groups-requires c κs =
+    let o = c .before .before .before .before .before in
+    let a = o .args in
+    let e : a .r ≡ Low = c .before .enum-told .given .1 in
+    let line = now (a .registers) in
+    let within = in-screen (a .r) Low e (a .line) (o .pre .0 .1) in
+    let fit = below (a .r) Low e line (o .pre .1) in
+    ((omega arith, omega arith, omega arith, within, omega arith), (omega (arith, ap widthOf e), fit))
+
+mul-put-groups-2 : tie.Need-mul-put-groups-2
+mul-put-groups-2 c = omega (arith, height-le (c .before .before .before .before .before .args .r))
+
+put-groups-requires-2 : tie.Need-put-groups-requires-2
+put-groups-requires-2 c κs =
+    let o = c .before .before .before .before .before in
+    let a = o .args in
+    let e : a .r ≡ Medium = c .before .enum-told2 .given .1 in
+    let line = now (a .registers) in
+    let within = in-screen (a .r) Medium e (a .line) (o .pre .0 .1) in
+    let fit = below (a .r) Medium e line (o .pre .1) in (
+      (omega arith, omega arith, omega arith, within, omega arith),
+      (omega (arith, ap widthOf e), λ x h. omega (arith, fit x h)),
     )
 
-line-byte-requires : tie.Need-line-byte-requires Inv-loop μ-loop
-line-byte-requires c κs = omega arith
+mul-put-columns : tie.Need-mul-put-columns
+mul-put-columns c = omega (arith, height-le (c .before .before .before .before .before .args .r))
 
-add-screen : tie.Need-add-screen Inv-loop μ-loop
-add-screen c = omega arith
+put-columns-requires : tie.Need-put-columns-requires
+put-columns-requires c κs =
+    let o = c .before .before .before .before .before in
+    let a = o .args in
+    let e : a .r ≡ High = c .before .enum-told3 .given .1 in
+    let line = now (a .registers) in
+    let within = in-screen (a .r) High e (a .line) (o .pre .0 .1) in
+    let fit = below (a .r) High e line (o .pre .1) in
+    (within, omega arith, omega (arith, ap widthOf e), fit)
 
-slice-write-screen : tie.Need-slice-write-screen Inv-loop μ-loop
-slice-write-screen c = omega arith
-
-add-i : tie.Need-add-i Inv-loop μ-loop
-add-i c = omega arith
-
-loop-less : tie.Need-loop-less Inv-loop μ-loop
-loop-less c = omega arith
-
-loop-again : tie.Need-loop-again Inv-loop μ-loop
-unfolding scanLineBytes
-loop-again c =
-    let l = c .before .before .loop in
-    let a = c .before .before .before .before .before .before .args in
-    let at = a .line * lineBytesOf (a .r) in
-    let n = lineBytesOf (a .r) in
-    let v = l .inv in
-    let f : ℕ → ℕ = lineByte (a .r) (now (a .registers)) in (
-      search needs,
-      search needs,
-      search needs,
-      search needs,
-      search needs,
-      search needs,
-      omega arith,
-      simp length-set (omega arith),
-      rw (v .2)
-          (overAt-turn at (tabulate n f) (now (a .screen)) (l .screen) (l .i) (c .line-byte .result) 0
-          (omega (arith, length-tabulate n f)) (omega arith) (v .8)
-          (c .line-byte .ensures ∙ sym (getD-tabulate n f (l .i) 0 (omega arith)))),
-    )
-
-same-length : tie.Need-same-length Inv-loop μ-loop
-same-length c = omega arith
-
-returns : tie.Need-returns Inv-loop μ-loop
-unfolding withLine scanLineBytes
+returns : tie.Need-returns
 returns c =
-    let l = c .before .loop in
-    let a = c .before .before .before .before .before .args in
-    let n = lineBytesOf (a .r) in
-    let f : ℕ → ℕ = lineByte (a .r) (now (a .registers)) in
-    overAt-done (a .line * n) (tabulate n f) (now (a .screen)) (l .screen) (l .i)
-    (omega (arith, length-tabulate n f)) (l .inv .8)
+    let a = c .before .before .before .before .before .before .before .before .args in
+    let e : a .r ≡ Low = c .before .before .before .before .enum-told .given .1 in
+    c .before .before .put-groups .ensures
+    ∙ made (a .r) Low e (a .line) (now (a .registers)) (now (a .screen)) (groupsByte-line Low (now (a .registers)))
+
+returns-2 : tie.Need-returns-2
+returns-2 c =
+    let a = c .before .before .before .before .before .before .before .before .args in
+    let e : a .r ≡ Medium = c .before .before .before .before .enum-told2 .given .1 in
+    c .before .before .put-groups2 .ensures
+    ∙ made (a .r) Medium e (a .line) (now (a .registers)) (now (a .screen))
+    (groupsByte-line Medium (now (a .registers)))
+
+returns-3 : tie.Need-returns-3
+returns-3 c =
+    let a = c .before .before .before .before .before .before .before .before .args in
+    let e : a .r ≡ High = c .before .before .before .before .enum-told3 .given .1 in
+    c .before .before .put-columns .ensures
+    ∙ made (a .r) High e (a .line) (now (a .registers)) (now (a .screen)) (planeByte-high (now (a .registers)))
 
 pub put-line-spec : {M : Type 1} → statement M
 put-line-spec =
     tie.close
     (tie.spec
-    Inv-loop
-    μ-loop
-    line-bytes-requires
-    mul-start
-    loop-holds
-    line-byte-requires
-    add-screen
-    slice-write-screen
-    add-i
-    loop-less
-    loop-again
-    same-length
-    returns)
+    enum-told
+    mul-put-groups
+    put-groups-requires
+    (λ c. search needs)
+    mul-put-groups-2
+    put-groups-requires-2
+    (λ c. search needs)
+    mul-put-columns
+    put-columns-requires
+    (λ c. search needs)
+    returns
+    (λ c. search needs)
+    returns-2
+    (λ c. search needs)
+    returns-3)

@@ -1,101 +1,99 @@
--- `pack::emit` meets its contract. The loop keeps `Emitted`; a turn is `turn-emits`.
-use borrow.Author.Needs.{needs}
-use Prim.Native.Nat.{_+_, _≤_, _-_}
+-- `pack::emit` meets its contract. The loop keeps `Emitted`; a turn is one stretch.
+use Prim.Native.Nat.{_+_, _-_, _≤_, _<_}
 use native.Mathlib.Omega.{arith}
 use lib.ListN.{length}
+use borrow.Author.Needs.{needs}
 use borrow.Rule.Slice.PartMut.{putMid}
-use Rattle.pack.proofs.Emission.{Emitted, emit-start, emit-end, turn-leads, turn-room, turn-emits}
+use Rattle.pack.specs.Emitted.{Emitted}
+use Rattle.pack.specs.ShortRuns.{Known}
+use Rattle.pack.proofs.Emission.{emitted-none, emitted-then, emitted-kept, emitted-room, left-fits, emitted-all}
+use Rattle.pack.proofs.Known.{known-answer, stretch-some}
 use Rattle.pack.proofs.emit.Statement.{statement}
 use Rattle.pack.proofs.emit.Tie as tie
 
 abbrev Inv-loop : tie.InvT-loop
-Inv-loop row controls out₀ i₀ o₀ n₀ out i o n = Emitted row out₀ out i o n
+Inv-loop row out₀ i₀ o₀ n₀ out i o n = Emitted row 0 i out₀ out o n
 
 abbrev μ-loop : tie.MeasureT-loop
-μ-loop row controls out₀ i₀ o₀ n₀ out i o n = length row - i
+μ-loop row out₀ i₀ o₀ n₀ out i o n = length row - i
 
 loop-holds : tie.Need-loop-holds Inv-loop μ-loop
-loop-holds c = emit-start _ _
+loop-holds c = emitted-none _ 0 _ (omega arith)
 
-element-copy-out-put-record : tie.Need-element-copy-out-put-record Inv-loop μ-loop
-element-copy-out-put-record c = search needs
+-- the bytes written are within the output
+room : (c : tie.After-short-runs Inv-loop μ-loop)
+    → c .before .before .loop .o ≤ length (c .before .before .loop .out)
+room c = emitted-room (c .before .before .loop .inv) (c .before .before .before .before .before .pre .1)
 
-sub-put-record : tie.Need-sub-put-record Inv-loop μ-loop
-sub-put-record c = search needs
+sub-put-stretch : tie.Need-sub-put-stretch Inv-loop μ-loop
+sub-put-stretch c = room c
 
-part-put-record-start : tie.Need-part-put-record-start Inv-loop μ-loop
-part-put-record-start c = search needs
+part-put-stretch-start : tie.Need-part-put-stretch-start Inv-loop μ-loop
+part-put-stretch-start c = room c
 
-part-put-record-end : tie.Need-part-put-record-end Inv-loop μ-loop
-part-put-record-end c = search needs
+-- what is known of the row at the place of the turn
+known-here : (c : tie.After-short-runs Inv-loop μ-loop)
+    → let row = c .before .before .before .before .before .args .row .now in
+    Known row (c .before .before .loop .i) (c .short-runs .result)
+known-here c =
+    let s = c .before .before .before .before .before in
+    known-answer (s .args .row .now) (c .before .before .loop .i) (c .short-runs .result) (c .short-runs .ensures)
 
-sub-put-record-2 : tie.Need-sub-put-record-2 Inv-loop μ-loop
-sub-put-record-2 c = search needs
+put-stretch-requires : tie.Need-put-stretch-requires Inv-loop μ-loop
+put-stretch-requires c κs =
+    let s = c .before .before .before .before .before .before in
+    let known = known-here (c .before) in
+    ((s .pre .0, omega (arith, known .short), known), left-fits (c .before .before .before .loop .inv) (s .pre .1))
 
-part-put-record-start-2 : tie.Need-part-put-record-start-2 Inv-loop μ-loop
-part-put-record-start-2 c = search needs
-
-part-put-record-end-2 : tie.Need-part-put-record-end-2 Inv-loop μ-loop
-part-put-record-end-2 c = search needs
-
-put-record-requires : tie.Need-put-record-requires Inv-loop μ-loop
-put-record-requires c κs =
-    let t = c .before .before .before in
-    let at = t .before .loop in
-    let s = t .before .before .before .before in
-    let known = s .pre .1 .0 (at .i) (omega arith) (t .loop-test .taken) in
-    turn-room (at .inv) (t .loop-test .taken) (s .pre .0) (s .pre .1 .1) _ known
-
--- what holds after a turn's record, which takes a byte at least
-turned : (d : tie.After-put-record Inv-loop μ-loop)
-    → let at = d .before .before .before .before .before .loop in
-    let a = d .before .before .before .before .before .before .before .before .args in
-    let p = d .put-record in
-    (1 ≤ p .result .taken)
-    × Emitted (a .row .now) (a .out .now) (putMid (at .o) (length (at .out) - at .o) (at .out) (p .last .1 .1 .0))
-    (at .i + p .result .taken) (at .o + p .result .made) (at .n + 1)
+-- what holds after a turn's records, which stand for a byte at least
+turned : (d : tie.After-put-stretch Inv-loop μ-loop)
+    → let s = d .before .before .short-runs .result in
+    let l = d .before .before .before .before .loop in
+    let a = d .before .before .before .before .before .before .before .args in
+    let p = d .put-stretch in
+    (l .i < s .end + s .count)
+    × Emitted (a .row .now) 0 (s .end + s .count) (a .out .now)
+    (putMid (l .o) (length (l .out) - l .o) (l .out) (p .last .1 .1 .1 .0)) (l .o + p .result .bytes)
+    (l .n + p .result .records)
 turned d =
-    let t = d .before .before .before .before in
-    let at = t .before .loop in
-    let s = t .before .before .before .before in
-    let p = d .put-record in
-    let known = s .pre .1 .0 (at .i) (omega arith) (t .loop-test .taken) in
-    let lead = turn-leads (at .inv) (t .loop-test .taken) (s .pre .0) (s .pre .1 .1) _ known in (
-      omega (arith, lead .some, p .ensures .0 .0),
-      turn-emits (at .inv) (t .loop-test .taken) (s .pre .0) (s .pre .1 .1) _ known (p .ensures .0) (p .ensures .1),
+    let t = d .before .before in
+    let l = t .before .before .loop in
+    let a = t .before .before .before .before .before .args in (
+      stretch-some (a .row .now) (l .i) (t .short-runs .result) (known-here t) (t .before .loop-test .taken),
+      emitted-then (l .inv) (d .put-stretch .ensures),
     )
 
 add-i : tie.Need-add-i Inv-loop μ-loop
 add-i c =
     let d = c .before .before .before in
-    let s = d .before .before .before .before .before .before .before .before in
-    omega (arith, turned d .1 .within, s .good .0 .0)
+    let s = d .before .before .before .before .before .before .before in
+    omega (arith, turned d .1 .within, s .pre .0)
 
 add-o : tie.Need-add-o Inv-loop μ-loop
 add-o c =
     let d = c .before .before .before .before in
-    let s = d .before .before .before .before .before .before .before .before in
-    let w = turned d .1 .writing in
-    omega (arith, w .room, w .kept, s .good)
+    let s = d .before .before .before .before .before .before .before in
+    let e = turned d .1 in
+    omega (arith, emitted-room e (s .pre .1), emitted-kept e (s .pre .1), s .good)
 
 add-n : tie.Need-add-n Inv-loop μ-loop
 add-n c =
-    let d = c .before .before .before .before in
-    let s = d .before .before .before .before .before .before .before .before in
+    let d = c .before .before .before .before .before in
+    let s = d .before .before .before .before .before .before .before in
     let e = turned d .1 in
-    omega (arith, e .few, e .within, s .good .0 .0)
+    omega (arith, e .few, e .within, s .pre .0)
 
 loop-less : tie.Need-loop-less Inv-loop μ-loop
-loop-less c = let e = turned (c .before .before .before .before) in omega (arith, e .0, e .1 .within)
+loop-less c = let e = turned (c .before .before .before .before .before) in omega (arith, e .0, e .1 .within)
 
 loop-again : tie.Need-loop-again Inv-loop μ-loop
-loop-again c = turned (c .before .before .before .before) .1
+loop-again c = turned (c .before .before .before .before .before) .1
 
 same-length : tie.Need-same-length Inv-loop μ-loop
-same-length c = search needs
+same-length c = emitted-kept (c .before .loop .inv) (c .before .before .before .before .pre .1)
 
 returns : tie.Need-returns Inv-loop μ-loop
-returns c = emit-end (c .before .loop .inv) (c .loop-test .left)
+returns c = emitted-all (c .before .loop .inv) (c .loop-test .left)
 
 pub emit-spec : {M : Type 1} → statement M
 emit-spec =
@@ -104,14 +102,11 @@ emit-spec =
     Inv-loop
     μ-loop
     loop-holds
-    element-copy-out-put-record
-    sub-put-record
-    part-put-record-start
-    part-put-record-end
-    sub-put-record-2
-    part-put-record-start-2
-    part-put-record-end-2
-    put-record-requires
+    (λ c κs. search needs)
+    sub-put-stretch
+    part-put-stretch-start
+    (λ c. search needs)
+    put-stretch-requires
     add-i
     add-o
     add-n

@@ -9,13 +9,9 @@ use Rattle.pack.proofs.least_len.Tie as tie
 returns : tie.Need-returns
 returns c = simp (lt-leb (length (c .before .before .args .row .now)) 128 (omega arith))
 
-plan-of-requires : tie.Need-plan-of-requires
-plan-of-requires c κs = search needs
-
 returns-2 : tie.Need-returns-2
 returns-2 c =
-    let a = c .before .before .before .before .args in
-    simp (le-leb (length (a .row .now)) 128 (omega arith)) (c .plan-of .ensures .0)
+    simp (le-leb (length (c .before .before .before .args .row .now)) 128 (omega arith)) (c .body-len .ensures)
 
 pub least-len-spec : {M : Type 1} → statement M
-least-len-spec = tie.close (tie.spec returns plan-of-requires returns-2)
+least-len-spec = tie.close (tie.spec returns (λ c κs. search needs) returns-2)

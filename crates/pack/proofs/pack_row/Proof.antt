@@ -14,15 +14,6 @@ use Rattle.pack.proofs.pack_row.Tie as tie
 range-here : (e : tie.Else1) → widthOutOfRange (length (e .before .before .before .before .args .row .now)) ≡ false
 range-here e = sym (e .before .width-out-of-range .ensures) ∙ e .if1 .left
 
-width-out-of-range-requires : tie.Need-width-out-of-range-requires
-width-out-of-range-requires c κs = search needs
-
-refuse-requires : tie.Need-refuse-requires
-refuse-requires c κs = search needs
-
-row-refused-requires : tie.Need-row-refused-requires
-row-refused-requires c κs = search needs
-
 returns : tie.Need-returns
 returns c =
     let t = c .before .before in
@@ -31,12 +22,6 @@ returns c =
     rw (pack-wide maxBody (a .row .now) (length (a .out .now)) w, ← c .before .refuse .ensures)
     (c .row-refused .ensures, refl)
 
-refuse-requires-2 : tie.Need-refuse-requires-2
-refuse-requires-2 c κs = search needs
-
-row-refused-requires-2 : tie.Need-row-refused-requires-2
-row-refused-requires-2 c κs = search needs
-
 returns-2 : tie.Need-returns-2
 returns-2 c =
     let e = c .before .before .before in
@@ -44,12 +29,6 @@ returns-2 c =
     let w = range-here e in
     rw (pack-short maxBody (a .row .now) (length (a .out .now)) w (omega arith), ← c .before .refuse2 .ensures)
     (c .row-refused2 .ensures, refl)
-
-pack-into-requires : tie.Need-pack-into-requires
-pack-into-requires c κs = search needs
-
-same-length : tie.Need-same-length
-same-length c = search needs
 
 returns-3 : tie.Need-returns-3
 returns-3 c =
@@ -62,13 +41,13 @@ pub pack-row-spec : {M : Type 1} → statement M
 pack-row-spec =
     tie.close
     (tie.spec
-    width-out-of-range-requires
-    refuse-requires
-    row-refused-requires
+    (λ c κs. search needs)
+    (λ c κs. search needs)
+    (λ c κs. search needs)
     returns
-    refuse-requires-2
-    row-refused-requires-2
+    (λ c κs. search needs)
+    (λ c κs. search needs)
     returns-2
-    pack-into-requires
-    same-length
+    (λ c κs. search needs)
+    (λ c. search needs)
     returns-3)

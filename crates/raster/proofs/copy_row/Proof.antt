@@ -18,18 +18,6 @@ Inv-loop area n row₀ groups stride at₀ g₀ row at g =
 abbrev μ-loop : tie.MeasureT-loop
 μ-loop area n row₀ groups stride at₀ g₀ row at g = groups - g
 
-cast-groups : tie.Need-cast-groups Inv-loop μ-loop
-cast-groups c = search needs
-
-cast-stride : tie.Need-cast-stride Inv-loop μ-loop
-cast-stride c = search needs
-
-mul-stride : tie.Need-mul-stride Inv-loop μ-loop
-mul-stride c = search needs
-
-row-start-requires : tie.Need-row-start-requires Inv-loop μ-loop
-row-start-requires c κs = search needs
-
 words : (c : tie.After-row-start Inv-loop μ-loop) → let a = c .before .before .before .before .before .args in
     RowWords (a .r) (a .n) (c .row-start .result) (a .r .planes * 2) (a .r .groups)
 words c = record { first = c .row-start .ensures; apart = refl; count = refl }
@@ -83,9 +71,6 @@ loop-again c =
       copy-turn (l .inv .0) (a .area .now) (a .row .now) (l .row) (omega arith) (l .inv .1) (l .inv .3),
     )
 
-same-length : tie.Need-same-length Inv-loop μ-loop
-same-length c = search needs
-
 returns : tie.Need-returns Inv-loop μ-loop
 returns c =
     let l = c .before .loop in
@@ -98,10 +83,10 @@ copy-row-spec =
     (tie.spec
     Inv-loop
     μ-loop
-    cast-groups
-    cast-stride
-    mul-stride
-    row-start-requires
+    (λ c. search needs)
+    (λ c. search needs)
+    (λ c. search needs)
+    (λ c κs. search needs)
     loop-holds
     shared-slice-read-high
     add-low
@@ -115,5 +100,5 @@ copy-row-spec =
     add-g
     loop-less
     loop-again
-    same-length
+    (λ c. search needs)
     returns)

@@ -7,18 +7,12 @@ use Rattle.raster.specs.PlaneRows.{rowFits}
 use Rattle.raster.proofs.row_fits.Statement.{statement}
 use Rattle.raster.proofs.row_fits.Tie as tie
 
-bytes-requires : tie.Need-bytes-requires
-bytes-requires c κs = search needs
-
 returns : tie.Need-returns
 unfolding rowFits
 returns c =
     let a = c .before .before .args in
     let h : a .room < bytes (a .r) = rw (c .before .bytes .ensures .0) at (c .if1 .taken) in
     rw (lt-leb _ _ h)
-
-rows-requires : tie.Need-rows-requires
-rows-requires c κs = search needs
 
 returns-2 : tie.Need-returns-2
 unfolding rowFits
@@ -28,9 +22,6 @@ returns-2 c =
     let h : bytes (a .r) ≤ a .room = rw (b .bytes .ensures .0) at (c .before .before .if1 .left) in
     let k : rows (a .r) ≤ a .n = rw (c .before .rows .ensures .0) at (c .if2 .taken) in
     rw (le-leb _ _ h, le-ltb _ _ k)
-
-row-bytes-requires : tie.Need-row-bytes-requires
-row-bytes-requires c κs = search needs
 
 returns-3 : tie.Need-returns-3
 unfolding rowFits
@@ -45,4 +36,4 @@ returns-3 c =
 pub row-fits-spec : {M : Type 1} → statement M
 row-fits-spec =
     tie.close
-    (tie.spec bytes-requires returns rows-requires returns-2 row-bytes-requires returns-3)
+    (tie.spec (λ c κs. search needs) returns (λ c κs. search needs) returns-2 (λ c κs. search needs) returns-3)

@@ -12,12 +12,6 @@ use Rattle.raster.proofs.row_start.Lts as lts
 use Rattle.raster.proofs.Raster.line_bytes.Reads as line-bytes-reads
 use Rattle.raster.proofs.start_at.Reads as start-at-reads
 
-line-bytes-requires : tie.Need-line-bytes-requires
-line-bytes-requires c κs = search needs
-
-cast-planes : tie.Need-cast-planes
-cast-planes c = search needs
-
 -- before the match
 abbrev Here : Type 0
 Here =
@@ -72,8 +66,8 @@ pub row-start-spec : {M : Type 1} → statement M
 row-start-spec =
     tie.close
     (tie.spec
-    line-bytes-requires
-    cast-planes
+    (λ c κs. search needs)
+    (λ c. search needs)
     start-at-requires
     start-at-requires-2
     start-at-requires-3

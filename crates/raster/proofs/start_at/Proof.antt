@@ -8,9 +8,6 @@ use Rattle.raster.proofs.start_at.Tie as tie
 use Rattle.raster.proofs.start_at.Reads as reads
 use Rattle.raster.proofs.start_at.Lts as lts
 
-div-result : tie.Need-div-result
-div-result c = search needs
-
 line : (c : lts.Start reads.Pre reads.Post) → c .args .n / c .args .planes * c .args .line ≤ 8522826750
 line c = omega (arith, mul-le-mul (c .pre .2) (c .pre .3))
 
@@ -20,18 +17,12 @@ word c = omega (arith, mod-lt (c .args .n) (c .pre .0))
 mul-result : tie.Need-mul-result
 mul-result c = omega (arith, line c)
 
-rem-result : tie.Need-rem-result
-rem-result c = search needs
-
 mul-result-2 : tie.Need-mul-result-2
 mul-result-2 c = omega (arith, word c)
 
 add-result : tie.Need-add-result
 add-result c = omega (arith, line c, word c)
 
-returns : tie.Need-returns
-returns c = search needs
-
 pub start-at-spec : {M : Type 1} → statement M
 start-at-spec =
-    tie.close (tie.spec div-result mul-result rem-result mul-result-2 add-result returns)
+    tie.close (tie.spec (λ c. search needs) mul-result (λ c. search needs) mul-result-2 add-result (λ c. search needs))

@@ -6,17 +6,11 @@ use Rattle.raster.proofs.Fits.{fits-row}
 use Rattle.raster.proofs.take_row.Statement.{statement}
 use Rattle.raster.proofs.take_row.Tie as tie
 
-row-fits-requires : tie.Need-row-fits-requires
-row-fits-requires c κs = search needs
-
 copy-row-requires : tie.Need-copy-row-requires
 copy-row-requires c κs =
     let a = c .before .before .before .before .before .args in
     fits-row (length (a .area .now)) (a .r) (a .n) (length (a .row .now))
     (sym (c .before .before .row-fits .ensures) ∙ c .before .if1 .taken)
-
-same-length : tie.Need-same-length
-same-length c = search needs
 
 returns : tie.Need-returns
 returns c =
@@ -28,4 +22,4 @@ returns-2 c = rw (← c .before .row-fits .ensures, c .if1 .left)
 
 pub take-row-spec : {M : Type 1} → statement M
 take-row-spec =
-    tie.close (tie.spec row-fits-requires copy-row-requires same-length returns returns-2)
+    tie.close (tie.spec (λ c κs. search needs) copy-row-requires (λ c. search needs) returns returns-2)

@@ -8,21 +8,6 @@ use borrow.Author.Needs.{needs}
 use Rattle.tiny.proofs.data_count.Statement.{statement}
 use Rattle.tiny.proofs.data_count.Tie as tie
 
-palette-start-requires : tie.Need-palette-start-requires
-palette-start-requires c κs = search needs
-
-cast-at : tie.Need-cast-at
-cast-at c = search needs
-
-add-at : tie.Need-add-at
-add-at c = search needs
-
-word-at-requires : tie.Need-word-at-requires
-word-at-requires c κs = search needs
-
-cast-t4 : tie.Need-cast-t4
-cast-t4 c = search needs
-
 returns : tie.Need-returns
 returns c =
     let file = now (c .before .before .before .args .file) in
@@ -33,4 +18,5 @@ returns c =
 
 pub data-count-spec : {M : Type 1} → statement M
 data-count-spec =
-    tie.close (tie.spec palette-start-requires cast-at add-at word-at-requires cast-t4 returns)
+    tie.close (tie.spec (λ c κs. search needs) (λ c. search needs) (λ c. search needs) (λ c κs. search needs)
+    (λ c. search needs) returns)

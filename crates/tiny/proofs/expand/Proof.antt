@@ -1,23 +1,24 @@
 -- `tiny::expand` meets its contract. The invariant is `Expanding`, and the measure what is left of the control bytes.
-use mathlib.Core.Path.{ap, _∙_}
-use Prim.Native.Nat.{_+_, _-_, _≤_, _<_}
+use mathlib.Core.Path.{_≡_, refl, ap, _∙_}
+use Prim.Native.Nat.{_+_, _-_, _*_, _≤_, _<_}
 use native.Mathlib.Omega.{arith}
-use lib.ListN.{length}
+use lib.ListN.{length, length-drop}
+use Rattle.lists.proofs.Parts.{tail-part}
 use Rattle.tiny.specs.declared.ControlBytes.{ControlBytes}
 use denote.Ref.{now}
 use borrow.Author.Needs.{needs}
 use Rattle.tiny.specs.Expansion.{screenWords}
-use Rattle.tiny.proofs.Expanding.{Expanding, expanding-start, expanding-length, expanding-turn, next-fits}
-use Rattle.tiny.proofs.Expanding.{left-fault, left-none, counts-done, stored-done}
+use Rattle.tiny.proofs.Expanding.{Expanding, expanding-start, expanding-turn, next-fits, next-uses}
+use Rattle.tiny.proofs.Expanding.{left-fault, left-none, counts-done, put-done}
 use Rattle.tiny.proofs.expand.Statement.{statement}
 use Rattle.tiny.proofs.expand.Tie as tie
 
 abbrev Inv-loop : tie.InvT-loop
-Inv-loop controls section datas screen₀ used₀ taken₀ runs₀ to₀ screen used taken runs to =
-    Expanding controls section (datas .0) screen₀ screen (used .0) (taken .0) runs to
+Inv-loop controls section datas made₀ used₀ taken₀ runs₀ to₀ made used taken runs to =
+    (length made ≡ length made₀) × Expanding controls section (datas .0) made₀ made (used .0) (taken .0) runs to
 
 abbrev μ-loop : tie.MeasureT-loop
-μ-loop controls section datas screen₀ used₀ taken₀ runs₀ to₀ screen used taken runs to = length controls - used .0
+μ-loop controls section datas made₀ used₀ taken₀ runs₀ to₀ made used taken runs to = length controls - used .0
 
 -- in a turn that goes on the run ends within both sections and the screen
 fits-here : (c : tie.Else2 Inv-loop μ-loop)
@@ -30,41 +31,59 @@ fits-here c =
     let l = c .before .before .before .before .before .loop in
     let a = c .before .before .before .before .before .before .before .before .before .args in
     let run = c .before .before .run-at in
-    next-fits (l .inv) (run .ensures) (c .before .before .before .if1 .taken) (c .if2 .left)
+    next-fits (l .inv .1) (run .ensures) (c .before .before .before .if1 .taken) (c .if2 .left)
+
+-- the words before the run end within the output
+begins-here : (c : tie.Else2 Inv-loop μ-loop)
+    → let l = c .before .before .before .before .before .loop in
+    l .to * 2 ≤ length (l .made)
+begins-here c =
+    let l = c .before .before .before .before .before in
+    let t = l .before .before .before .before in
+    omega (arith, l .loop .inv .0, l .loop .inv .1 .inside, t .pre .0 .2)
 
 loop-holds : tie.Need-loop-holds Inv-loop μ-loop
 loop-holds c =
     let a = c .before .before .before .args in
-    expanding-start (now (a .controls)) (now (a .section)) (a .datas .0) (now (a .screen))
+    (refl, expanding-start (now (a .controls)) (now (a .section)) (a .datas .0) (now (a .made)))
 
 run-at-requires : tie.Need-run-at-requires Inv-loop μ-loop
 run-at-requires c κs =
     let l = c .before .before .loop in
-    (c .if1 .taken, l .inv .given, l .inv .inside)
-
-ended-requires : tie.Need-ended-requires Inv-loop μ-loop
-ended-requires c κs = search needs
-
-same-length : tie.Need-same-length Inv-loop μ-loop
-same-length c =
-    let l = c .before .before .before .before .before .before .loop in
-    expanding-length (l .inv)
+    (c .if1 .taken, l .inv .1 .given, l .inv .1 .inside)
 
 returns : tie.Need-returns Inv-loop μ-loop
 returns c =
     let l = c .before .before .before .before .before .before .loop in
     let run = c .before .before .before .run-at in
     let more = c .before .before .before .before .if1 .taken in
-    let stop = left-fault (l .inv) (run .ensures) more (c .before .if2 .taken) in (
-      c .ended .ensures ∙ counts-done (l .inv) (run .result .fault) stop,
-      stored-done (l .inv) (run .result .fault) stop,
+    let stop = left-fault (l .inv .1) (run .ensures) more (c .before .if2 .taken) in (
+      c .ended .ensures ∙ counts-done (l .inv .1) (run .result .fault) stop,
+      put-done (l .inv .1) (run .result .fault) stop,
     )
+
+mul-put-run : tie.Need-mul-put-run Inv-loop μ-loop
+mul-put-run c = omega (arith, begins-here c)
+
+sub-put-run : tie.Need-sub-put-run Inv-loop μ-loop
+sub-put-run c = begins-here c
+
+part-put-run-start : tie.Need-part-put-run-start Inv-loop μ-loop
+part-put-run-start c = begins-here c
 
 put-run-requires : tie.Need-put-run-requires Inv-loop μ-loop
 put-run-requires c κs =
     let l = c .before .before .before .before .before .before in
+    let t = l .before .before .before .before in
     let f = fits-here (c .before) in
-    (omega (arith, f .2), f .3, expanding-length (l .loop .inv) ∙ l .before .before .before .before .pre .2)
+    let uses = next-uses (l .loop .inv .1) (c .before .before .before .run-at .ensures)
+    (c .before .before .before .before .if1 .taken) (c .before .if2 .left) in
+    let made = l .loop .made in
+    let at = l .loop .to * 2 in
+    let part = ap length (tail-part made at) in (
+      (omega (arith, f .2), omega (arith, part, length-drop at made, f .3, l .loop .inv .0, t .pre .0 .2)),
+      omega (arith, f .2, uses, t .pre .1),
+    )
 
 controls-after-requires : tie.Need-controls-after-requires Inv-loop μ-loop
 controls-after-requires c κs = let f = fits-here (c .before .before .before .before) in omega (arith, f .1)
@@ -78,7 +97,7 @@ add-to c = let f = fits-here (c .before .before .before .before .before .before 
 add-runs : tie.Need-add-runs Inv-loop μ-loop
 add-runs c =
     let l = c .before .before .before .before .before .before .before .before .before .before .before .before in
-    omega (arith, l .loop .inv .few, l .loop .inv .within, l .before .before .before .before .pre .0)
+    omega (arith, l .loop .inv .1 .few, l .loop .inv .1 .within, l .before .before .before .before .pre .0 .0)
 
 loop-less : tie.Need-loop-less Inv-loop μ-loop
 loop-less c =
@@ -90,23 +109,17 @@ loop-again c =
     let t = c .before .before .before .before .before .before .before in
     let l = t .before .before .before .before .before .loop in
     let run = t .before .before .run-at .ensures in
-    rw (c .before .before .controls-after .ensures, c .before .datas-after .ensures)
-    (expanding-turn (l .inv) run (t .before .before .before .if1 .taken) (t .if2 .left) _
-    (c .before .before .before .before .before .put-run .ensures))
-
-ended-requires-2 : tie.Need-ended-requires-2 Inv-loop μ-loop
-ended-requires-2 c κs = search needs
-
-same-length-2 : tie.Need-same-length-2 Inv-loop μ-loop
-same-length-2 c =
-    let l = c .before .before .before .loop in
-    expanding-length (l .inv)
+    rw (c .before .before .controls-after .ensures, c .before .datas-after .ensures) (
+      search needs,
+      expanding-turn (l .inv .1) run (t .before .before .before .if1 .taken) (t .if2 .left) _
+          (c .before .before .before .before .before .put-run .ensures),
+    )
 
 returns-2 : tie.Need-returns-2 Inv-loop μ-loop
 returns-2 c =
     let l = c .before .before .before .loop in
-    let stop = left-none (l .inv) (c .before .if1 .left) in
-    (c .ended2 .ensures ∙ counts-done (l .inv) 0 stop, stored-done (l .inv) 0 stop)
+    let stop = left-none (l .inv .1) (c .before .if1 .left) in
+    (c .ended2 .ensures ∙ counts-done (l .inv .1) 0 stop, put-done (l .inv .1) 0 stop)
 
 pub expand-spec : {M : Type 1} → statement M
 expand-spec =
@@ -116,9 +129,13 @@ expand-spec =
     μ-loop
     loop-holds
     run-at-requires
-    ended-requires
-    same-length
+    (λ c κs. search needs)
+    (λ c. search needs)
     returns
+    mul-put-run
+    sub-put-run
+    part-put-run-start
+    (λ c. search needs)
     put-run-requires
     controls-after-requires
     datas-after-requires
@@ -126,6 +143,6 @@ expand-spec =
     add-runs
     loop-less
     loop-again
-    ended-requires-2
-    same-length-2
+    (λ c κs. search needs)
+    (λ c. search needs)
     returns-2)

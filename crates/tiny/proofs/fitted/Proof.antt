@@ -6,16 +6,10 @@ use borrow.Author.Needs.{needs}
 use Rattle.tiny.proofs.fitted.Statement.{statement}
 use Rattle.tiny.proofs.fitted.Tie as tie
 
-faulty-requires : tie.Need-faulty-requires
-faulty-requires c κs = search needs
-
 returns : tie.Need-returns
 returns c =
     let a = c .before .before .before .args in
     c .faulty .ensures ∙ sym (fitted-room (a .r) (a .left .0) (a .room) (omega arith))
-
-faulty-requires-2 : tie.Need-faulty-requires-2
-faulty-requires-2 c κs = search needs
 
 returns-2 : tie.Need-returns-2
 returns-2 c =
@@ -28,4 +22,4 @@ returns-3 c =
     sym (fitted-same (a .r) (a .left .0) (a .room) (omega arith) (omega arith))
 
 pub fitted-spec : {M : Type 1} → statement M
-fitted-spec = tie.close (tie.spec faulty-requires returns faulty-requires-2 returns-2 returns-3)
+fitted-spec = tie.close (tie.spec (λ c κs. search needs) returns (λ c κs. search needs) returns-2 returns-3)

@@ -8,23 +8,11 @@ use borrow.Author.Needs.{needs}
 use Rattle.tiny.proofs.long_run.Statement.{statement}
 use Rattle.tiny.proofs.long_run.Tie as tie
 
-sub-if1 : tie.Need-sub-if1
-sub-if1 c = search needs
-
-faulty-requires : tie.Need-faulty-requires
-faulty-requires c κs = search needs
-
 returns : tie.Need-returns
 returns c =
     let a = c .before .before .before .args in
     let size = length-drop (a .from) (now (a .controls)) in
     c .faulty .ensures ∙ sym (long-cut (a .repeats) (drop (a .from) (now (a .controls))) (omega (arith, size)))
-
-word-at-requires : tie.Need-word-at-requires
-word-at-requires c κs = search needs
-
-faulty-requires-2 : tie.Need-faulty-requires-2
-faulty-requires-2 c κs = search needs
 
 returns-2 : tie.Need-returns-2
 returns-2 c =
@@ -34,9 +22,6 @@ returns-2 c =
     c .faulty2 .ensures
     ∙ sym (long-low (a .repeats) (drop (a .from) (now (a .controls))) (omega (arith, size)) (omega (arith, e)))
 
-faulty-requires-3 : tie.Need-faulty-requires-3
-faulty-requires-3 c κs = search needs
-
 returns-3 : tie.Need-returns-3
 returns-3 c =
     let a = c .before .before .before .before .before .before .args in
@@ -44,12 +29,6 @@ returns-3 c =
     let e = c .before .before .before .word-at .ensures ∙ sym (wordAt-drop (now (a .controls)) (a .from)) in
     c .faulty3 .ensures
     ∙ sym (long-high (a .repeats) (drop (a .from) (now (a .controls))) (omega (arith, size)) (omega (arith, e)))
-
-cast-defined : tie.Need-cast-defined
-cast-defined c = search needs
-
-defined-requires : tie.Need-defined-requires
-defined-requires c κs = search needs
 
 returns-4 : tie.Need-returns-4
 returns-4 c =
@@ -65,14 +44,14 @@ pub long-run-spec : {M : Type 1} → statement M
 long-run-spec =
     tie.close
     (tie.spec
-    sub-if1
-    faulty-requires
+    (λ c. search needs)
+    (λ c κs. search needs)
     returns
-    word-at-requires
-    faulty-requires-2
+    (λ c κs. search needs)
+    (λ c κs. search needs)
     returns-2
-    faulty-requires-3
+    (λ c κs. search needs)
     returns-3
-    cast-defined
-    defined-requires
+    (λ c. search needs)
+    (λ c κs. search needs)
     returns-4)

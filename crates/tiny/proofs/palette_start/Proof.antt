@@ -7,9 +7,6 @@ use borrow.Author.Needs.{needs}
 use Rattle.tiny.proofs.palette_start.Statement.{statement}
 use Rattle.tiny.proofs.palette_start.Tie as tie
 
-resolution-byte-requires : tie.Need-resolution-byte-requires
-resolution-byte-requires c κs = search needs
-
 returns : tie.Need-returns
 unfolding paletteStart
 returns c =
@@ -23,4 +20,4 @@ returns-2 c =
     rw (le-ltb highestPlain (resolutionByte file) (omega (arith, c .before .resolution-byte .ensures)))
 
 pub palette-start-spec : {M : Type 1} → statement M
-palette-start-spec = tie.close (tie.spec resolution-byte-requires returns returns-2)
+palette-start-spec = tie.close (tie.spec (λ c κs. search needs) returns returns-2)

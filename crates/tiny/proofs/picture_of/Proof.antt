@@ -9,21 +9,6 @@ use borrow.Author.Needs.{needs}
 use Rattle.tiny.proofs.picture_of.Statement.{statement}
 use Rattle.tiny.proofs.picture_of.Tie as tie
 
-resolution-byte-requires : tie.Need-resolution-byte-requires
-resolution-byte-requires c κs = search needs
-
-palette-start-requires : tie.Need-palette-start-requires
-palette-start-requires c κs = search needs
-
-palette-at-requires : tie.Need-palette-at-requires
-palette-at-requires c κs = search needs
-
-cast-without-tail : tie.Need-cast-without-tail
-cast-without-tail c = search needs
-
-without-tail-requires : tie.Need-without-tail-requires
-without-tail-requires c κs = search needs
-
 returns : tie.Need-returns
 returns c =
     let file = now (c .before .before .before .before .before .args .file) in
@@ -35,9 +20,9 @@ pub picture-of-spec : {M : Type 1} → statement M
 picture-of-spec =
     tie.close
     (tie.spec
-    resolution-byte-requires
-    palette-start-requires
-    palette-at-requires
-    cast-without-tail
-    without-tail-requires
+    (λ c κs. search needs)
+    (λ c κs. search needs)
+    (λ c κs. search needs)
+    (λ c. search needs)
+    (λ c κs. search needs)
     returns)

@@ -1,64 +1,35 @@
--- `tiny::put_literal` meets its contract. The invariant: the first k words are stored.
+-- `tiny::put_literal` meets its contract. The invariant: i words are put.
+use mathlib.Core.Path.{_≡_, refl}
 use Prim.Native.Nat.{_+_, _*_, _-_, _≤_}
 use native.Mathlib.Omega.{arith}
+use lib.ListN.{length}
 use denote.Ref.{now}
 use borrow.Author.Needs.{needs}
 use Rattle.words.specs.Word.{wordAt}
-use Rattle.tiny.proofs.Storing.{Storing, storing-start, storing-turn, storing-done}
+use Rattle.tiny.proofs.WordBytes.{Putting, putting-start, putting-done, word-turn}
 use Rattle.tiny.proofs.put_literal.Statement.{statement}
 use Rattle.tiny.proofs.put_literal.Tie as tie
 
 abbrev Inv-loop : tie.InvT-loop
-Inv-loop section taken count to screen₀ place₀ k₀ screen place k =
-    (k ≤ count) × Storing (λ i. wordAt section ((taken + i) * 2)) to screen₀ screen place k
+Inv-loop section taken count out₀ i₀ out i =
+    (i ≤ count) × (length out ≡ length out₀) × Putting count 1 (λ j. wordAt section ((taken + j) * 2)) out₀ out i
 
 abbrev μ-loop : tie.MeasureT-loop
-μ-loop section taken count to screen₀ place₀ k₀ screen place k = count - k
-
-screen-word-requires : tie.Need-screen-word-requires Inv-loop μ-loop
-screen-word-requires c κs = search needs
+μ-loop section taken count out₀ i₀ out i = count - i
 
 loop-holds : tie.Need-loop-holds Inv-loop μ-loop
 loop-holds c =
-    let a = c .before .before .before in (
-      omega arith,
-      storing-start _ (a .args .to) (now (a .args .screen)) _ (a .pre .2) (omega arith) (c .screen-word .ensures),
-    )
-
-add-word-at : tie.Need-add-word-at Inv-loop μ-loop
-add-word-at c = search needs
-
-mul-word-at : tie.Need-mul-word-at Inv-loop μ-loop
-mul-word-at c = search needs
-
-word-at-requires : tie.Need-word-at-requires Inv-loop μ-loop
-word-at-requires c κs = search needs
-
-mul-screen : tie.Need-mul-screen Inv-loop μ-loop
-mul-screen c = search needs
-
-slice-write-screen : tie.Need-slice-write-screen Inv-loop μ-loop
-slice-write-screen c = search needs
-
-next-place-requires : tie.Need-next-place-requires Inv-loop μ-loop
-next-place-requires c κs = search needs
-
-add-k : tie.Need-add-k Inv-loop μ-loop
-add-k c = search needs
-
-loop-less : tie.Need-loop-less Inv-loop μ-loop
-loop-less c = search needs
+    let a = c .before .before in
+    (omega arith, refl, putting-start (a .args .count) 1 _ (now (a .args .out)))
 
 loop-again : tie.Need-loop-again Inv-loop μ-loop
+unfolding wordAt
 loop-again c =
-    let l = c .before .before .before .loop in
-    (omega arith, storing-turn (l .inv .1) (omega arith) _ _ (c .before .word-at .ensures) (c .next-place .ensures))
-
-same-length : tie.Need-same-length Inv-loop μ-loop
-same-length c = search needs
+    let l = c .before .before .before .before .before .before .before .loop in
+    (omega arith, search needs, word-turn (l .inv .2) (omega arith) _ _ refl (c .before .before .put-word .ensures))
 
 returns : tie.Need-returns Inv-loop μ-loop
-returns c = storing-done (c .before .loop .inv .1) _ (omega arith)
+returns c = putting-done (c .before .loop .inv .2) (omega arith)
 
 pub put-literal-spec : {M : Type 1} → statement M
 put-literal-spec =
@@ -66,16 +37,19 @@ put-literal-spec =
     (tie.spec
     Inv-loop
     μ-loop
-    screen-word-requires
     loop-holds
-    add-word-at
-    mul-word-at
-    word-at-requires
-    mul-screen
-    slice-write-screen
-    next-place-requires
-    add-k
-    loop-less
+    (λ c. search needs)
+    (λ c. search needs)
+    (λ c. search needs)
+    (λ c. search needs)
+    (λ c. search needs)
+    (λ c. search needs)
+    (λ c. search needs)
+    (λ c. search needs)
+    (λ c. search needs)
+    (λ c κs. search needs)
+    (λ c. search needs)
+    (λ c. search needs)
     loop-again
-    same-length
+    (λ c. search needs)
     returns)

@@ -15,27 +15,6 @@ use borrow.Author.Needs.{needs}
 use Rattle.tiny.proofs.read_runs.Statement.{statement}
 use Rattle.tiny.proofs.read_runs.Tie as tie
 
-control-start-requires : tie.Need-control-start-requires
-control-start-requires c κs = search needs
-
-data-count-requires : tie.Need-data-count-requires
-data-count-requires c κs = search needs
-
-slice-aggregate-expand-sections : tie.Need-slice-aggregate-expand-sections
-slice-aggregate-expand-sections c = search needs
-
-expand-sections-requires : tie.Need-expand-sections-requires
-expand-sections-requires c κs = search needs
-
-add-refuse-at : tie.Need-add-refuse-at
-add-refuse-at c = search needs
-
-refuse-at-requires : tie.Need-refuse-at-requires
-refuse-at-requires c κs = search needs
-
-read-refused-requires : tie.Need-read-refused-requires
-read-refused-requires c κs = search needs
-
 returns : tie.Need-returns
 returns c =
     let x = c .before .before .before .before .before .before in
@@ -50,12 +29,6 @@ returns c =
       refl,
     )
 
-refuse-requires : tie.Need-refuse-requires
-refuse-requires c κs = search needs
-
-read-refused-requires-2 : tie.Need-read-refused-requires-2
-read-refused-requires-2 c κs = search needs
-
 returns-2 : tie.Need-returns-2
 returns-2 c =
     let t = c .before .before in
@@ -65,12 +38,6 @@ returns-2 c =
     omega (arith, t .if2 .taken, x .before .before .data-count .ensures .0) in
     rw (runs-data file (expanded file) (x .expand-sections .ensures .0) (t .before .before .before .if1 .left) few)
     (c .read-refused2 .ensures ∙ ap (λ (why : Refusal). readAnswer (refused why)) (c .before .refuse .ensures), refl)
-
-refuse-requires-2 : tie.Need-refuse-requires-2
-refuse-requires-2 c κs = search needs
-
-read-refused-requires-3 : tie.Need-read-refused-requires-3
-read-refused-requires-3 c κs = search needs
 
 returns-3 : tie.Need-returns-3
 returns-3 c =
@@ -83,26 +50,11 @@ returns-3 c =
     (c .before .before .if3 .taken))
     (c .read-refused3 .ensures ∙ ap (λ (why : Refusal). readAnswer (refused why)) (c .before .refuse2 .ensures), refl)
 
-slice-aggregate-put-words : tie.Need-slice-aggregate-put-words
-slice-aggregate-put-words c = search needs
-
-put-words-requires : tie.Need-put-words-requires
-put-words-requires c κs = search needs
-
-picture-of-requires : tie.Need-picture-of-requires
-picture-of-requires c κs = search needs
-
 sub-read-done : tie.Need-sub-read-done
 sub-read-done c =
     let full = c .before .before .before .before .before .before .before in
     let start = full .before .before .before .before .before .before .before .before .before .before in
     omega (arith, start .control-start .ensures, start .before .before .before .pre .0)
-
-read-done-requires : tie.Need-read-done-requires
-read-done-requires c κs = search needs
-
-same-length : tie.Need-same-length
-same-length c = search needs
 
 returns-4 : tie.Need-returns-4
 returns-4 c =
@@ -121,32 +73,32 @@ returns-4 c =
           ∙ answer-is file (expanded file) _ _ _ (c .before .picture-of .ensures) body
           (ap (λ (d : Expanded). d .runs) (done .ensures .0)),
       area-is file _ (now (a .args .area)) _ (done .ensures .1 .0)
-          (omega (arith, full, ap (λ (d : Expanded). d .words) (done .ensures .0))) (a .pre .1)
-          (c .before .before .before .before .put-words .ensures),
+          (omega (arith, full, ap (λ (d : Expanded). d .words) (done .ensures .0)))
+          (c .before .before .before .before .put-screen .ensures),
     )
 
 pub read-runs-spec : {M : Type 1} → statement M
 read-runs-spec =
     tie.close
     (tie.spec
-    control-start-requires
-    data-count-requires
-    slice-aggregate-expand-sections
-    expand-sections-requires
-    add-refuse-at
-    refuse-at-requires
-    read-refused-requires
+    (λ c κs. search needs)
+    (λ c κs. search needs)
+    (λ c. search needs)
+    (λ c κs. search needs)
+    (λ c. search needs)
+    (λ c κs. search needs)
+    (λ c κs. search needs)
     returns
-    refuse-requires
-    read-refused-requires-2
+    (λ c κs. search needs)
+    (λ c κs. search needs)
     returns-2
-    refuse-requires-2
-    read-refused-requires-3
+    (λ c κs. search needs)
+    (λ c κs. search needs)
     returns-3
-    slice-aggregate-put-words
-    put-words-requires
-    picture-of-requires
+    (λ c. search needs)
+    (λ c κs. search needs)
+    (λ c κs. search needs)
     sub-read-done
-    read-done-requires
-    same-length
+    (λ c κs. search needs)
+    (λ c. search needs)
     returns-4)

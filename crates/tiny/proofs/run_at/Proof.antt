@@ -9,24 +9,6 @@ use borrow.Author.Needs.{needs}
 use Rattle.tiny.proofs.run_at.Statement.{statement}
 use Rattle.tiny.proofs.run_at.Tie as tie
 
-shared-slice-read-run-of : tie.Need-shared-slice-read-run-of
-shared-slice-read-run-of c = search needs
-
-add-run-of : tie.Need-add-run-of
-add-run-of c = search needs
-
-run-of-requires : tie.Need-run-of-requires
-run-of-requires c κs = search needs
-
-sub-fitted : tie.Need-sub-fitted
-sub-fitted c = search needs
-
-sub-fitted-2 : tie.Need-sub-fitted-2
-sub-fitted-2 c = search needs
-
-fitted-requires : tie.Need-fitted-requires
-fitted-requires c κs = search needs
-
 returns : tie.Need-returns
 returns c =
     let a = c .before .before .before .before .before .before .args in
@@ -39,10 +21,10 @@ pub run-at-spec : {M : Type 1} → statement M
 run-at-spec =
     tie.close
     (tie.spec
-    shared-slice-read-run-of
-    add-run-of
-    run-of-requires
-    sub-fitted
-    sub-fitted-2
-    fitted-requires
+    (λ c. search needs)
+    (λ c. search needs)
+    (λ c κs. search needs)
+    (λ c. search needs)
+    (λ c. search needs)
+    (λ c κs. search needs)
     returns)

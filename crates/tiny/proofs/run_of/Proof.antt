@@ -6,29 +6,14 @@ use borrow.Author.Needs.{needs}
 use Rattle.tiny.proofs.run_of.Statement.{statement}
 use Rattle.tiny.proofs.run_of.Tie as tie
 
-long-run-requires : tie.Need-long-run-requires
-long-run-requires c κs = search needs
-
 returns : tie.Need-returns
 returns c = c .long-run .ensures ∙ sym (run-long _ _ (c .before .if1 .taken))
-
-defined-requires : tie.Need-defined-requires
-defined-requires c κs = search needs
 
 returns-2 : tie.Need-returns-2
 returns-2 c = c .defined .ensures ∙ sym (run-repeat _ _ (omega arith) (omega arith))
 
-faulty-requires : tie.Need-faulty-requires
-faulty-requires c κs = search needs
-
 returns-3 : tie.Need-returns-3
 returns-3 c = c .faulty .ensures ∙ sym (run-undefined _ _ (c .before .if3 .taken))
-
-sub-defined : tie.Need-sub-defined
-sub-defined c = search needs
-
-defined-requires-2 : tie.Need-defined-requires-2
-defined-requires-2 c κs = search needs
 
 returns-4 : tie.Need-returns-4
 returns-4 c =
@@ -39,12 +24,12 @@ pub run-of-spec : {M : Type 1} → statement M
 run-of-spec =
     tie.close
     (tie.spec
-    long-run-requires
+    (λ c κs. search needs)
     returns
-    defined-requires
+    (λ c κs. search needs)
     returns-2
-    faulty-requires
+    (λ c κs. search needs)
     returns-3
-    sub-defined
-    defined-requires-2
+    (λ c. search needs)
+    (λ c κs. search needs)
     returns-4)

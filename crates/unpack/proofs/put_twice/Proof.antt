@@ -9,27 +9,6 @@ use Rattle.unpack.proofs.Records.{put-both}
 use Rattle.unpack.proofs.put_twice.Statement.{statement}
 use Rattle.unpack.proofs.put_twice.Tie as tie
 
-put-run-requires : tie.Need-put-run-requires
-put-run-requires c κs = search needs
-
-sub-put-run : tie.Need-sub-put-run
-sub-put-run c = search needs
-
-sub-put-run-2 : tie.Need-sub-put-run-2
-sub-put-run-2 c = search needs
-
-part-put-run-start : tie.Need-part-put-run-start
-part-put-run-start c = search needs
-
-part-put-run-end : tie.Need-part-put-run-end
-part-put-run-end c = search needs
-
-put-run-requires-2 : tie.Need-put-run-requires-2
-put-run-requires-2 c κs = search needs
-
-same-length : tie.Need-same-length
-same-length c = search needs
-
 returns : tie.Need-returns
 returns c =
     let a = c .before .before .before .before .before .before .before .before .before .args in
@@ -43,11 +22,11 @@ pub put-twice-spec : {M : Type 1} → statement M
 put-twice-spec =
     tie.close
     (tie.spec
-    put-run-requires
-    sub-put-run
-    sub-put-run-2
-    part-put-run-start
-    part-put-run-end
-    put-run-requires-2
-    same-length
+    (λ c κs. search needs)
+    (λ c. search needs)
+    (λ c. search needs)
+    (λ c. search needs)
+    (λ c. search needs)
+    (λ c κs. search needs)
+    (λ c. search needs)
     returns)

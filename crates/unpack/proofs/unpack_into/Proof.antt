@@ -34,18 +34,6 @@ loop-holds c =
 sub-record-at : tie.Need-sub-record-at Inv-loop μ-loop
 sub-record-at c = omega arith
 
-record-at-requires : tie.Need-record-at-requires Inv-loop μ-loop
-record-at-requires c κs = search needs
-
-fault-of-requires : tie.Need-fault-of-requires Inv-loop μ-loop
-fault-of-requires c κs = search needs
-
-refuse-at-requires : tie.Need-refuse-at-requires Inv-loop μ-loop
-refuse-at-requires c κs = search needs
-
-row-refused-requires : tie.Need-row-refused-requires Inv-loop μ-loop
-row-refused-requires c κs = search needs
-
 same-length : tie.Need-same-length Inv-loop μ-loop
 same-length c = c .before .before .before .before .before .before .loop .inv .writing .kept
 
@@ -58,8 +46,8 @@ returns c =
     let bad : fault (rec .result) ≡ 0 → ⊥ = λ e. t .if1 .taken (t .before .fault-of .ensures ∙ e) in
     let room = length (a .out .now) - l .to in
     let stop = left-fault (a .file .now) (l .from) room (rec .result) (rec .ensures) (omega arith) bad in
-    let is = sym (answer-refused (l .inv .read) stop bad) in (
-      c .row-refused .ensures ∙ rw (c .before .refuse-at .ensures, t .before .fault-of .ensures) is,
+    let is = sym (answer-refused (l .inv .read) stop {to = l .to} (omega arith) bad) in (
+      c .row-refused .ensures ∙ rw (c .before .refuse-in-row .ensures, t .before .fault-of .ensures) is,
       putting-done (l .inv) stop,
     )
 
@@ -68,9 +56,6 @@ sub-put-row-bytes c = c .before .before .before .before .loop .inv .writing .roo
 
 part-put-row-bytes-start : tie.Need-part-put-row-bytes-start Inv-loop μ-loop
 part-put-row-bytes-start c = c .before .before .before .before .loop .inv .writing .room
-
-part-put-row-bytes-end : tie.Need-part-put-row-bytes-end Inv-loop μ-loop
-part-put-row-bytes-end c = search needs
 
 put-row-bytes-requires : tie.Need-put-row-bytes-requires Inv-loop μ-loop
 put-row-bytes-requires c κs =
@@ -82,16 +67,10 @@ put-row-bytes-requires c κs =
           (sym (t .before .fault-of .ensures) ∙ t .if1 .left),
     )
 
-packed-len-requires : tie.Need-packed-len-requires Inv-loop μ-loop
-packed-len-requires c κs = search needs
-
 add-from : tie.Need-add-from Inv-loop μ-loop
 add-from c =
     let w = whole-here (c .before .before .before .before .before) in
     omega (arith, w .has, c .packed-len .ensures)
-
-row-len-requires : tie.Need-row-len-requires Inv-loop μ-loop
-row-len-requires c κs = search needs
 
 add-to : tie.Need-add-to Inv-loop μ-loop
 add-to c =
@@ -118,9 +97,6 @@ loop-again c =
     (putting-turn (l .inv) (omega arith) (rec .result) (rec .ensures) (t .before .before .before .loop-test .taken)
     (sym (t .before .fault-of .ensures) ∙ t .if1 .left) _ (c .before .before .before .before .put-row-bytes .ensures))
 
-none-requires : tie.Need-none-requires Inv-loop μ-loop
-none-requires c κs = search needs
-
 sub-t18 : tie.Need-sub-t18 Inv-loop μ-loop
 sub-t18 c = omega (arith, c .before .before .loop .inv .read .counted)
 
@@ -145,24 +121,24 @@ unpack-into-spec =
     μ-loop
     loop-holds
     sub-record-at
-    record-at-requires
-    fault-of-requires
-    refuse-at-requires
-    row-refused-requires
+    (λ c κs. search needs)
+    (λ c κs. search needs)
+    (λ c κs. search needs)
+    (λ c κs. search needs)
     same-length
     returns
     sub-put-row-bytes
     part-put-row-bytes-start
-    part-put-row-bytes-end
+    (λ c. search needs)
     put-row-bytes-requires
-    packed-len-requires
+    (λ c κs. search needs)
     add-from
-    row-len-requires
+    (λ c κs. search needs)
     add-to
     add-records
     loop-less
     loop-again
-    none-requires
+    (λ c κs. search needs)
     sub-t18
     same-length-2
     returns-2)

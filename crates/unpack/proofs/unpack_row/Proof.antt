@@ -29,27 +29,12 @@ module _ (width : ℕ) (w : widthOutOfRange width ≡ false) where
   lent-fits : (out : List ℕ) → width ≤ length out → length (lent width) ≤ length out
   lent-fits out h = omega (arith, lent-long)
 
-width-out-of-range-requires : tie.Need-width-out-of-range-requires
-width-out-of-range-requires c κs = search needs
-
-refuse-requires : tie.Need-refuse-requires
-refuse-requires c κs = search needs
-
-row-refused-requires : tie.Need-row-refused-requires
-row-refused-requires c κs = search needs
-
 returns : tie.Need-returns
 returns c =
     let a = c .before .before .before .before .before .before .args in
     let w = sym (c .before .before .before .width-out-of-range .ensures) ∙ c .before .before .if1 .taken in
     rw (row-out (a .packed .now) (a .width) (length (a .out .now)) w, ← c .before .refuse .ensures)
     (c .row-refused .ensures, refl)
-
-refuse-requires-2 : tie.Need-refuse-requires-2
-refuse-requires-2 c κs = search needs
-
-row-refused-requires-2 : tie.Need-row-refused-requires-2
-row-refused-requires-2 c κs = search needs
 
 returns-2 : tie.Need-returns-2
 returns-2 c =
@@ -69,9 +54,6 @@ unpack-through-requires c κs =
     let e = c .before .before in
     lent-fits _ (range-here (e .before)) (e .before .before .before .before .before .args .out .now) (e .if2 .left)
 
-same-length : tie.Need-same-length
-same-length c = search needs
-
 returns-3 : tie.Need-returns-3
 returns-3 c =
     let t = c .before .before .before .unpack-through in
@@ -87,15 +69,15 @@ pub unpack-row-spec : {M : Type 1} → statement M
 unpack-row-spec =
     tie.close
     (tie.spec
-    width-out-of-range-requires
-    refuse-requires
-    row-refused-requires
+    (λ c κs. search needs)
+    (λ c κs. search needs)
+    (λ c κs. search needs)
     returns
-    refuse-requires-2
-    row-refused-requires-2
+    (λ c κs. search needs)
+    (λ c κs. search needs)
     returns-2
     array-borrow-prefix-row
     slice-aggregate-unpack-through
     unpack-through-requires
-    same-length
+    (λ c. search needs)
     returns-3)

@@ -25,26 +25,11 @@ module _ (c : tie.After-unpack-into) where
   number-here : c .unpack-into .result .refusal .number ≡ rowAnswer first .refusal .number
   number-here = ap (λ (r : RowAnswer). r .refusal .number) answer-here
 
-unpack-into-requires : tie.Need-unpack-into-requires
-unpack-into-requires c κs = search needs
-
-same-length : tie.Need-same-length
-same-length c = search needs
-
 returns : tie.Need-returns
 returns c =
     let i = c .before .before .before .before in
     let a = i .before .before .before .before .before .args in
     (answer-here i, sym (refused-output (first i) (a .out .now) (λ e. c .if1 .taken (number-here i ∙ e))))
-
-copy-requires : tie.Need-copy-requires
-copy-requires c κs = search needs
-
-same-length-2 : tie.Need-same-length-2
-same-length-2 c = search needs
-
-same-length-3 : tie.Need-same-length-3
-same-length-3 c = search needs
 
 returns-2 : tie.Need-returns-2
 returns-2 c =
@@ -62,10 +47,10 @@ pub unpack-through-spec : {M : Type 1} → statement M
 unpack-through-spec =
     tie.close
     (tie.spec
-    unpack-into-requires
-    same-length
+    (λ c κs. search needs)
+    (λ c. search needs)
     returns
-    copy-requires
-    same-length-2
-    same-length-3
+    (λ c κs. search needs)
+    (λ c. search needs)
+    (λ c. search needs)
     returns-2)

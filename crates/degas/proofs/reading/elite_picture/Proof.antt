@@ -3,18 +3,6 @@ use borrow.Author.Needs.{needs}
 use Rattle.degas.proofs.reading.elite_picture.Statement.{statement}
 use Rattle.degas.proofs.reading.elite_picture.Tie as tie
 
-palette-at-requires : tie.Need-palette-at-requires
-palette-at-requires c κs = search needs
-
-number-requires : tie.Need-number-requires
-number-requires c κs = search needs
-
-tail-at-requires : tie.Need-tail-at-requires
-tail-at-requires c κs = search needs
-
-with-tail-requires : tie.Need-with-tail-requires
-with-tail-requires c κs = search needs
-
 returns : tie.Need-returns
 returns c =
     let n = c .before .before in
@@ -23,4 +11,4 @@ returns c =
 pub elite-picture-spec : {M : Type 1} → statement M
 elite-picture-spec =
     tie.close
-    (tie.spec palette-at-requires number-requires tail-at-requires with-tail-requires returns)
+    (tie.spec (λ c κs. search needs) (λ c κs. search needs) (λ c κs. search needs) (λ c κs. search needs) returns)

@@ -3,20 +3,8 @@ use borrow.Author.Needs.{needs}
 use Rattle.degas.proofs.reading.read_opened.Statement.{statement}
 use Rattle.degas.proofs.reading.read_opened.Tie as tie
 
-read-packed-requires : tie.Need-read-packed-requires
-read-packed-requires c κs = search needs
-
-same-length : tie.Need-same-length
-same-length c = search needs
-
 returns : tie.Need-returns
 returns c = rw (c .before .before .before .before .if1 .taken) (c .before .before .read-packed .ensures)
-
-read-raw-requires : tie.Need-read-raw-requires
-read-raw-requires c κs = search needs
-
-same-length-2 : tie.Need-same-length-2
-same-length-2 c = search needs
 
 returns-2 : tie.Need-returns-2
 returns-2 c = rw (c .before .before .before .before .if1 .left) (c .before .before .read-raw .ensures)
@@ -24,4 +12,4 @@ returns-2 c = rw (c .before .before .before .before .if1 .left) (c .before .befo
 pub read-opened-spec : {M : Type 1} → statement M
 read-opened-spec =
     tie.close
-    (tie.spec read-packed-requires same-length returns read-raw-requires same-length-2 returns-2)
+    (tie.spec (λ c κs. search needs) (λ c. search needs) returns (λ c κs. search needs) (λ c. search needs) returns-2)

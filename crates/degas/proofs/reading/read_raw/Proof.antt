@@ -9,15 +9,6 @@ use borrow.Author.Needs.{needs}
 use Rattle.degas.proofs.reading.read_raw.Statement.{statement}
 use Rattle.degas.proofs.reading.read_raw.Tie as tie
 
-plain-picture-requires : tie.Need-plain-picture-requires
-plain-picture-requires c κs = search needs
-
-copy-screen-requires : tie.Need-copy-screen-requires
-copy-screen-requires c κs = search needs
-
-same-length : tie.Need-same-length
-same-length c = search needs
-
 returns : tie.Need-returns
 returns c =
     let d = c .before .before .before .before in
@@ -25,30 +16,12 @@ returns c =
     rw (raw-plain (now (a .file)) (a .r) (d .before .if1 .taken))
     (rw (d .plain-picture .ensures) at (c .before .before .copy-screen .ensures))
 
-cast-elite-picture : tie.Need-cast-elite-picture
-cast-elite-picture c = search needs
-
-elite-picture-requires : tie.Need-elite-picture-requires
-elite-picture-requires c κs = search needs
-
-copy-screen-requires-2 : tie.Need-copy-screen-requires-2
-copy-screen-requires-2 c κs = search needs
-
-same-length-2 : tie.Need-same-length-2
-same-length-2 c = search needs
-
 returns-2 : tie.Need-returns-2
 returns-2 c =
     let d = c .before .before .before .before in
     let a = d .before .before .before .before .before .args in
     rw (raw-elite (now (a .file)) (a .r) (d .before .if2 .taken))
     (rw (d .elite-picture .ensures) at (c .before .before .copy-screen2 .ensures))
-
-refuse-requires : tie.Need-refuse-requires
-refuse-requires c κs = search needs
-
-read-refused-requires : tie.Need-read-refused-requires
-read-refused-requires c κs = search needs
 
 returns-3 : tie.Need-returns-3
 returns-3 c =
@@ -60,15 +33,15 @@ pub read-raw-spec : {M : Type 1} → statement M
 read-raw-spec =
     tie.close
     (tie.spec
-    plain-picture-requires
-    copy-screen-requires
-    same-length
+    (λ c κs. search needs)
+    (λ c κs. search needs)
+    (λ c. search needs)
     returns
-    cast-elite-picture
-    elite-picture-requires
-    copy-screen-requires-2
-    same-length-2
+    (λ c. search needs)
+    (λ c κs. search needs)
+    (λ c κs. search needs)
+    (λ c. search needs)
     returns-2
-    refuse-requires
-    read-refused-requires
+    (λ c κs. search needs)
+    (λ c κs. search needs)
     returns-3)

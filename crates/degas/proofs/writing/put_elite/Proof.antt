@@ -10,27 +10,6 @@ use borrow.Author.Needs.{needs}
 use Rattle.degas.proofs.writing.put_elite.Statement.{statement}
 use Rattle.degas.proofs.writing.put_elite.Tie as tie
 
-put-plain-requires : tie.Need-put-plain-requires
-put-plain-requires c κs = search needs
-
-sub-put-tail : tie.Need-sub-put-tail
-sub-put-tail c = search needs
-
-part-put-tail-start : tie.Need-part-put-tail-start
-part-put-tail-start c = search needs
-
-part-put-tail-end : tie.Need-part-put-tail-end
-part-put-tail-end c = search needs
-
-put-tail-requires : tie.Need-put-tail-requires
-put-tail-requires c κs = search needs
-
-add-result : tie.Need-add-result
-add-result c = search needs
-
-same-length : tie.Need-same-length
-same-length c = search needs
-
 returns : tie.Need-returns
 unfolding plainFile eliteFile
 returns c =
@@ -47,11 +26,11 @@ pub put-elite-spec : {M : Type 1} → statement M
 put-elite-spec =
     tie.close
     (tie.spec
-    put-plain-requires
-    sub-put-tail
-    part-put-tail-start
-    part-put-tail-end
-    put-tail-requires
-    add-result
-    same-length
+    (λ c κs. search needs)
+    (λ c. search needs)
+    (λ c. search needs)
+    (λ c. search needs)
+    (λ c κs. search needs)
+    (λ c. search needs)
+    (λ c. search needs)
     returns)

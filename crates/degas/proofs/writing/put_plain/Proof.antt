@@ -9,27 +9,6 @@ use borrow.Author.Needs.{needs}
 use Rattle.degas.proofs.writing.put_plain.Statement.{statement}
 use Rattle.degas.proofs.writing.put_plain.Tie as tie
 
-put-header-requires : tie.Need-put-header-requires
-put-header-requires c κs = search needs
-
-sub-put-screen : tie.Need-sub-put-screen
-sub-put-screen c = search needs
-
-part-put-screen-start : tie.Need-part-put-screen-start
-part-put-screen-start c = search needs
-
-part-put-screen-end : tie.Need-part-put-screen-end
-part-put-screen-end c = search needs
-
-put-screen-requires : tie.Need-put-screen-requires
-put-screen-requires c κs = search needs
-
-add-result : tie.Need-add-result
-add-result c = search needs
-
-same-length : tie.Need-same-length
-same-length c = search needs
-
 returns : tie.Need-returns
 unfolding plainFile
 returns c =
@@ -44,11 +23,11 @@ pub put-plain-spec : {M : Type 1} → statement M
 put-plain-spec =
     tie.close
     (tie.spec
-    put-header-requires
-    sub-put-screen
-    part-put-screen-start
-    part-put-screen-end
-    put-screen-requires
-    add-result
-    same-length
+    (λ c κs. search needs)
+    (λ c. search needs)
+    (λ c. search needs)
+    (λ c. search needs)
+    (λ c κs. search needs)
+    (λ c. search needs)
+    (λ c. search needs)
     returns)

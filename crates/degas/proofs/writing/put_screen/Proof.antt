@@ -17,9 +17,6 @@ copy-requires : tie.Need-copy-requires
 copy-requires c κs =
     omega (arith, length-take-le screenBytes (now (c .before .before .before .before .args .screen)) (omega arith))
 
-same-length : tie.Need-same-length
-same-length c = search needs
-
 returns : tie.Need-returns
 returns c =
     let a = c .before .before .before .before .before .before .before .args in
@@ -30,4 +27,4 @@ returns c =
     )
 
 pub put-screen-spec : {M : Type 1} → statement M
-put-screen-spec = tie.close (tie.spec slice-aggregate-copy copy-requires same-length returns)
+put-screen-spec = tie.close (tie.spec slice-aggregate-copy copy-requires (λ c. search needs) returns)

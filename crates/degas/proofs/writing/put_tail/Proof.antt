@@ -9,18 +9,6 @@ use borrow.Author.Needs.{needs}
 use Rattle.degas.proofs.writing.put_tail.Statement.{statement}
 use Rattle.degas.proofs.writing.put_tail.Tie as tie
 
-tail-bytes-requires : tie.Need-tail-bytes-requires
-tail-bytes-requires c κs = search needs
-
-slice-aggregate-copy : tie.Need-slice-aggregate-copy
-slice-aggregate-copy c = search needs
-
-copy-requires : tie.Need-copy-requires
-copy-requires c κs = search needs
-
-same-length : tie.Need-same-length
-same-length c = search needs
-
 returns : tie.Need-returns
 returns c =
     let a = c .before .before .before .before .before .before .before .args in
@@ -34,4 +22,4 @@ returns c =
 
 pub put-tail-spec : {M : Type 1} → statement M
 put-tail-spec =
-    tie.close (tie.spec tail-bytes-requires slice-aggregate-copy copy-requires same-length returns)
+    tie.close (tie.spec (λ c κs. search needs) (λ c. search needs) (λ c κs. search needs) (λ c. search needs) returns)

@@ -38,27 +38,6 @@ ends h =
     let body = packed-body (a .picture) (here j) (omega (arith, h .before .before .before .before .if1 .left)) in
     omega (arith, body .below, h .put-header .ensures .1)
 
-raster-requires : tie.Need-raster-requires
-raster-requires c κs = search needs
-
-sub-pack-body : tie.Need-sub-pack-body
-sub-pack-body c = search needs
-
-part-pack-body-start : tie.Need-part-pack-body-start
-part-pack-body-start c = search needs
-
-part-pack-body-end : tie.Need-part-pack-body-end
-part-pack-body-end c = search needs
-
-pack-body-requires : tie.Need-pack-body-requires
-pack-body-requires c κs = search needs
-
-write-refused-requires : tie.Need-write-refused-requires
-write-refused-requires c κs = search needs
-
-same-length : tie.Need-same-length
-same-length c = search needs
-
 returns : tie.Need-returns
 returns c =
     let j = c .before .before .before .before .before in
@@ -71,9 +50,6 @@ add-put-header c =
     let s = c .before .before .before .before .before .before .before .before .before .before .before in
     omega (arith, known-le (s .args .picture .resolution) (s .args .r) (s .pre .0))
 
-put-header-requires : tie.Need-put-header-requires
-put-header-requires c κs = search needs
-
 add-end : tie.Need-add-end
 add-end c = omega (arith, ends (c .before .before .before))
 
@@ -83,9 +59,6 @@ sub-put-tail c = omega (arith, ends (c .before .before .before))
 part-put-tail-start : tie.Need-part-put-tail-start
 part-put-tail-start c = omega (arith, ends (c .before .before .before))
 
-part-put-tail-end : tie.Need-part-put-tail-end
-part-put-tail-end c = search needs
-
 put-tail-requires : tie.Need-put-tail-requires
 put-tail-requires c κs = omega (arith, ends (c .before .before .before .before))
 
@@ -93,12 +66,6 @@ add-length : tie.Need-add-length
 add-length c =
     let h = c .before .before .before .before .before .before .before in
     omega (arith, ends h, c .before .before .put-tail .ensures .1)
-
-write-done-requires : tie.Need-write-done-requires
-write-done-requires c κs = search needs
-
-same-length-2 : tie.Need-same-length-2
-same-length-2 c = search needs
 
 returns-2 : tie.Need-returns-2
 returns-2 c =
@@ -115,22 +82,22 @@ pub write-packed-spec : {M : Type 1} → statement M
 write-packed-spec =
     tie.close
     (tie.spec
-    raster-requires
-    sub-pack-body
-    part-pack-body-start
-    part-pack-body-end
-    pack-body-requires
-    write-refused-requires
-    same-length
+    (λ c κs. search needs)
+    (λ c. search needs)
+    (λ c. search needs)
+    (λ c. search needs)
+    (λ c κs. search needs)
+    (λ c κs. search needs)
+    (λ c. search needs)
     returns
     add-put-header
-    put-header-requires
+    (λ c κs. search needs)
     add-end
     sub-put-tail
     part-put-tail-start
-    part-put-tail-end
+    (λ c. search needs)
     put-tail-requires
     add-length
-    write-done-requires
-    same-length-2
+    (λ c κs. search needs)
+    (λ c. search needs)
     returns-2)

@@ -9,12 +9,6 @@ use Rattle.raster.proofs.Raster.bytes.Reads as reads
 use Rattle.raster.proofs.Raster.bytes.Lts as lts
 use Rattle.raster.proofs.Raster.line_bytes.Reads as line-bytes-reads
 
-cast-result : tie.Need-cast-result
-cast-result c = search needs
-
-line-bytes-requires : tie.Need-line-bytes-requires
-line-bytes-requires c κs = search needs
-
 size : (c : lts.After-line-bytes (line-bytes-reads.Asked, line-bytes-reads.Learnt) reads.Pre reads.Post)
     → c .before .before .args .self .lines * c .line-bytes .result ≤ 8522826750
 size c =
@@ -28,4 +22,4 @@ returns : tie.Need-returns
 returns c = (rw (c .line-bytes .ensures .0), size c)
 
 pub bytes-spec : {M : Type 1} → statement M
-bytes-spec = tie.close (tie.spec cast-result line-bytes-requires mul-result returns)
+bytes-spec = tie.close (tie.spec (λ c. search needs) (λ c κs. search needs) mul-result returns)

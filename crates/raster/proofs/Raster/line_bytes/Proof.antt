@@ -10,15 +10,6 @@ use Rattle.raster.proofs.Raster.line_bytes.Tie as tie
 use Rattle.raster.proofs.Raster.line_bytes.Reads as reads
 use Rattle.raster.proofs.Raster.line_bytes.Lts as lts
 
-cast-result : tie.Need-cast-result
-cast-result c = search needs
-
-cast-result-2 : tie.Need-cast-result-2
-cast-result-2 c = search needs
-
-mul-result : tie.Need-mul-result
-mul-result c = search needs
-
 size : (c : lts.After-struct-known2 reads.Pre reads.Post) → lineBytes (c .before .before .args .self) ≤ 130050
 size c =
     let a = c .before .before .args .self in
@@ -33,4 +24,4 @@ returns : tie.Need-returns
 returns c = (refl, size c)
 
 pub line-bytes-spec : {M : Type 1} → statement M
-line-bytes-spec = tie.close (tie.spec cast-result cast-result-2 mul-result mul-result-2 returns)
+line-bytes-spec = tie.close (tie.spec (λ c. search needs) (λ c. search needs) (λ c. search needs) mul-result-2 returns)

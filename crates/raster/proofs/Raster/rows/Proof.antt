@@ -10,12 +10,6 @@ use Rattle.raster.proofs.Raster.rows.Tie as tie
 use Rattle.raster.proofs.Raster.rows.Reads as reads
 use Rattle.raster.proofs.Raster.rows.Lts as lts
 
-cast-result : tie.Need-cast-result
-cast-result c = search needs
-
-cast-result-2 : tie.Need-cast-result-2
-cast-result-2 c = search needs
-
 size : (c : lts.After-struct-known2 reads.Pre reads.Post) → rows (c .before .before .args .self) ≤ 16711425
 size c =
     let a = c .before .before .args .self in
@@ -30,4 +24,4 @@ returns : tie.Need-returns
 returns c = (refl, size c)
 
 pub rows-spec : {M : Type 1} → statement M
-rows-spec = tie.close (tie.spec cast-result cast-result-2 mul-result returns)
+rows-spec = tie.close (tie.spec (λ c. search needs) (λ c. search needs) mul-result returns)

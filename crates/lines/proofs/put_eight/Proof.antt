@@ -1,0 +1,89 @@
+-- `lines::put_eight` meets its contract: the loop has written the first i bytes.
+use mathlib.Core.Path.{_≡_, refl, sym}
+use native.Mathlib.Omega.{arith}
+use Prim.Native.Nat.{ℕ, _≤_, _+_, _-_}
+use denote.Ref.{now}
+use lib.ListN.{length, take, length-set, take-append-drop}
+use Rattle.lists.specs.Over.{overAt}
+use Rattle.lists.specs.Tabulate.{tabulate}
+use Rattle.lists.proofs.Over.{overAt-turn, overAt-done}
+use Rattle.lists.proofs.Tabulate.{length-tabulate, getD-tabulate}
+use Rattle.lines.specs.Columns.{byteOf}
+use Rattle.lines.proofs.put_eight.Statement.{statement}
+use Rattle.lines.proofs.put_eight.Tie as tie
+
+abbrev Inv-loop : tie.InvT-loop
+Inv-loop v out₀ x i₀ out i =
+    (x + 8 ≤ length out₀) × (i ≤ 8) × (length out ≡ length out₀)
+    × (out ≡ overAt x (take i (tabulate 8 (byteOf v))) out₀)
+
+abbrev μ-loop : tie.MeasureT-loop
+μ-loop v out₀ x i₀ out i = 8 - i
+
+loop-holds : tie.Need-loop-holds Inv-loop μ-loop
+loop-holds c =
+    let a = c .args in
+    (omega arith, omega arith, refl, sym (take-append-drop (a .x) (now (a .out))))
+
+mul-out : tie.Need-mul-out Inv-loop μ-loop
+mul-out c = omega arith
+
+shr-out : tie.Need-shr-out Inv-loop μ-loop
+shr-out c = omega arith
+
+cast-out : tie.Need-cast-out Inv-loop μ-loop
+cast-out c = omega arith
+
+add-out : tie.Need-add-out Inv-loop μ-loop
+add-out c = omega arith
+
+slice-write-out : tie.Need-slice-write-out Inv-loop μ-loop
+slice-write-out c = omega arith
+
+add-i : tie.Need-add-i Inv-loop μ-loop
+add-i c = omega arith
+
+loop-less : tie.Need-loop-less Inv-loop μ-loop
+loop-less c = omega arith
+
+loop-again : tie.Need-loop-again Inv-loop μ-loop
+unfolding byteOf
+loop-again c =
+    let l = c .before .loop in
+    let a = c .before .before .args in
+    let w : ℕ → ℕ = byteOf (a .v) in (
+      omega arith,
+      omega arith,
+      simp length-set (omega arith),
+      overAt-turn (a .x) (tabulate 8 w) (now (a .out)) (l .out) (l .i) (w (l .i)) 0
+          (omega (arith, length-tabulate 8 w)) (omega arith) (l .inv .3)
+          (sym (getD-tabulate 8 w (l .i) 0 (omega arith))),
+    )
+
+same-length : tie.Need-same-length Inv-loop μ-loop
+same-length c = omega arith
+
+returns : tie.Need-returns Inv-loop μ-loop
+returns c =
+    let l = c .before .loop in
+    let a = c .before .before .args in
+    let w : ℕ → ℕ = byteOf (a .v) in
+    overAt-done (a .x) (tabulate 8 w) (now (a .out)) (l .out) (l .i) (omega (arith, length-tabulate 8 w)) (l .inv .3)
+
+pub put-eight-spec : {M : Type 1} → statement M
+put-eight-spec =
+    tie.close
+    (tie.spec
+    Inv-loop
+    μ-loop
+    loop-holds
+    mul-out
+    shr-out
+    cast-out
+    add-out
+    slice-write-out
+    add-i
+    loop-less
+    loop-again
+    same-length
+    returns)
