@@ -1,5 +1,5 @@
-// Runs document 01's examples that are not proved, one function each, and writes what comes of them after a short
-// label. The blank file's summary is run by crates/summary.
+// Runs document 01's examples that are not proved, one function each, then its house choices and its orders of judging,
+// and writes what comes of them after a short label. The blank file's summary is run by crates/summary.
 ghost use Prim.Native.Nat.{_+_, _≤_};
 ghost use lib.ListN.{length};
 ghost use mathlib.Core.Path.{_≡_};
@@ -10,6 +10,9 @@ use report::SUMMARY_BYTES;
 use resolution::Resolution;
 use resolution::SCREEN_BYTES;
 use writer::FORM_PACKED;
+
+mod house;
+mod orders;
 
 // Writes a label and the summary of a file.
 fn show(label: &[u8], file: &[u8]) {
@@ -50,6 +53,15 @@ fn blank_with_no_op() {
     file[34] = 0x80;
     put_blank_rows(&mut file, 35);
     show(b"one 80 before the first record", &file);
+}
+
+// The blank file with all bits of its first plane row set: that row is plane 0, so the line's registers are 1.
+fn first_row_set() {
+    let mut file = [0u8; 1666];
+    file[0] = 0x80;
+    put_blank_rows(&mut file, 34);
+    file[35] = 0xFF;
+    show(b"first plane row set", &file);
 }
 
 // A packed file that ends where its body starts.
@@ -130,4 +142,7 @@ fn main() {
     crossing_record();
     rows_of_three(b"800 rows of three equal and 37 more", 3);
     rows_of_three(b"one of them made four equal and 36", 4);
+    first_row_set();
+    house::run();
+    orders::run();
 }

@@ -21,11 +21,6 @@ module _ {A : Type 0} (P : A → Type 0) {a b : A} where
   pub cond-eqb : (m n : ℕ) → (m ≡ n → P a) → ((m ≡ n → ⊥) → P b) → P (cond (eqb m n) a b)
   cond-eqb m n f g = cond-elim (eqb m n) (λ e. f (eqb-true m n e)) (λ e. g (eqb-false m n e))
 
--- a function of what is chosen is what is chosen of its values
-pub map-cond : {A B : Type 0} (f : A → B) (t : Bool) (a b : A) → f (cond t a b) ≡ cond t (f a) (f b)
-map-cond f true a b = refl
-map-cond f false a b = refl
-
 pub and-true : (s t : Bool) → s && t ≡ true → (s ≡ true) × (t ≡ true)
 and-true true t e = (refl, e)
 and-true false t e = let z : _≡_ {A = ℕ} 0 1 = cc in absurd (omega arith)

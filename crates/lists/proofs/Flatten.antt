@@ -41,7 +41,8 @@ module _ {A B : Type 0} (f : A → List B) where
         ∙ ap (λ (l : List A). flatten (map f l)) (take-suc xs i z h)
         ∙ flatten-snoc (take i xs) (getD xs i z)
 
-    pub length-flatten-take : length (flatten (map f (take (i + 1) xs))) ≡ length (flatten (map f (take i xs))) + length (f (getD xs i z))
+    pub length-flatten-take : length (flatten (map f (take (i + 1) xs)))
+        ≡ length (flatten (map f (take i xs))) + length (f (getD xs i z))
     length-flatten-take = ap length flatten-take ∙ length-append (flatten (map f (take i xs))) (f (getD xs i z))
 
     -- a turn of the loop: the part of o from the end of the first i pieces on was lent, and given back as t with the
@@ -56,8 +57,10 @@ module _ {A B : Type 0} (f : A → List B) where
 
 -- ---- pieces of k elements each, read again
 
-module _ {A B : Type 0} (Fit : A → Type 0) (piece : A → List B) (k : ℕ) (read : List B → ℕ → A) (size : (a : A) → Fit a → length (piece a) ≡ k)
-    (back : (before : List B) (a : A) (rest : List B) (at : ℕ) → Fit a → length before ≡ at → read (before ++ (piece a ++ rest)) at ≡ a) where
+module _ {A B : Type 0} (Fit : A → Type 0) (piece : A → List B) (k : ℕ) (read : List B → ℕ → A)
+    (size : (a : A) → Fit a → length (piece a) ≡ k)
+    (back : (before : List B) (a : A) (rest : List B) (at : ℕ) → Fit a → length before ≡ at
+    → read (before ++ (piece a ++ rest)) at ≡ a) where
   -- where one piece is read from its place, each of several is
   pub piece-back : (before : List B) (xs : List A) (rest : List B) (at i : ℕ) (z : A)
       → ((j : ℕ) → j < length xs → Fit (getD xs j z)) → length before ≡ at

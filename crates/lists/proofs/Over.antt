@@ -6,7 +6,8 @@ use native.Mathlib.Decide.{decLt}
 use native.Mathlib.Numerals.{add-one}
 use native.Mathlib.Omega.{arith}
 use lib.ListN.{length, getD, take, drop, set, length-append, length-drop, drop-of-length-le, List·getD-append}
-use lib.Seq.{drop-drop, take-add, take-all, take-at, drop-at, length-take-le, getD-take, getD-drop, getD-append-add, ext-getD, paste, paste-suc}
+use lib.Seq.{drop-drop, take-add, take-all, take-at, drop-at, length-take-le, getD-take, getD-drop, getD-append-add}
+use lib.Seq.{ext-getD, paste, paste-suc}
 use Rattle.lists.specs.Over.{over, overAt}
 use Rattle.lists.specs.Tabulate.{tabulate}
 use Rattle.lists.proofs.Tabulate.{length-tabulate, getD-tabulate, tabulate-ext, tabulate-take}
@@ -64,7 +65,13 @@ module _ {A : Type 0} where
 
     pub length-overAt : length (overAt at s d) ≡ length d
     length-overAt =
-        omega (arith, length-append (take at d) (over s (drop at d)), front, length-over s (drop at d) rest-room, length-drop at d)
+        omega (
+          arith,
+          length-append (take at d) (over s (drop at d)),
+          front,
+          length-over s (drop at d) rest-room,
+          length-drop at d,
+        )
 
     pub getD-overAt-before : (o : ℕ) (z : A) → o < at → getD (overAt at s d) o z ≡ getD d o z
     getD-overAt-before o z h =

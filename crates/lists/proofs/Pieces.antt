@@ -52,7 +52,8 @@ module _ {whole out₀ out : List ℕ} {o : ℕ} (piece rest : List ℕ) (fits :
   written-length : length (take o out ++ piece) ≡ o + length piece
   written-length = omega (arith, length-append (take o out) piece, length-take-le o out (w .room))
 
-  after-piece : PartlyWritten whole rest out₀ ((take o out ++ piece) ++ drop (length piece) (drop o out)) (o + length piece)
+  after-piece : PartlyWritten whole rest out₀ ((take o out ++ piece) ++ drop (length piece) (drop o out))
+      (o + length piece)
   after-piece =
       let left : List ℕ = drop (length piece) (drop o out) in
       let l : length ((take o out ++ piece) ++ left) ≡ length out =
@@ -106,7 +107,11 @@ module _ {a d out : List ℕ} {o : ℕ} (w : Written a d out o) where
   pub written-more : (b last : List ℕ) (n : ℕ) → n ≡ length b → last ≡ over b (take (length out - o) (drop o out))
       → Written (a ++ b) d (putMid o (length out - o) out last) (o + n)
   written-more b last n h e =
-      record { bytes = omega (arith, w .bytes, length-append a b); all = over-append d a b out last o (w .all) (sym (w .bytes)) e }
+      record {
+        bytes = omega (arith, w .bytes, length-append a b);
+        all =
+            over-append d a b out last o (w .all) (sym (w .bytes)) e;
+      }
 
   pub written-then : {b last : List ℕ} {n : ℕ} → Written b (take (length out - o) (drop o out)) last n
       → Written (a ++ b) d (putMid o (length out - o) out last) (o + n)

@@ -21,15 +21,6 @@ unfolding stores
 length-stores zero at v d = refl
 length-stores (suc n) at v d = length-set (stores n at v d) (at n) (v n) ∙ length-stores n at v d
 
--- values that agree below n make the same stores
-pub stores-ext : (n : ℕ) (at v w : ℕ → ℕ) (d : List ℕ) → ((k : ℕ) → k < n → v k ≡ w k)
-    → stores n at v d ≡ stores n at w d
-unfolding stores
-stores-ext zero at v w d e = refl
-stores-ext (suc n) at v w d e =
-    ap (λ (l : List ℕ). set l (at n) (v n)) (stores-ext n at v w d (λ k h. e k (omega arith)))
-    ∙ ap (λ (x : ℕ). set (stores n at w d) (at n) x) (e n (le-refl (suc n)))
-
 -- a place that no store reaches
 pub getD-stores-other : (n : ℕ) (at v : ℕ → ℕ) (d : List ℕ) (o : ℕ) → ((k : ℕ) → k < n → o ≡ at k → ⊥)
     → getD (stores n at v d) o 0 ≡ getD d o 0

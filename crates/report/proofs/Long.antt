@@ -1,11 +1,13 @@
--- A file longer than any picture: a program may stop reading at its first 32,067 bytes, or later.
+-- A file longer than any picture: a program may stop reading at its first `decidingBytes` bytes, or later.
 use mathlib.Core.Path.{_≡_, refl, sym, ap, _∙_}
+use mathlib.Core.Bool.{Bool, true, false}
 use mathlib.Core.List.{List}
 use Prim.Native.Nat.{ℕ, _%_, _≤_, _<_}
 use native.Mathlib.Omega.{arith}
 use lib.ListN.{length, take}
-use lib.Seq.{length-take-le, getD-take}
-use borrow.Author.Tests.{le-ltb}
+use lib.Dec.{leb}
+use lib.Seq.{length-take-le, getD-take, take-all}
+use borrow.Author.Tests.{leb-true, leb-false, le-ltb}
 use Rattle.lists.proofs.Cond.{cond-elim}
 use Rattle.outcome.specs.Outcome.{Outcome, accepted, refuse, bind}
 use Rattle.outcome.specs.Refusal.{wrongLength}
@@ -23,7 +25,7 @@ use Rattle.degas.proofs.Opening.{headerOf}
 use Rattle.degas.proofs.ReadDegas.{raw-length, packed-long, read-fits}
 use Rattle.reader.specs.Reading.{kindDegas, readFile}
 use Rattle.reader.proofs.Choice.{file-degas}
-use Rattle.report.specs.Summary.{summaryText, summary}
+use Rattle.report.specs.Summary.{decidingBytes, summaryText, summary}
 
 module _ (file : List ℕ) (long : eliteLength < length file) where
   opened-long : (h : Header) → readOpened file h ≡ refuse wrongLength
@@ -53,7 +55,7 @@ unfolding wordAt
 first-word file n h = rw (getD-take n file 0 0 (omega arith), getD-take n file 1 0 h)
 
 module _ (file : List ℕ) (n : ℕ) (long : eliteLength < n) (h : n ≤ length file) where
-  -- of such a file the first 32,067 bytes, or more, decide
+  -- of such a file the first n bytes decide
   read-long : readFile kindDegas (take n file) screenBytes ≡ readFile kindDegas file screenBytes
   read-long =
       read-degas-long (take n file) (omega (arith, length-take-le n file h))
@@ -64,3 +66,11 @@ module _ (file : List ℕ) (n : ℕ) (long : eliteLength < n) (h : n ≤ length 
   pub summary-long : summary (take n file) ≡ summary file
   unfolding summary
   summary-long = ap summaryText read-long
+
+-- of every file the first n bytes decide its summary, where n is `decidingBytes` or more
+pub summary-first : (file : List ℕ) (n : ℕ) → decidingBytes ≤ n → summary (take n file) ≡ summary file
+summary-first file n enough = go (leb n (length file)) refl
+  where
+    go : (b : Bool) → leb n (length file) ≡ b → summary (take n file) ≡ summary file
+    go true e = summary-long file n (omega arith) (leb-true n (length file) e)
+    go false e = ap summary (take-all n file (omega (arith, leb-false n (length file) e)))

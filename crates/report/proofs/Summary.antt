@@ -22,6 +22,7 @@ use Rattle.reader.specs.Reading.{kindDegas, readFile}
 use Rattle.reader.proofs.Choice.{file-degas}
 use Rattle.report.specs.Lines.{numberLines, tallyLine, refusalLine}
 use Rattle.report.specs.Summary.{wholeScreen, screenCounts, readingText, summaryText}
+use Rattle.report.specs.Summary.{summarised, summaryAnswer, summaryOutput}
 
 -- ---- the tally of the whole screen
 
@@ -57,3 +58,16 @@ text-accepted (accepted q) sound a area screen size is ok e =
     rw (is, e ∙ over-whole (q .screen) area (omega (arith, sound .size)))
 text-accepted (refused why) sound a area screen size is ok e =
     absurd (sound (sym (ap (λ (r : ReadAnswer). r .refusal .number) is) ∙ ok))
+
+-- ---- a refused summary
+
+-- demand 1: the output is as it was, and the length is 0
+summary-refusal : (o : Outcome (List ℕ)) (out : List ℕ) → (summaryAnswer o .refusal .number ≡ 0 → ⊥)
+    → (summaryOutput o out ≡ out) × (summaryAnswer o .length ≡ 0)
+summary-refusal (accepted text) out h = absurd (h refl)
+summary-refusal (refused why) out h = (refl, refl)
+
+pub summary-refused : (file out : List ℕ) → (summaryAnswer (summarised file (length out)) .refusal .number ≡ 0 → ⊥)
+    → (summaryOutput (summarised file (length out)) out ≡ out)
+    × (summaryAnswer (summarised file (length out)) .length ≡ 0)
+summary-refused file out h = summary-refusal (summarised file (length out)) out h

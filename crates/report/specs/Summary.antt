@@ -1,5 +1,5 @@
 -- The summary of a DEGAS file as text (document 01, "Examples to hold to").
-use Prim.Native.Nat.{ℕ}
+use Prim.Native.Nat.{ℕ, _+_}
 use mathlib.Core.Bool.{cond}
 use mathlib.Core.List.{List, _++_}
 use lib.ListN.{length, replicate}
@@ -15,6 +15,7 @@ use Rattle.resolution.specs.Choice.{chosen}
 use Rattle.tally.specs.declared.Rectangle.{Rectangle}
 use Rattle.tally.specs.Counts.{counts}
 use Rattle.picture.specs.Reading.{Reading}
+use Rattle.degas.specs.Layout.{eliteLength}
 use Rattle.reader.specs.Reading.{kindDegas, readFile}
 use Rattle.report.specs.declared.SummaryAnswer.{SummaryAnswer}
 use Rattle.report.specs.Lines.{numberLines, tallyLine, refusalLine}
@@ -22,6 +23,11 @@ use Rattle.report.specs.Lines.{numberLines, tallyLine, refusalLine}
 -- the bytes that a summary is lent, at least
 abbrev pub summaryBytes : ℕ
 summaryBytes = 512
+
+-- the first bytes of a file that decide its summary, one more than the longest file has (proofs/Long.antt,
+-- `summary-first`)
+abbrev pub decidingBytes : ℕ
+decidingBytes = eliteLength + 1
 
 -- ---- the text
 

@@ -26,6 +26,9 @@ mod text;
 // The bytes that a summary is lent, at least.
 pub const SUMMARY_BYTES: usize = 512;
 
+// The first bytes of a file that decide its summary: one more than the longest file has.
+pub const DECIDING_BYTES: usize = 32067;
+
 // The answer of a summary: the text's length, 0 of a refusal.
 pub struct SummaryAnswer {
     pub refusal: Refusal,

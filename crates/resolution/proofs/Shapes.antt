@@ -1,16 +1,9 @@
 -- Laws of the three shapes, each by its three cases.
-use mathlib.Core.Path.{_≡_, refl}
-use Prim.Native.Nat.{_*_, _≤_, _<_}
+use Prim.Native.Nat.{_≤_, _<_}
 use native.Mathlib.Omega.{arith}
 use Rattle.resolution.specs.declared.Resolution.{Resolution}
 use Rattle.resolution.specs.declared.Resolution.the-variants.{Low, Medium, High}
-use Rattle.resolution.specs.Shapes.{widthOf, heightOf, planesOf, rowBytesOf, lineBytesOf, registersOf}
-
--- one bit a pixel
-pub rowBytes-width : (r : Resolution) → rowBytesOf r * 8 ≡ widthOf r
-rowBytes-width Low = refl
-rowBytes-width Medium = refl
-rowBytes-width High = refl
+use Rattle.resolution.specs.Shapes.{widthOf, heightOf, planesOf, lineBytesOf, registersOf}
 
 -- no shape is empty
 pub planes-pos : (r : Resolution) → 0 < planesOf r

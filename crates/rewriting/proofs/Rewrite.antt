@@ -1,7 +1,7 @@
 -- Change request 12, one packed file per picture: what holds of the rewriting of an accepted packed DEGAS file.
 use mathlib.Core.Path.{_≡_, refl, sym, ap, ap₂, _∙_}
 use mathlib.Core.Logic.{_↔_}
-use mathlib.Core.Bool.{true, false, false≢true}
+use mathlib.Core.Bool.{true, false≢true}
 use mathlib.Core.List.{List, [], _++_}
 use Prim.Native.Nat.{ℕ, _+_, _/_, _%_, _^_, _≤_}
 use native.Mathlib.Omega.{arith}
@@ -14,7 +14,7 @@ use Rattle.lists.proofs.Over.{length-over, getD-over-in}
 use Rattle.lists.proofs.Cond.{cond-ltb}
 use Rattle.outcome.specs.Outcome.{Outcome, accepted, bind, map, later}
 use Rattle.words.specs.Word.{wordAt}
-use Rattle.pack.specs.LeastRows.{leastRows, leastRowsRecords}
+use Rattle.pack.specs.LeastRows.{leastRows}
 use Rattle.raster.specs.PlaneRows.{planeRows}
 use Rattle.raster.proofs.PlaneRows.{planeRows-front}
 use Rattle.resolution.specs.declared.Resolution.{Resolution}
@@ -22,7 +22,7 @@ use Rattle.resolution.specs.Choice.{numberOf}
 use Rattle.resolution.specs.Shapes.{screenBytes, rasterOf}
 use Rattle.resolution.proofs.Choice.{known-le, chosen-number}
 use Rattle.resolution.proofs.Rasters.{raster-bytes}
-use Rattle.bodies.specs.Packing.{leastBody, leastBodyRecords}
+use Rattle.bodies.specs.Packing.{leastBody}
 use Rattle.bodies.proofs.Least.{least-shortest}
 use Rattle.bodies.proofs.Packing.{packed, limit-below}
 use Rattle.picture.specs.declared.Picture.{Picture}
@@ -37,7 +37,7 @@ use Rattle.degas.specs.Opening.{isPacked}
 use Rattle.degas.specs.Reading.{readDegas}
 use Rattle.degas.specs.Writing.{packedWriting, writePacked}
 use Rattle.degas.specs.Accepts as fitting
-use Rattle.degas.specs.Accepts.{PackedFits, Fits, AcceptsDegas, packedGiven, fitsGiven, degasGiven}
+use Rattle.degas.specs.Accepts.{PackedFits, Fits, packedGiven, fitsGiven}
 use Rattle.degas.proofs.Acceptance.{packed-length, degas-acceptance}
 use Rattle.degas.proofs.FileLayout.{header-word, length-packedFile}
 use Rattle.degas.proofs.ReadDegas.{read-fits}
@@ -48,7 +48,8 @@ use Rattle.reader.proofs.Choice.{file-degas}
 use Rattle.writer.specs.Writing.{formPacked, writeFile}
 use Rattle.writer.proofs.Choice.{form-packed}
 use Rattle.demands.proofs.RoundTrips.{written-read}
-use Rattle.rewriting.specs.Rewrite.{Lent, writeRead, rewrite, fileIn, rewritten, ReadsPacked, SamePicture, NeverLonger}
+use Rattle.rewriting.specs.Rewrite.{Lent, writeRead, rewrite, fileIn, rewritten, ReadsPacked, SamePicture}
+use Rattle.rewriting.specs.Rewrite.{NeverLonger}
 
 -- ---- what is written is packed
 
@@ -129,7 +130,9 @@ module _ {file : List ℕ} {r : Resolution} (fits : PackedFits file r) where
       form-packed formPacked picture s out refl
       ∙ write-passed Packed picture s out (record { screen-fits = full; output-fits = enough; known = chosen-number r })
       ∙ ap (map (packedWriting picture))
-      (limit-below (rasterOf r) s bodyLimit (lt-leb bodyLimit (length (leastBody (rasterOf r) s)) (omega (arith, ap length body, least-below, fits .below))))
+      (limit-below (rasterOf r) s bodyLimit
+      (lt-leb bodyLimit (length (leastBody (rasterOf r) s))
+      (omega (arith, ap length body, least-below, fits .below))))
       ∙ rw same
 
   written-screen : writeFile formPacked picture (fits .screen) fileBytes ≡ accepted writing
@@ -224,7 +227,8 @@ picture-is : {file : List ℕ} {q : Reading} → Bytes file → ReadsPacked file
     → q .picture ≡ withTail (q .picture .resolution) (q .picture .palette) (q .picture .tail)
 picture-is bytes f = let e = parts bytes f .gives in rw e refl
 
-module _ {file other : List ℕ} {q s : Reading} (bytes : Bytes file) (others : Bytes other) (f : ReadsPacked file q) (g : ReadsPacked other s)
+module _ {file other : List ℕ} {q s : Reading} (bytes : Bytes file) (others : Bytes other) (f : ReadsPacked file q)
+    (g : ReadsPacked other s)
     (area out area-other out-other : List ℕ) (lent : Lent area out) (lent-other : Lent area-other out-other) where
   -- "two such files have equal rewritings exactly when resolution, palette words, tail words and screen are equal"
   pub equal-exactly : (rewritten area out file ≡ rewritten area-other out-other other) ↔ SamePicture q s

@@ -5,23 +5,8 @@ use borrow.Author.Needs.{needs}
 use Rattle.colour.proofs.colour.Statement.{statement}
 use Rattle.colour.proofs.colour.Tie as tie
 
-from-number-requires : tie.Need-from-number-requires
-from-number-requires c κs = search needs
-
-enum-known-r : tie.Need-enum-known-r
-enum-known-r c = search needs
-
-colour-at-requires : tie.Need-colour-at-requires
-colour-at-requires c κs = search needs
-
 enum-told : tie.Need-enum-told
 enum-told c = search needs
-
-refuse-requires : tie.Need-refuse-requires
-refuse-requires c κs = search needs
-
-colour-refused-requires : tie.Need-colour-refused-requires
-colour-refused-requires c κs = search needs
 
 returns : tie.Need-returns
 unfolding shown
@@ -40,11 +25,11 @@ pub colour-spec : {M : Type 1} → statement M
 colour-spec =
     tie.close
     (tie.spec
-    from-number-requires
-    enum-known-r
-    colour-at-requires
+    (λ c κs. search needs)
+    (λ c. search needs)
+    (λ c κs. search needs)
     enum-told
-    refuse-requires
-    colour-refused-requires
+    (λ c κs. search needs)
+    (λ c κs. search needs)
     returns
     returns-2)

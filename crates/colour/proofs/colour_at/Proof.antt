@@ -11,15 +11,6 @@ use borrow.Author.Needs.{needs}
 use Rattle.colour.proofs.colour_at.Statement.{statement}
 use Rattle.colour.proofs.colour_at.Tie as tie
 
-registers-requires : tie.Need-registers-requires
-registers-requires c κs = search needs
-
-refuse-requires : tie.Need-refuse-requires
-refuse-requires c κs = search needs
-
-colour-refused-requires : tie.Need-colour-refused-requires
-colour-refused-requires c κs = search needs
-
 returns : tie.Need-returns
 unfolding judgeRegister
 returns c =
@@ -33,17 +24,8 @@ enum-told c = search needs
 palette-colour-requires : tie.Need-palette-colour-requires
 palette-colour-requires c κs = omega (arith, registers-le (c .before .before .before .before .args .r))
 
-enum-told-2 : tie.Need-enum-told-2
-enum-told-2 c = search needs
-
 palette-colour-requires-2 : tie.Need-palette-colour-requires-2
 palette-colour-requires-2 c κs = omega (arith, registers-le (c .before .before .before .before .args .r))
-
-enum-told-3 : tie.Need-enum-told-3
-enum-told-3 c = search needs
-
-monochrome-requires : tie.Need-monochrome-requires
-monochrome-requires c κs = search needs
 
 returns-2 : tie.Need-returns-2
 unfolding registerColour
@@ -70,16 +52,16 @@ pub colour-at-spec : {M : Type 1} → statement M
 colour-at-spec =
     tie.close
     (tie.spec
-    registers-requires
-    refuse-requires
-    colour-refused-requires
+    (λ c κs. search needs)
+    (λ c κs. search needs)
+    (λ c κs. search needs)
     returns
     enum-told
     palette-colour-requires
-    enum-told-2
+    (λ c. search needs)
     palette-colour-requires-2
-    enum-told-3
-    monochrome-requires
+    (λ c. search needs)
+    (λ c κs. search needs)
     returns-2
     returns-3
     returns-4)

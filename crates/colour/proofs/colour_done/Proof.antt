@@ -3,11 +3,8 @@ use borrow.Author.Needs.{needs}
 use Rattle.colour.proofs.colour_done.Statement.{statement}
 use Rattle.colour.proofs.colour_done.Tie as tie
 
-none-requires : tie.Need-none-requires
-none-requires c κs = search needs
-
 returns : tie.Need-returns
 returns c = rw (c .none .ensures)
 
 pub colour-done-spec : {M : Type 1} → statement M
-colour-done-spec = tie.close (tie.spec none-requires returns)
+colour-done-spec = tie.close (tie.spec (λ c κs. search needs) returns)

@@ -4,12 +4,9 @@ use borrow.Author.Needs.{needs}
 use Rattle.colour.proofs.field.Statement.{statement}
 use Rattle.colour.proofs.field.Tie as tie
 
-shr-result : tie.Need-shr-result
-shr-result c = search needs
-
 returns : tie.Need-returns
 unfolding field
 returns c = search needs
 
 pub field-spec : {M : Type 1} → statement M
-field-spec = tie.close (tie.spec shr-result returns)
+field-spec = tie.close (tie.spec (λ c. search needs) returns)

@@ -6,9 +6,6 @@ use borrow.Author.Needs.{needs}
 use Rattle.colour.proofs.monochrome.Statement.{statement}
 use Rattle.colour.proofs.monochrome.Tie as tie
 
-colour-done-requires : tie.Need-colour-done-requires
-colour-done-requires c κs = search needs
-
 returns : tie.Need-returns
 returns c =
     c .colour-done .ensures
@@ -18,4 +15,4 @@ returns c =
     (c .before .if1 .came)
 
 pub monochrome-spec : {M : Type 1} → statement M
-monochrome-spec = tie.close (tie.spec colour-done-requires returns)
+monochrome-spec = tie.close (tie.spec (λ c κs. search needs) returns)

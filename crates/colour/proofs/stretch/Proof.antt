@@ -4,15 +4,9 @@ use borrow.Author.Needs.{needs}
 use Rattle.colour.proofs.stretch.Statement.{statement}
 use Rattle.colour.proofs.stretch.Tie as tie
 
-mul-result : tie.Need-mul-result
-mul-result c = search needs
-
-cast-result : tie.Need-cast-result
-cast-result c = search needs
-
 returns : tie.Need-returns
 unfolding stretch
 returns c = search needs
 
 pub stretch-spec : {M : Type 1} → statement M
-stretch-spec = tie.close (tie.spec mul-result cast-result returns)
+stretch-spec = tie.close (tie.spec (λ c. search needs) (λ c. search needs) returns)

@@ -5,11 +5,8 @@ use borrow.Author.Needs.{needs}
 use Rattle.examples.proofs.row_least.Statement.{statement}
 use Rattle.examples.proofs.row_least.Tie as tie
 
-least-len-requires : tie.Need-least-len-requires
-least-len-requires c κs = search needs
-
 returns : tie.Need-returns
 returns c = rw (c .least-len .ensures) (leastLen-bound (now (c .before .before .args .row)))
 
 pub row-least-spec : {M : Type 1} → statement M
-row-least-spec = tie.close (tie.spec least-len-requires returns)
+row-least-spec = tie.close (tie.spec (λ c κs. search needs) returns)

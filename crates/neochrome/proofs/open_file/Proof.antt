@@ -10,19 +10,10 @@ use borrow.Author.Needs.{needs}
 use Rattle.neochrome.proofs.open_file.Statement.{statement}
 use Rattle.neochrome.proofs.open_file.Tie as tie
 
-refuse-requires : tie.Need-refuse-requires
-refuse-requires c κs = search needs
-
 returns : tie.Need-returns
 returns c =
     let file = now (c .before .before .before .args .file) in
     ap Refused (c .refuse .ensures) ∙ sym (ap openedAs (opening-length file (c .before .if1 .taken)))
-
-word-at-requires : tie.Need-word-at-requires
-word-at-requires c κs = search needs
-
-refuse-requires-2 : tie.Need-refuse-requires-2
-refuse-requires-2 c κs = search needs
 
 returns-2 : tie.Need-returns-2
 returns-2 c =
@@ -30,20 +21,8 @@ returns-2 c =
     let w = c .before .before .word-at .ensures in
     ap Refused (c .refuse2 .ensures) ∙ sym (ap openedAs (opening-flag file (omega arith) (omega (arith, w))))
 
-word-at-requires-2 : tie.Need-word-at-requires-2
-word-at-requires-2 c κs = search needs
-
-from-number-requires : tie.Need-from-number-requires
-from-number-requires c κs = search needs
-
-enum-known-r : tie.Need-enum-known-r
-enum-known-r c = search needs
-
 enum-told : tie.Need-enum-told
 enum-told c = search needs
-
-refuse-requires-3 : tie.Need-refuse-requires-3
-refuse-requires-3 c κs = search needs
 
 returns-3 : tie.Need-returns-3
 returns-3 c =
@@ -70,15 +49,15 @@ pub open-file-spec : {M : Type 1} → statement M
 open-file-spec =
     tie.close
     (tie.spec
-    refuse-requires
+    (λ c κs. search needs)
     returns
-    word-at-requires
-    refuse-requires-2
+    (λ c κs. search needs)
+    (λ c κs. search needs)
     returns-2
-    word-at-requires-2
-    from-number-requires
-    enum-known-r
+    (λ c κs. search needs)
+    (λ c κs. search needs)
+    (λ c. search needs)
     enum-told
-    refuse-requires-3
+    (λ c κs. search needs)
     returns-3
     returns-4)

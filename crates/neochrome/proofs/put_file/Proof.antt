@@ -12,22 +12,10 @@ use borrow.Author.Needs.{needs}
 use Rattle.neochrome.proofs.put_file.Statement.{statement}
 use Rattle.neochrome.proofs.put_file.Tie as tie
 
-put-header-requires : tie.Need-put-header-requires
-put-header-requires c κs = search needs
-
 slice-aggregate-copy : tie.Need-slice-aggregate-copy
 slice-aggregate-copy c =
     let a = c .before .before .before .before .before .before .before .args in
     sym (length-take-le screenBytes (a .screen .now) (omega arith))
-
-sub-copy : tie.Need-sub-copy
-sub-copy c = search needs
-
-part-copy-start : tie.Need-part-copy-start
-part-copy-start c = search needs
-
-part-copy-end : tie.Need-part-copy-end
-part-copy-end c = search needs
 
 copy-requires : tie.Need-copy-requires
 copy-requires c κs =
@@ -43,9 +31,6 @@ add-result c =
     let a = h .before .before .before .before .args in
     omega (arith, h .put-header .ensures .1, length-take-le screenBytes (now (a .screen)) (omega arith))
 
-same-length : tie.Need-same-length
-same-length c = search needs
-
 returns : tie.Need-returns
 unfolding neochromeFile
 returns c =
@@ -60,12 +45,12 @@ pub put-file-spec : {M : Type 1} → statement M
 put-file-spec =
     tie.close
     (tie.spec
-    put-header-requires
+    (λ c κs. search needs)
     slice-aggregate-copy
-    sub-copy
-    part-copy-start
-    part-copy-end
+    (λ c. search needs)
+    (λ c. search needs)
+    (λ c. search needs)
     copy-requires
     add-result
-    same-length
+    (λ c. search needs)
     returns)

@@ -11,75 +11,9 @@ use borrow.Author.Needs.{needs}
 use Rattle.neochrome.proofs.put_header.Statement.{statement}
 use Rattle.neochrome.proofs.put_header.Tie as tie
 
-word-bytes-requires : tie.Need-word-bytes-requires
-word-bytes-requires c κs = search needs
-
-word-bytes-requires-2 : tie.Need-word-bytes-requires-2
-word-bytes-requires-2 c κs = search needs
-
-palette-bytes-requires : tie.Need-palette-bytes-requires
-palette-bytes-requires c κs = search needs
-
-slice-aggregate-copy : tie.Need-slice-aggregate-copy
-slice-aggregate-copy c = search needs
-
-copy-requires : tie.Need-copy-requires
-copy-requires c κs = search needs
-
-slice-aggregate-copy-2 : tie.Need-slice-aggregate-copy-2
-slice-aggregate-copy-2 c = search needs
-
-sub-copy : tie.Need-sub-copy
-sub-copy c = search needs
-
-part-copy-start : tie.Need-part-copy-start
-part-copy-start c = search needs
-
-part-copy-end : tie.Need-part-copy-end
-part-copy-end c = search needs
-
-copy-requires-2 : tie.Need-copy-requires-2
-copy-requires-2 c κs = search needs
-
-add-end : tie.Need-add-end
-add-end c = search needs
-
-slice-aggregate-copy-3 : tie.Need-slice-aggregate-copy-3
-slice-aggregate-copy-3 c = search needs
-
-sub-copy-2 : tie.Need-sub-copy-2
-sub-copy-2 c = search needs
-
-part-copy-start-2 : tie.Need-part-copy-start-2
-part-copy-start-2 c = search needs
-
-part-copy-end-2 : tie.Need-part-copy-end-2
-part-copy-end-2 c = search needs
-
-copy-requires-3 : tie.Need-copy-requires-3
-copy-requires-3 c κs = search needs
-
-add-end-2 : tie.Need-add-end-2
-add-end-2 c = search needs
-
-sub-put-middle : tie.Need-sub-put-middle
-sub-put-middle c = search needs
-
-part-put-middle-start : tie.Need-part-put-middle-start
-part-put-middle-start c = search needs
-
-part-put-middle-end : tie.Need-part-put-middle-end
-part-put-middle-end c = search needs
-
-put-middle-requires : tie.Need-put-middle-requires
-put-middle-requires c κs = search needs
-
 add-result : tie.Need-add-result
 unfolding wordBytes
 add-result c = omega (arith, c .before .before .put-middle .ensures .bytes)
-
-same-length : tie.Need-same-length
-same-length c = search needs
 
 returns : tie.Need-returns
 unfolding wordBytes
@@ -111,27 +45,27 @@ pub put-header-spec : {M : Type 1} → statement M
 put-header-spec =
     tie.close
     (tie.spec
-    word-bytes-requires
-    word-bytes-requires-2
-    palette-bytes-requires
-    slice-aggregate-copy
-    copy-requires
-    slice-aggregate-copy-2
-    sub-copy
-    part-copy-start
-    part-copy-end
-    copy-requires-2
-    add-end
-    slice-aggregate-copy-3
-    sub-copy-2
-    part-copy-start-2
-    part-copy-end-2
-    copy-requires-3
-    add-end-2
-    sub-put-middle
-    part-put-middle-start
-    part-put-middle-end
-    put-middle-requires
+    (λ c κs. search needs)
+    (λ c κs. search needs)
+    (λ c κs. search needs)
+    (λ c. search needs)
+    (λ c κs. search needs)
+    (λ c. search needs)
+    (λ c. search needs)
+    (λ c. search needs)
+    (λ c. search needs)
+    (λ c κs. search needs)
+    (λ c. search needs)
+    (λ c. search needs)
+    (λ c. search needs)
+    (λ c. search needs)
+    (λ c. search needs)
+    (λ c κs. search needs)
+    (λ c. search needs)
+    (λ c. search needs)
+    (λ c. search needs)
+    (λ c. search needs)
+    (λ c κs. search needs)
     add-result
-    same-length
+    (λ c. search needs)
     returns)

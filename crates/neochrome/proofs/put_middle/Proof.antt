@@ -10,45 +10,6 @@ use borrow.Author.Needs.{needs}
 use Rattle.neochrome.proofs.put_middle.Statement.{statement}
 use Rattle.neochrome.proofs.put_middle.Tie as tie
 
-array-write-name : tie.Need-array-write-name
-array-write-name c = search needs
-
-slice-aggregate-copy : tie.Need-slice-aggregate-copy
-slice-aggregate-copy c = search needs
-
-copy-requires : tie.Need-copy-requires
-copy-requires c κs = search needs
-
-array-write-rest : tie.Need-array-write-rest
-array-write-rest c = search needs
-
-array-write-rest-2 : tie.Need-array-write-rest-2
-array-write-rest-2 c = search needs
-
-array-write-rest-3 : tie.Need-array-write-rest-3
-array-write-rest-3 c = search needs
-
-slice-aggregate-copy-2 : tie.Need-slice-aggregate-copy-2
-slice-aggregate-copy-2 c = search needs
-
-sub-copy : tie.Need-sub-copy
-sub-copy c = search needs
-
-part-copy-start : tie.Need-part-copy-start
-part-copy-start c = search needs
-
-part-copy-end : tie.Need-part-copy-end
-part-copy-end c = search needs
-
-copy-requires-2 : tie.Need-copy-requires-2
-copy-requires-2 c κs = search needs
-
-add-result : tie.Need-add-result
-add-result c = search needs
-
-same-length : tie.Need-same-length
-same-length c = search needs
-
 returns : tie.Need-returns
 unfolding wordBytes
 returns c =
@@ -64,17 +25,17 @@ pub put-middle-spec : {M : Type 1} → statement M
 put-middle-spec =
     tie.close
     (tie.spec
-    array-write-name
-    slice-aggregate-copy
-    copy-requires
-    array-write-rest
-    array-write-rest-2
-    array-write-rest-3
-    slice-aggregate-copy-2
-    sub-copy
-    part-copy-start
-    part-copy-end
-    copy-requires-2
-    add-result
-    same-length
+    (λ c. search needs)
+    (λ c. search needs)
+    (λ c κs. search needs)
+    (λ c. search needs)
+    (λ c. search needs)
+    (λ c. search needs)
+    (λ c. search needs)
+    (λ c. search needs)
+    (λ c. search needs)
+    (λ c. search needs)
+    (λ c κs. search needs)
+    (λ c. search needs)
+    (λ c. search needs)
     returns)

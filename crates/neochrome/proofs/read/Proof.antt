@@ -13,22 +13,10 @@ use borrow.Author.Needs.{needs}
 use Rattle.neochrome.proofs.read.Statement.{statement}
 use Rattle.neochrome.proofs.read.Tie as tie
 
-refuse-requires : tie.Need-refuse-requires
-refuse-requires c κs = search needs
-
-read-refused-requires : tie.Need-read-refused-requires
-read-refused-requires c κs = search needs
-
 returns : tie.Need-returns
 returns c =
     rw (read-short _ _ (c .before .before .if1 .taken))
     (c .read-refused .ensures ∙ ap (λ (why : Refusal). readAnswer (refused why)) (c .before .refuse .ensures), refl)
-
-open-file-requires : tie.Need-open-file-requires
-open-file-requires c κs = search needs
-
-enum-known-r : tie.Need-enum-known-r
-enum-known-r c = search needs
 
 read-opened-requires : tie.Need-read-opened-requires
 read-opened-requires c κs =
@@ -36,15 +24,6 @@ read-opened-requires c κs =
     let file = now (m .before .before .before .before .before .before .args .file) in
     let e = file-opened (opening file) _ (sym (m .r .given .1) ∙ m .before .before .open-file .ensures) in
     (judged-value (Passes file) (opening file) _ (opening-judged file) e .0 .fits, omega arith)
-
-enum-known-why : tie.Need-enum-known-why
-enum-known-why c = search needs
-
-read-refused-requires-2 : tie.Need-read-refused-requires-2
-read-refused-requires-2 c κs = search needs
-
-same-length : tie.Need-same-length
-same-length c = search needs
 
 returns-2 : tie.Need-returns-2
 returns-2 c =
@@ -64,14 +43,14 @@ pub read-spec : {M : Type 1} → statement M
 read-spec =
     tie.close
     (tie.spec
-    refuse-requires
-    read-refused-requires
+    (λ c κs. search needs)
+    (λ c κs. search needs)
     returns
-    open-file-requires
-    enum-known-r
+    (λ c κs. search needs)
+    (λ c. search needs)
     read-opened-requires
-    enum-known-why
-    read-refused-requires-2
-    same-length
+    (λ c. search needs)
+    (λ c κs. search needs)
+    (λ c. search needs)
     returns-2
     returns-3)

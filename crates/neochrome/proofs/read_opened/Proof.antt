@@ -11,33 +11,6 @@ use borrow.Author.Needs.{needs}
 use Rattle.neochrome.proofs.read_opened.Statement.{statement}
 use Rattle.neochrome.proofs.read_opened.Tie as tie
 
-sub-copy : tie.Need-sub-copy
-sub-copy c = search needs
-
-part-copy-start : tie.Need-part-copy-start
-part-copy-start c = search needs
-
-part-copy-end : tie.Need-part-copy-end
-part-copy-end c = search needs
-
-copy-requires : tie.Need-copy-requires
-copy-requires c κs = search needs
-
-palette-at-requires : tie.Need-palette-at-requires
-palette-at-requires c κs = search needs
-
-number-requires : tie.Need-number-requires
-number-requires c κs = search needs
-
-without-tail-requires : tie.Need-without-tail-requires
-without-tail-requires c κs = search needs
-
-read-done-requires : tie.Need-read-done-requires
-read-done-requires c κs = search needs
-
-same-length : tie.Need-same-length
-same-length c = search needs
-
 returns : tie.Need-returns
 returns c =
     let q = c .before .before .before in
@@ -54,13 +27,13 @@ pub read-opened-spec : {M : Type 1} → statement M
 read-opened-spec =
     tie.close
     (tie.spec
-    sub-copy
-    part-copy-start
-    part-copy-end
-    copy-requires
-    palette-at-requires
-    number-requires
-    without-tail-requires
-    read-done-requires
-    same-length
+    (λ c. search needs)
+    (λ c. search needs)
+    (λ c. search needs)
+    (λ c κs. search needs)
+    (λ c κs. search needs)
+    (λ c κs. search needs)
+    (λ c κs. search needs)
+    (λ c κs. search needs)
+    (λ c. search needs)
     returns)

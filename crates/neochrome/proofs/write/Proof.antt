@@ -8,9 +8,6 @@ use borrow.Author.Needs.{needs}
 use Rattle.neochrome.proofs.write.Statement.{statement}
 use Rattle.neochrome.proofs.write.Tie as tie
 
-judge-writing-requires : tie.Need-judge-writing-requires
-judge-writing-requires c κs = search needs
-
 enum-told : tie.Need-enum-told
 enum-told c = search needs
 
@@ -21,18 +18,6 @@ put-file-requires c κs =
     at-passed (length (now (a .screen))) (length (now (a .out))) (a .picture .resolution) _
     (sym (c .before .enum-told .given .1) ∙ c .before .before .before .judge-writing .ensures) in
     (p .screen-fits, p .output-fits)
-
-write-done-requires : tie.Need-write-done-requires
-write-done-requires c κs = search needs
-
-enum-known-why : tie.Need-enum-known-why
-enum-known-why c = search needs
-
-write-refused-requires : tie.Need-write-refused-requires
-write-refused-requires c κs = search needs
-
-same-length : tie.Need-same-length
-same-length c = search needs
 
 returns : tie.Need-returns
 returns c =
@@ -57,12 +42,12 @@ pub write-spec : {M : Type 1} → statement M
 write-spec =
     tie.close
     (tie.spec
-    judge-writing-requires
+    (λ c κs. search needs)
     enum-told
     put-file-requires
-    write-done-requires
-    enum-known-why
-    write-refused-requires
-    same-length
+    (λ c κs. search needs)
+    (λ c. search needs)
+    (λ c κs. search needs)
+    (λ c. search needs)
     returns
     returns-2)

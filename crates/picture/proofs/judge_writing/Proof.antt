@@ -8,17 +8,11 @@ use borrow.Author.Needs.{needs}
 use Rattle.picture.proofs.judge_writing.Statement.{statement}
 use Rattle.picture.proofs.judge_writing.Tie as tie
 
-refuse-requires : tie.Need-refuse-requires
-refuse-requires c κs = search needs
-
 returns : tie.Need-returns
 returns c =
     let a = c .before .before .args in
     ap Refused (c .refuse .ensures)
     ∙ sym (ap writableAs (judge-screen (a .screen) (a .out) (a .resolution) (omega arith)))
-
-refuse-requires-2 : tie.Need-refuse-requires-2
-refuse-requires-2 c κs = search needs
 
 returns-2 : tie.Need-returns-2
 returns-2 c =
@@ -26,17 +20,8 @@ returns-2 c =
     ap Refused (c .refuse2 .ensures)
     ∙ sym (ap writableAs (judge-output (a .screen) (a .out) (a .resolution) (omega arith) (omega arith)))
 
-from-number-requires : tie.Need-from-number-requires
-from-number-requires c κs = search needs
-
-enum-known-r : tie.Need-enum-known-r
-enum-known-r c = search needs
-
 enum-told : tie.Need-enum-told
 enum-told c = search needs
-
-refuse-requires-3 : tie.Need-refuse-requires-3
-refuse-requires-3 c κs = search needs
 
 returns-3 : tie.Need-returns-3
 returns-3 c =
@@ -59,13 +44,13 @@ pub judge-writing-spec : {M : Type 1} → statement M
 judge-writing-spec =
     tie.close
     (tie.spec
-    refuse-requires
+    (λ c κs. search needs)
     returns
-    refuse-requires-2
+    (λ c κs. search needs)
     returns-2
-    from-number-requires
-    enum-known-r
+    (λ c κs. search needs)
+    (λ c. search needs)
     enum-told
-    refuse-requires-3
+    (λ c κs. search needs)
     returns-3
     returns-4)

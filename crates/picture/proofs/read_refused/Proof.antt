@@ -3,11 +3,8 @@ use borrow.Author.Needs.{needs}
 use Rattle.picture.proofs.read_refused.Statement.{statement}
 use Rattle.picture.proofs.read_refused.Tie as tie
 
-without-tail-requires : tie.Need-without-tail-requires
-without-tail-requires c κs = search needs
-
 returns : tie.Need-returns
 returns c = simp (c .without-tail .ensures)
 
 pub read-refused-spec : {M : Type 1} → statement M
-read-refused-spec = tie.close (tie.spec without-tail-requires returns)
+read-refused-spec = tie.close (tie.spec (λ c κs. search needs) returns)

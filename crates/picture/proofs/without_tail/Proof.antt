@@ -3,11 +3,8 @@ use borrow.Author.Needs.{needs}
 use Rattle.picture.proofs.without_tail.Statement.{statement}
 use Rattle.picture.proofs.without_tail.Tie as tie
 
-hold-requires : tie.Need-hold-requires
-hold-requires c κs = search needs
-
 returns : tie.Need-returns
 returns c = simp (c .hold .ensures)
 
 pub without-tail-spec : {M : Type 1} → statement M
-without-tail-spec = tie.close (tie.spec hold-requires returns)
+without-tail-spec = tie.close (tie.spec (λ c κs. search needs) returns)

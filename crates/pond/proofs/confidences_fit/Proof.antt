@@ -20,9 +20,6 @@ abbrev μ-loop : tie.MeasureT-loop
 loop-holds : tie.Need-loop-holds Inv-loop μ-loop
 loop-holds c = (search needs, allFirst-start confidenceFits _)
 
-array-read-if1 : tie.Need-array-read-if1 Inv-loop μ-loop
-array-read-if1 c = search needs
-
 add-v : tie.Need-add-v Inv-loop μ-loop
 add-v c = omega arith
 
@@ -48,4 +45,4 @@ returns c =
 pub confidences-fit-spec : {M : Type 1} → statement M
 confidences-fit-spec =
     tie.close
-    (tie.spec Inv-loop μ-loop loop-holds array-read-if1 add-v loop-less loop-again returns)
+    (tie.spec Inv-loop μ-loop loop-holds (λ c. search needs) add-v loop-less loop-again returns)

@@ -7,15 +7,9 @@ use borrow.Author.Needs.{needs}
 use Rattle.pond.proofs.entry_counts.Statement.{statement}
 use Rattle.pond.proofs.entry_counts.Tie as tie
 
-array-read-if1 : tie.Need-array-read-if1
-array-read-if1 c = search needs
-
 returns : tie.Need-returns
 unfolding entryCounts isSure isUnsure isOther
 returns c = simp (ne-eqb _ _ (c .if1 .taken), zero-mul, one-mul)
-
-array-read-if2 : tie.Need-array-read-if2
-array-read-if2 c = search needs
 
 returns-2 : tie.Need-returns-2
 unfolding entryCounts isSure isUnsure isOther
@@ -26,4 +20,4 @@ unfolding entryCounts isSure isUnsure isOther
 returns-3 c = simp (eq-eqb _ _ (c .before .if1 .left), lt-leb _ _ (c .if2 .left), zero-mul, one-mul)
 
 pub entry-counts-spec : {M : Type 1} → statement M
-entry-counts-spec = tie.close (tie.spec array-read-if1 returns array-read-if2 returns-2 returns-3)
+entry-counts-spec = tie.close (tie.spec (λ c. search needs) returns (λ c. search needs) returns-2 returns-3)

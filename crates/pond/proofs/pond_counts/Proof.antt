@@ -30,9 +30,6 @@ loop-holds c = (c .pre, search needs, refl, refl, refl)
 mul-entry-counts : tie.Need-mul-entry-counts Inv-loop μ-loop
 mul-entry-counts c = omega arith
 
-array-read-entry-counts : tie.Need-array-read-entry-counts Inv-loop μ-loop
-array-read-entry-counts c = search needs
-
 entry-counts-requires : tie.Need-entry-counts-requires Inv-loop μ-loop
 entry-counts-requires c κs = omega arith
 
@@ -94,7 +91,7 @@ pond-counts-spec =
     μ-loop
     loop-holds
     mul-entry-counts
-    array-read-entry-counts
+    (λ c. search needs)
     entry-counts-requires
     add-sure
     add-unsure

@@ -18,22 +18,10 @@ by-tally d =
     rw (d .tally .ensures)
     (pond-determined (now (a .screen)) (a .resolution) (a .rectangle) (a .class) (a .floor) (a .legend))
 
-tally-requires : tie.Need-tally-requires
-tally-requires c κs = search needs
-
-pond-refused-requires : tie.Need-pond-refused-requires
-pond-refused-requires c κs = search needs
-
 returns : tie.Need-returns
 returns c =
     let i = c .before in
     rw (by-tally (i .before .before .before), ne-eqb _ _ (i .if1 .taken)) (c .pond-refused .ensures)
-
-refuse-requires : tie.Need-refuse-requires
-refuse-requires c κs = search needs
-
-pond-refused-requires-2 : tie.Need-pond-refused-requires-2
-pond-refused-requires-2 c κs = search needs
 
 returns-2 : tie.Need-returns-2
 returns-2 c =
@@ -41,15 +29,6 @@ returns-2 c =
     let i = f .before in
     rw (by-tally (i .before .before .before), eq-eqb _ _ (i .if1 .left), lt-leb _ _ (f .if2 .taken))
     (c .pond-refused2 .ensures ∙ rw (c .before .refuse .ensures))
-
-confidences-fit-requires : tie.Need-confidences-fit-requires
-confidences-fit-requires c κs = search needs
-
-refuse-requires-2 : tie.Need-refuse-requires-2
-refuse-requires-2 c κs = search needs
-
-pond-refused-requires-3 : tie.Need-pond-refused-requires-3
-pond-refused-requires-3 c κs = search needs
 
 returns-3 : tie.Need-returns-3
 returns-3 c =
@@ -71,9 +50,6 @@ pond-counts-requires c κs =
     let a = t .before .before .args in
     rw (t .tally .ensures) (tally-le (now (a .screen)) (a .resolution) (a .rectangle))
 
-none-requires : tie.Need-none-requires
-none-requires c κs = search needs
-
 returns-4 : tie.Need-returns-4
 returns-4 c =
     let n = c .before in
@@ -94,16 +70,16 @@ pub read-pond-spec : {M : Type 1} → statement M
 read-pond-spec =
     tie.close
     (tie.spec
-    tally-requires
-    pond-refused-requires
+    (λ c κs. search needs)
+    (λ c κs. search needs)
     returns
-    refuse-requires
-    pond-refused-requires-2
+    (λ c κs. search needs)
+    (λ c κs. search needs)
     returns-2
-    confidences-fit-requires
-    refuse-requires-2
-    pond-refused-requires-3
+    (λ c κs. search needs)
+    (λ c κs. search needs)
+    (λ c κs. search needs)
     returns-3
     pond-counts-requires
-    none-requires
+    (λ c κs. search needs)
     returns-4)

@@ -9,44 +9,20 @@ use borrow.Author.Needs.{needs}
 use Rattle.reader.proofs.read.Statement.{statement}
 use Rattle.reader.proofs.read.Tie as tie
 
-read-requires : tie.Need-read-requires
-read-requires c κs = search needs
-
-same-length : tie.Need-same-length
-same-length c = search needs
-
 returns : tie.Need-returns
 returns c =
     let d = c .before .before in
     rw (file-degas _ _ _ (d .before .before .if1 .taken)) (d .read .ensures)
-
-read-requires-2 : tie.Need-read-requires-2
-read-requires-2 c κs = search needs
-
-same-length-2 : tie.Need-same-length-2
-same-length-2 c = search needs
 
 returns-2 : tie.Need-returns-2
 returns-2 c =
     let d = c .before .before in
     rw (file-neochrome _ _ _ (d .before .before .if2 .taken)) (d .read2 .ensures)
 
-read-requires-3 : tie.Need-read-requires-3
-read-requires-3 c κs = search needs
-
-same-length-3 : tie.Need-same-length-3
-same-length-3 c = search needs
-
 returns-3 : tie.Need-returns-3
 returns-3 c =
     let d = c .before .before in
     rw (file-tiny _ _ _ (d .before .before .if3 .taken)) (d .read3 .ensures)
-
-refuse-requires : tie.Need-refuse-requires
-refuse-requires c κs = search needs
-
-read-refused-requires : tie.Need-read-refused-requires
-read-refused-requires c κs = search needs
 
 returns-4 : tie.Need-returns-4
 returns-4 c =
@@ -56,12 +32,6 @@ returns-4 c =
       area-short _ _ (t .if4 .taken),
     )
     (c .read-refused .ensures ∙ ap (λ (why : Refusal). readAnswer (refused why)) (c .before .refuse .ensures), refl)
-
-refuse-requires-2 : tie.Need-refuse-requires-2
-refuse-requires-2 c κs = search needs
-
-read-refused-requires-2 : tie.Need-read-refused-requires-2
-read-refused-requires-2 c κs = search needs
 
 returns-5 : tie.Need-returns-5
 returns-5 c =
@@ -76,18 +46,18 @@ pub read-spec : {M : Type 1} → statement M
 read-spec =
     tie.close
     (tie.spec
-    read-requires
-    same-length
+    (λ c κs. search needs)
+    (λ c. search needs)
     returns
-    read-requires-2
-    same-length-2
+    (λ c κs. search needs)
+    (λ c. search needs)
     returns-2
-    read-requires-3
-    same-length-3
+    (λ c κs. search needs)
+    (λ c. search needs)
     returns-3
-    refuse-requires
-    read-refused-requires
+    (λ c κs. search needs)
+    (λ c κs. search needs)
     returns-4
-    refuse-requires-2
-    read-refused-requires-2
+    (λ c κs. search needs)
+    (λ c κs. search needs)
     returns-5)

@@ -14,18 +14,6 @@ use borrow.Author.Needs.{needs}
 use Rattle.report.proofs.put_summary.Statement.{statement}
 use Rattle.report.proofs.put_summary.Tie as tie
 
-slice-aggregate-read : tie.Need-slice-aggregate-read
-slice-aggregate-read c = search needs
-
-read-requires : tie.Need-read-requires
-read-requires c κs = search needs
-
-put-refusal-requires : tie.Need-put-refusal-requires
-put-refusal-requires c κs = search needs
-
-same-length : tie.Need-same-length
-same-length c = search needs
-
 returns : tie.Need-returns
 unfolding summary
 returns c =
@@ -36,21 +24,6 @@ returns c =
     let q = j .read .result in
     let e = text-refused (readFile kindDegas file screenBytes) q (j .read .ensures .0) (i .if1 .taken) in
     (written-as (summary file) e (p .put-refusal .ensures .0), omega (arith, p .put-refusal .ensures .1))
-
-slice-aggregate-screen-counts : tie.Need-slice-aggregate-screen-counts
-slice-aggregate-screen-counts c = search needs
-
-screen-counts-requires : tie.Need-screen-counts-requires
-screen-counts-requires c κs = search needs
-
-tail-number-requires : tie.Need-tail-number-requires
-tail-number-requires c κs = search needs
-
-put-reading-requires : tie.Need-put-reading-requires
-put-reading-requires c κs = search needs
-
-same-length-2 : tie.Need-same-length-2
-same-length-2 c = search needs
 
 returns-2 : tie.Need-returns-2
 unfolding summary
@@ -73,14 +46,14 @@ pub put-summary-spec : {M : Type 1} → statement M
 put-summary-spec =
     tie.close
     (tie.spec
-    slice-aggregate-read
-    read-requires
-    put-refusal-requires
-    same-length
+    (λ c. search needs)
+    (λ c κs. search needs)
+    (λ c κs. search needs)
+    (λ c. search needs)
     returns
-    slice-aggregate-screen-counts
-    screen-counts-requires
-    tail-number-requires
-    put-reading-requires
-    same-length-2
+    (λ c. search needs)
+    (λ c κs. search needs)
+    (λ c κs. search needs)
+    (λ c κs. search needs)
+    (λ c. search needs)
     returns-2)

@@ -4,12 +4,6 @@ use borrow.Author.Needs.{needs}
 use Rattle.report.proofs.screen_counts.Statement.{statement}
 use Rattle.report.proofs.screen_counts.Tie as tie
 
-from-number-requires : tie.Need-from-number-requires
-from-number-requires c κs = search needs
-
-enum-known-r : tie.Need-enum-known-r
-enum-known-r c = search needs
-
 whole-counts-requires : tie.Need-whole-counts-requires
 whole-counts-requires c κs =
     (search needs, sym (c .before .before .before .from-number .ensures) ∙ c .before .r .given .1)
@@ -28,4 +22,4 @@ returns-2 c = rw (sym (c .before .before .from-number .ensures) ∙ c .enum-told
 pub screen-counts-spec : {M : Type 1} → statement M
 screen-counts-spec =
     tie.close
-    (tie.spec from-number-requires enum-known-r whole-counts-requires enum-told returns returns-2)
+    (tie.spec (λ c κs. search needs) (λ c. search needs) whole-counts-requires enum-told returns returns-2)

@@ -10,12 +10,6 @@ use borrow.Author.Needs.{needs}
 use Rattle.report.proofs.summarise.Statement.{statement}
 use Rattle.report.proofs.summarise.Tie as tie
 
-refuse-requires : tie.Need-refuse-requires
-refuse-requires c κs = search needs
-
-summary-refused-requires : tie.Need-summary-refused-requires
-summary-refused-requires c κs = search needs
-
 returns : tie.Need-returns
 unfolding summarised
 returns c =
@@ -23,15 +17,6 @@ returns c =
     let out = i .before .before .before .args .out .now in
     rw (c .summary-refused .ensures, c .before .refuse .ensures)
     (simp (lt-ltb (length out) summaryBytes (omega arith)) (refl, (refl, (omega arith, refl))))
-
-put-summary-requires : tie.Need-put-summary-requires
-put-summary-requires c κs = search needs
-
-none-requires : tie.Need-none-requires
-none-requires c κs = search needs
-
-same-length : tie.Need-same-length
-same-length c = search needs
 
 returns-2 : tie.Need-returns-2
 unfolding summarised
@@ -48,10 +33,10 @@ pub summarise-spec : {M : Type 1} → statement M
 summarise-spec =
     tie.close
     (tie.spec
-    refuse-requires
-    summary-refused-requires
+    (λ c κs. search needs)
+    (λ c κs. search needs)
     returns
-    put-summary-requires
-    none-requires
-    same-length
+    (λ c κs. search needs)
+    (λ c κs. search needs)
+    (λ c. search needs)
     returns-2)

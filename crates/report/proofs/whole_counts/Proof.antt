@@ -7,15 +7,6 @@ use borrow.Author.Needs.{needs}
 use Rattle.report.proofs.whole_counts.Statement.{statement}
 use Rattle.report.proofs.whole_counts.Tie as tie
 
-width-requires : tie.Need-width-requires
-width-requires c κs = search needs
-
-height-requires : tie.Need-height-requires
-height-requires c κs = search needs
-
-tally-requires : tie.Need-tally-requires
-tally-requires c κs = search needs
-
 returns : tie.Need-returns
 returns c =
     let t = c .before in
@@ -26,4 +17,4 @@ returns c =
     ∙ tallied-whole (now (a .screen)) (a .resolution) (a .r) (start .pre .0) (start .pre .1)
 
 pub whole-counts-spec : {M : Type 1} → statement M
-whole-counts-spec = tie.close (tie.spec width-requires height-requires tally-requires returns)
+whole-counts-spec = tie.close (tie.spec (λ c κs. search needs) (λ c κs. search needs) (λ c κs. search needs) returns)

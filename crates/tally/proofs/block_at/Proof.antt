@@ -5,27 +5,12 @@ use borrow.Author.Needs.{needs}
 use Rattle.tally.proofs.block_at.Statement.{statement}
 use Rattle.tally.proofs.block_at.Tie as tie
 
-mul-stride : tie.Need-mul-stride
-mul-stride c = search needs
-
-plane-block-requires : tie.Need-plane-block-requires
-plane-block-requires c κs = search needs
-
-add-present-block : tie.Need-add-present-block
-add-present-block c = search needs
-
 present-block-requires : tie.Need-present-block-requires
 present-block-requires c κs = (omega arith, λ e. omega (arith, ltb-true 1 (c .before .before .args .planes) e))
-
-add-present-block-2 : tie.Need-add-present-block-2
-add-present-block-2 c = search needs
 
 present-block-requires-2 : tie.Need-present-block-requires-2
 present-block-requires-2 c κs =
     (omega arith, λ e. omega (arith, ltb-true 2 (c .before .before .before .args .planes) e))
-
-add-present-block-3 : tie.Need-add-present-block-3
-add-present-block-3 c = search needs
 
 present-block-requires-3 : tie.Need-present-block-requires-3
 present-block-requires-3 c κs =
@@ -45,12 +30,12 @@ pub block-at-spec : {M : Type 1} → statement M
 block-at-spec =
     tie.close
     (tie.spec
-    mul-stride
-    plane-block-requires
-    add-present-block
+    (λ c. search needs)
+    (λ c κs. search needs)
+    (λ c. search needs)
     present-block-requires
-    add-present-block-2
+    (λ c. search needs)
     present-block-requires-2
-    add-present-block-3
+    (λ c. search needs)
     present-block-requires-3
     returns)

@@ -7,18 +7,6 @@ use borrow.Author.Needs.{needs}
 use Rattle.tally.proofs.count_block.Statement.{statement}
 use Rattle.tally.proofs.count_block.Tie as tie
 
-part-digits-requires : tie.Need-part-digits-requires
-part-digits-requires c κs = search needs
-
-register-sets-requires : tie.Need-register-sets-requires
-register-sets-requires c κs = search needs
-
-slice-aggregate-count-sets : tie.Need-slice-aggregate-count-sets
-slice-aggregate-count-sets c = search needs
-
-count-sets-requires : tie.Need-count-sets-requires
-count-sets-requires c κs = search needs
-
 returns : tie.Need-returns
 returns c =
     let s = c .before .before .before in
@@ -33,8 +21,8 @@ pub count-block-spec : {M : Type 1} → statement M
 count-block-spec =
     tie.close
     (tie.spec
-    part-digits-requires
-    register-sets-requires
-    slice-aggregate-count-sets
-    count-sets-requires
+    (λ c κs. search needs)
+    (λ c κs. search needs)
+    (λ c. search needs)
+    (λ c κs. search needs)
     returns)

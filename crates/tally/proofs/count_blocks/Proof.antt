@@ -42,9 +42,6 @@ sub-lesser c = omega arith
 sub-lesser-2 : tie.Need-sub-lesser-2 Inv-loop μ-loop
 sub-lesser-2 c = omega arith
 
-lesser-requires : tie.Need-lesser-requires Inv-loop μ-loop
-lesser-requires c κs = search needs
-
 mul-count-part : tie.Need-mul-count-part Inv-loop μ-loop
 mul-count-part c = omega arith
 
@@ -134,7 +131,7 @@ count-blocks-spec =
     add-x
     sub-lesser
     sub-lesser-2
-    lesser-requires
+    (λ c κs. search needs)
     mul-count-part
     mul-count-part-2
     add-count-part

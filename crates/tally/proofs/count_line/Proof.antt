@@ -11,12 +11,6 @@ use Rattle.tally.proofs.Counts.{counted-ext}
 use Rattle.tally.proofs.count_line.Statement.{statement}
 use Rattle.tally.proofs.count_line.Tie as tie
 
-line-bytes-requires : tie.Need-line-bytes-requires
-line-bytes-requires c κs = search needs
-
-planes-requires : tie.Need-planes-requires
-planes-requires c κs = search needs
-
 mul-count-blocks : tie.Need-mul-count-blocks
 mul-count-blocks c =
     let a = c .before .before .before .before .args in
@@ -46,4 +40,4 @@ returns c =
 pub count-line-spec : {M : Type 1} → statement M
 count-line-spec =
     tie.close
-    (tie.spec line-bytes-requires planes-requires mul-count-blocks count-blocks-requires returns)
+    (tie.spec (λ c κs. search needs) (λ c κs. search needs) mul-count-blocks count-blocks-requires returns)

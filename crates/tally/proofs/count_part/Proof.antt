@@ -24,12 +24,6 @@ module _ (s : List ℕ) (at planes : ℕ) where
       → blockOf p q ≡ blockAt s at planes
   two-planes p q e is also = ap₂ (λ (m n : ℕ). blockOf m n) is also ∙ ap (λ (n : ℕ). blockAt s at n) (sym e)
 
-plane-block-requires : tie.Need-plane-block-requires
-plane-block-requires c κs = search needs
-
-count-one-requires : tie.Need-count-one-requires
-count-one-requires c κs = search needs
-
 returns : tie.Need-returns
 returns c =
     let q = c .before in
@@ -37,18 +31,6 @@ returns c =
     c .count-one .ensures
     ∙ ap (counted-in (now (a .counts)) (a .m) (a .t))
     (one-plane (now (a .screen)) (a .at) (a .planes) _ (omega arith) (q .plane-block .ensures))
-
-plane-block-requires-2 : tie.Need-plane-block-requires-2
-plane-block-requires-2 c κs = search needs
-
-add-plane-block : tie.Need-add-plane-block
-add-plane-block c = search needs
-
-plane-block-requires-3 : tie.Need-plane-block-requires-3
-plane-block-requires-3 c κs = search needs
-
-count-two-requires : tie.Need-count-two-requires
-count-two-requires c κs = search needs
 
 returns-2 : tie.Need-returns-2
 returns-2 c =
@@ -60,12 +42,6 @@ returns-2 c =
     (two-planes (now (a .screen)) (a .at) (a .planes) _ _ (omega arith)
     (p .plane-block2 .ensures) (q .plane-block3 .ensures))
 
-block-at-requires : tie.Need-block-at-requires
-block-at-requires c κs = search needs
-
-count-block-requires : tie.Need-count-block-requires
-count-block-requires c κs = search needs
-
 returns-3 : tie.Need-returns-3
 returns-3 c =
     let q = c .before in
@@ -76,14 +52,14 @@ pub count-part-spec : {M : Type 1} → statement M
 count-part-spec =
     tie.close
     (tie.spec
-    plane-block-requires
-    count-one-requires
+    (λ c κs. search needs)
+    (λ c κs. search needs)
     returns
-    plane-block-requires-2
-    add-plane-block
-    plane-block-requires-3
-    count-two-requires
+    (λ c κs. search needs)
+    (λ c. search needs)
+    (λ c κs. search needs)
+    (λ c κs. search needs)
     returns-2
-    block-at-requires
-    count-block-requires
+    (λ c κs. search needs)
+    (λ c κs. search needs)
     returns-3)

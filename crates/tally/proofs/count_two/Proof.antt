@@ -9,15 +9,6 @@ use Rattle.tally.proofs.Blocks.{counted-block, below-4}
 use Rattle.tally.proofs.count_two.Statement.{statement}
 use Rattle.tally.proofs.count_two.Tie as tie
 
-part-digits-requires : tie.Need-part-digits-requires
-part-digits-requires c κs = search needs
-
-slice-aggregate-count-sets : tie.Need-slice-aggregate-count-sets
-slice-aggregate-count-sets c = search needs
-
-count-sets-requires : tie.Need-count-sets-requires
-count-sets-requires c κs = search needs
-
 returns : tie.Need-returns
 unfolding tabulate registerSet
 returns c =
@@ -30,4 +21,4 @@ returns c =
 pub count-two-spec : {M : Type 1} → statement M
 count-two-spec =
     tie.close
-    (tie.spec part-digits-requires slice-aggregate-count-sets count-sets-requires returns)
+    (tie.spec (λ c κs. search needs) (λ c. search needs) (λ c κs. search needs) returns)

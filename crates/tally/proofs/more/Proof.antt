@@ -8,8 +8,5 @@ use Rattle.tally.proofs.more.Tie as tie
 add-result : tie.Need-add-result
 add-result c = omega (arith, ones-le 64 (c .args .x) (omega arith))
 
-returns : tie.Need-returns
-returns c = search needs
-
 pub more-spec : {M : Type 1} → statement M
-more-spec = tie.close (tie.spec add-result returns)
+more-spec = tie.close (tie.spec add-result (λ c. search needs))

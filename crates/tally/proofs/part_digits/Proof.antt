@@ -7,15 +7,6 @@ use borrow.Author.Needs.{needs}
 use Rattle.tally.proofs.part_digits.Statement.{statement}
 use Rattle.tally.proofs.part_digits.Tie as tie
 
-sub-result : tie.Need-sub-result
-sub-result c = search needs
-
-shr-result : tie.Need-shr-result
-shr-result c = search needs
-
-shl-result : tie.Need-shl-result
-shl-result c = search needs
-
 -- the m highest of 64 digits that are all set
 all-high : (m n : ℕ) → (2 ^ (m + n) - 1) / 2 ^ n ≡ 2 ^ m - 1
 all-high m n = ap (λ (i : ℕ). i / 2 ^ n) (ones-split m n) ∙ high (2 ^ m - 1) n (ones-lt n)
@@ -32,4 +23,4 @@ returns : tie.Need-returns
 returns c = digits (c .args .m) (c .args .t) (omega arith)
 
 pub part-digits-spec : {M : Type 1} → statement M
-part-digits-spec = tie.close (tie.spec sub-result shr-result shl-result returns)
+part-digits-spec = tie.close (tie.spec (λ c. search needs) (λ c. search needs) (λ c. search needs) returns)

@@ -9,8 +9,5 @@ plane-block-requires c κs = (c .before .before .pre .1 (c .if1 .taken), c .befo
 returns : tie.Need-returns
 returns c = rw (c .before .if1 .taken) (c .plane-block .ensures)
 
-returns-2 : tie.Need-returns-2
-returns-2 c = search needs
-
 pub present-block-spec : {M : Type 1} → statement M
-present-block-spec = tie.close (tie.spec plane-block-requires returns returns-2)
+present-block-spec = tie.close (tie.spec plane-block-requires returns (λ c. search needs))

@@ -5,23 +5,11 @@ use borrow.Author.Tests.{not-true, not-false}
 use Rattle.tally.proofs.rectangle_fits.Statement.{statement}
 use Rattle.tally.proofs.rectangle_fits.Tie as tie
 
-width-requires : tie.Need-width-requires
-width-requires c κs = search needs
-
-within-requires : tie.Need-within-requires
-within-requires c κs = search needs
-
 returns : tie.Need-returns
 returns c =
     let w = c .before in
     let across = rw (w .before .width .ensures) at (w .within .ensures) in
     rw (sym across ∙ not-true (w .within .result) (c .if1 .taken))
-
-height-requires : tie.Need-height-requires
-height-requires c κs = search needs
-
-within-requires-2 : tie.Need-within-requires-2
-within-requires-2 c κs = search needs
 
 returns-2 : tie.Need-returns-2
 returns-2 c =
@@ -34,4 +22,5 @@ returns-2 c =
 pub rectangle-fits-spec : {M : Type 1} → statement M
 rectangle-fits-spec =
     tie.close
-    (tie.spec width-requires within-requires returns height-requires within-requires-2 returns-2)
+    (tie.spec (λ c κs. search needs) (λ c κs. search needs) returns (λ c κs. search needs)
+    (λ c κs. search needs) returns-2)

@@ -10,12 +10,6 @@ use borrow.Author.Needs.{needs}
 use Rattle.writer.proofs.refuse_form.Statement.{statement}
 use Rattle.writer.proofs.refuse_form.Tie as tie
 
-refuse-requires : tie.Need-refuse-requires
-refuse-requires c κs = search needs
-
-write-refused-requires : tie.Need-write-refused-requires
-write-refused-requires c κs = search needs
-
 returns : tie.Need-returns
 returns c =
     let a = c .before .before .before .args in
@@ -23,24 +17,12 @@ returns c =
     ∙ ap (λ (why : Refusal). writeAnswer (refused why)) (c .before .refuse .ensures)
     ∙ sym (ap writeAnswer (areas-screen (a .screen) (a .out) (refuse unknownKind) (omega arith)))
 
-refuse-requires-2 : tie.Need-refuse-requires-2
-refuse-requires-2 c κs = search needs
-
-write-refused-requires-2 : tie.Need-write-refused-requires-2
-write-refused-requires-2 c κs = search needs
-
 returns-2 : tie.Need-returns-2
 returns-2 c =
     let a = c .before .before .before .before .args in
     c .write-refused2 .ensures
     ∙ ap (λ (why : Refusal). writeAnswer (refused why)) (c .before .refuse2 .ensures)
     ∙ sym (ap writeAnswer (areas-output (a .screen) (a .out) (refuse unknownKind) (omega arith) (omega arith)))
-
-refuse-requires-3 : tie.Need-refuse-requires-3
-refuse-requires-3 c κs = search needs
-
-write-refused-requires-3 : tie.Need-write-refused-requires-3
-write-refused-requires-3 c κs = search needs
 
 returns-3 : tie.Need-returns-3
 returns-3 c =
@@ -53,12 +35,12 @@ pub refuse-form-spec : {M : Type 1} → statement M
 refuse-form-spec =
     tie.close
     (tie.spec
-    refuse-requires
-    write-refused-requires
+    (λ c κs. search needs)
+    (λ c κs. search needs)
     returns
-    refuse-requires-2
-    write-refused-requires-2
+    (λ c κs. search needs)
+    (λ c κs. search needs)
     returns-2
-    refuse-requires-3
-    write-refused-requires-3
+    (λ c κs. search needs)
+    (λ c κs. search needs)
     returns-3)

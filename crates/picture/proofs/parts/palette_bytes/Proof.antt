@@ -12,15 +12,6 @@ use borrow.Author.Needs.{needs}
 use Rattle.picture.proofs.parts.palette_bytes.Statement.{statement}
 use Rattle.picture.proofs.parts.palette_bytes.Tie as tie
 
-slice-aggregate-put-words : tie.Need-slice-aggregate-put-words
-slice-aggregate-put-words c = search needs
-
-slice-aggregate-put-words-2 : tie.Need-slice-aggregate-put-words-2
-slice-aggregate-put-words-2 c = search needs
-
-put-words-requires : tie.Need-put-words-requires
-put-words-requires c κs = search needs
-
 returns : tie.Need-returns
 returns c =
     let a = c .before .before .before .before .args in
@@ -32,4 +23,4 @@ returns c =
 pub palette-bytes-spec : {M : Type 1} → statement M
 palette-bytes-spec =
     tie.close
-    (tie.spec slice-aggregate-put-words slice-aggregate-put-words-2 put-words-requires returns)
+    (tie.spec (λ c. search needs) (λ c. search needs) (λ c κs. search needs) returns)

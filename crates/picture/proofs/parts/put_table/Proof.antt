@@ -12,15 +12,6 @@ use borrow.Author.Needs.{needs}
 use Rattle.picture.proofs.parts.put_table.Statement.{statement}
 use Rattle.picture.proofs.parts.put_table.Tie as tie
 
-slice-aggregate-put-words : tie.Need-slice-aggregate-put-words
-slice-aggregate-put-words c = search needs
-
-put-words-requires : tie.Need-put-words-requires
-put-words-requires c κs = search needs
-
-same-length : tie.Need-same-length
-same-length c = search needs
-
 returns : tie.Need-returns
 returns c =
     let a = c .before .before .before .before .before .before .args in
@@ -32,4 +23,4 @@ returns c =
 
 pub put-table-spec : {M : Type 1} → statement M
 put-table-spec =
-    tie.close (tie.spec slice-aggregate-put-words put-words-requires same-length returns)
+    tie.close (tie.spec (λ c. search needs) (λ c κs. search needs) (λ c. search needs) returns)

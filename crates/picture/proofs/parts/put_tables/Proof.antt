@@ -26,33 +26,6 @@ loop-holds : tie.Need-loop-holds Inv-loop μ-loop
 unfolding tablesBytes flatten
 loop-holds c = (omega arith, refl, refl, refl)
 
-mul-table : tie.Need-mul-table Inv-loop μ-loop
-mul-table c = search needs
-
-array-copy-out-table : tie.Need-array-copy-out-table Inv-loop μ-loop
-array-copy-out-table c = search needs
-
-mul-put-table : tie.Need-mul-put-table Inv-loop μ-loop
-mul-put-table c = search needs
-
-sub-put-table : tie.Need-sub-put-table Inv-loop μ-loop
-sub-put-table c = search needs
-
-part-put-table-start : tie.Need-part-put-table-start Inv-loop μ-loop
-part-put-table-start c = search needs
-
-part-put-table-end : tie.Need-part-put-table-end Inv-loop μ-loop
-part-put-table-end c = search needs
-
-put-table-requires : tie.Need-put-table-requires Inv-loop μ-loop
-put-table-requires c κs = search needs
-
-add-i : tie.Need-add-i Inv-loop μ-loop
-add-i c = search needs
-
-loop-less : tie.Need-loop-less Inv-loop μ-loop
-loop-less c = search needs
-
 loop-again : tie.Need-loop-again Inv-loop μ-loop
 unfolding tablesBytes
 loop-again c =
@@ -65,9 +38,6 @@ loop-again c =
       length-flatten-take wordsBytes (a .t1) [] (l .i) h ∙ omega (arith, l .inv .2, e .1),
       flatten-turn wordsBytes (a .t1) [] (l .i) h (now (a .out)) (l .out) _ (l .i * 8) (l .inv .3) (l .inv .2) (e .0),
     )
-
-same-length : tie.Need-same-length Inv-loop μ-loop
-same-length c = search needs
 
 returns : tie.Need-returns Inv-loop μ-loop
 returns c =
@@ -85,15 +55,15 @@ put-tables-spec =
     Inv-loop
     μ-loop
     loop-holds
-    mul-table
-    array-copy-out-table
-    mul-put-table
-    sub-put-table
-    part-put-table-start
-    part-put-table-end
-    put-table-requires
-    add-i
-    loop-less
+    (λ c. search needs)
+    (λ c. search needs)
+    (λ c. search needs)
+    (λ c. search needs)
+    (λ c. search needs)
+    (λ c. search needs)
+    (λ c κs. search needs)
+    (λ c. search needs)
+    (λ c. search needs)
     loop-again
-    same-length
+    (λ c. search needs)
     returns)

@@ -20,30 +20,6 @@ Inv-loop file at start tables₀ i₀ tables i =
 abbrev μ-loop : tie.MeasureT-loop
 μ-loop file at start tables₀ i₀ tables i = 4 - i
 
-loop-holds : tie.Need-loop-holds Inv-loop μ-loop
-loop-holds c = search needs
-
-mul-table-at : tie.Need-mul-table-at Inv-loop μ-loop
-mul-table-at c = search needs
-
-add-table-at : tie.Need-add-table-at Inv-loop μ-loop
-add-table-at c = search needs
-
-table-at-requires : tie.Need-table-at-requires Inv-loop μ-loop
-table-at-requires c κs = search needs
-
-mul-tables : tie.Need-mul-tables Inv-loop μ-loop
-mul-tables c = search needs
-
-array-set-from-tables : tie.Need-array-set-from-tables Inv-loop μ-loop
-array-set-from-tables c = search needs
-
-add-i : tie.Need-add-i Inv-loop μ-loop
-add-i c = search needs
-
-loop-less : tie.Need-loop-less Inv-loop μ-loop
-loop-less c = search needs
-
 loop-again : tie.Need-loop-again Inv-loop μ-loop
 loop-again c =
     let l = c .before .before .loop in
@@ -62,13 +38,13 @@ tables-at-spec =
     (tie.spec
     Inv-loop
     μ-loop
-    loop-holds
-    mul-table-at
-    add-table-at
-    table-at-requires
-    mul-tables
-    array-set-from-tables
-    add-i
-    loop-less
+    (λ c. search needs)
+    (λ c. search needs)
+    (λ c. search needs)
+    (λ c κs. search needs)
+    (λ c. search needs)
+    (λ c. search needs)
+    (λ c. search needs)
+    (λ c. search needs)
     loop-again
     returns)

@@ -8,15 +8,6 @@ use borrow.Author.Needs.{needs}
 use Rattle.picture.proofs.parts.tail_bytes.Statement.{statement}
 use Rattle.picture.proofs.parts.tail_bytes.Tie as tie
 
-tables-of-requires : tie.Need-tables-of-requires
-tables-of-requires c κs = search needs
-
-slice-aggregate-put-tables : tie.Need-slice-aggregate-put-tables
-slice-aggregate-put-tables c = search needs
-
-put-tables-requires : tie.Need-put-tables-requires
-put-tables-requires c κs = search needs
-
 returns : tie.Need-returns
 returns c =
     let t = c .before .before .before .tables-of in
@@ -25,4 +16,4 @@ returns c =
 
 pub tail-bytes-spec : {M : Type 1} → statement M
 tail-bytes-spec =
-    tie.close (tie.spec tables-of-requires slice-aggregate-put-tables put-tables-requires returns)
+    tie.close (tie.spec (λ c κs. search needs) (λ c. search needs) (λ c κs. search needs) returns)

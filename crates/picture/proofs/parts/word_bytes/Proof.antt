@@ -5,15 +5,9 @@ use Rattle.words.specs.Word.{wordBytes}
 use Rattle.picture.proofs.parts.word_bytes.Statement.{statement}
 use Rattle.picture.proofs.parts.word_bytes.Tie as tie
 
-cast-t3 : tie.Need-cast-t3
-cast-t3 c = search needs
-
-cast-t5 : tie.Need-cast-t5
-cast-t5 c = search needs
-
 returns : tie.Need-returns
 unfolding wordBytes
 returns c = refl
 
 pub word-bytes-spec : {M : Type 1} → statement M
-word-bytes-spec = tie.close (tie.spec cast-t3 cast-t5 returns)
+word-bytes-spec = tie.close (tie.spec (λ c. search needs) (λ c. search needs) returns)

@@ -26,34 +26,10 @@ loop-holds : tie.Need-loop-holds Inv-loop μ-loop
 unfolding items flatten
 loop-holds c = (omega arith, omega arith, record { bytes = refl; all = refl }, refl)
 
-mul-put-count : tie.Need-mul-put-count Inv-loop μ-loop
-mul-put-count c = search needs
-
-array-read-put-count : tie.Need-array-read-put-count Inv-loop μ-loop
-array-read-put-count c = search needs
-
-sub-put-count : tie.Need-sub-put-count Inv-loop μ-loop
-sub-put-count c = search needs
-
-part-put-count-start : tie.Need-part-put-count-start Inv-loop μ-loop
-part-put-count-start c = search needs
-
-part-put-count-end : tie.Need-part-put-count-end Inv-loop μ-loop
-part-put-count-end c = search needs
-
 put-count-requires : tie.Need-put-count-requires Inv-loop μ-loop
 put-count-requires c κs =
     let l = c .before .before .loop in
     rw (tail-part (l .out) (l .end)) (omega (arith, length-drop (l .end) (l .out)))
-
-add-end : tie.Need-add-end Inv-loop μ-loop
-add-end c = search needs
-
-add-i : tie.Need-add-i Inv-loop μ-loop
-add-i c = search needs
-
-loop-less : tie.Need-loop-less Inv-loop μ-loop
-loop-less c = search needs
 
 loop-again : tie.Need-loop-again Inv-loop μ-loop
 loop-again c =
@@ -71,9 +47,6 @@ loop-again c =
       length-written w (omega (arith, w .bytes, p .put-count .ensures .1)),
     )
 
-same-length : tie.Need-same-length Inv-loop μ-loop
-same-length c = search needs
-
 returns : tie.Need-returns Inv-loop μ-loop
 returns c =
     let l = c .before .loop in
@@ -88,15 +61,15 @@ put-counts-spec =
     Inv-loop
     μ-loop
     loop-holds
-    mul-put-count
-    array-read-put-count
-    sub-put-count
-    part-put-count-start
-    part-put-count-end
+    (λ c. search needs)
+    (λ c. search needs)
+    (λ c. search needs)
+    (λ c. search needs)
+    (λ c. search needs)
     put-count-requires
-    add-end
-    add-i
-    loop-less
+    (λ c. search needs)
+    (λ c. search needs)
+    (λ c. search needs)
     loop-again
-    same-length
+    (λ c. search needs)
     returns)

@@ -5,20 +5,11 @@ use Rattle.resolution.proofs.Shapes.{width-le, height-le, planes-le}
 use Rattle.resolution.proofs.Resolution.raster.Statement.{statement}
 use Rattle.resolution.proofs.Resolution.raster.Tie as tie
 
-height-requires : tie.Need-height-requires
-height-requires c κs = search needs
-
 cast-t3 : tie.Need-cast-t3
 cast-t3 c = omega (arith, height-le (c .before .args .self))
 
-groups-requires : tie.Need-groups-requires
-groups-requires c κs = search needs
-
 cast-t5 : tie.Need-cast-t5
 cast-t5 c = omega (arith, width-le (c .before .before .args .self))
-
-planes-requires : tie.Need-planes-requires
-planes-requires c κs = search needs
 
 cast-t7 : tie.Need-cast-t7
 cast-t7 c = omega (arith, planes-le (c .before .before .before .args .self))
@@ -29,4 +20,4 @@ returns c = rw (c .before .before .height .ensures, c .before .groups .ensures, 
 pub raster-spec : {M : Type 1} → statement M
 raster-spec =
     tie.close
-    (tie.spec height-requires cast-t3 groups-requires cast-t5 planes-requires cast-t7 returns)
+    (tie.spec (λ c κs. search needs) cast-t3 (λ c κs. search needs) cast-t5 (λ c κs. search needs) cast-t7 returns)

@@ -1,0 +1,6 @@
+pub mod Blank
+pub mod Reading
+pub mod RoundTrips
+pub mod Rows
+pub mod WholePicture
+pub mod Writing

@@ -1,0 +1,6 @@
+pub mod Areas
+pub mod Blank
+pub mod Reading
+pub mod RoundTrips
+pub mod Rows
+pub mod Writing

@@ -1,0 +1,147 @@
+// The demands of document 00 said of the operations themselves: each function here only calls public operations, and
+// promises the demand. Nothing is assumed of an argument but its type. The clause `refused` is demand 1, "then no byte
+// of any lent area has changed", and `whole` the complete answer of the operations. Definitions: specs/.
+ghost use mathlib.Core.Path.{_≡_};
+ghost use mathlib.Core.Logic.{_↔_};
+ghost use mathlib.Core.List.{List};
+ghost use Prim.Native.Nat.{ℕ};
+ghost use lib.ListN.{length};
+ghost use Rattle.outcome.specs.Refusal.{noPackedBody};
+ghost use Rattle.resolution.specs.declared.Resolution.{Resolution};
+ghost use Rattle.unpack.specs.AcceptsRow.{AcceptsRow};
+ghost use Rattle.writer.specs.Writing.{formPacked};
+ghost use Rattle.demands.specs.Accepted.{Accepts, given};
+ghost use Rattle.demands.specs.Refusals.{Refuses};
+ghost use Rattle.demands.specs.RoundTrips.{kindOf};
+ghost use Rattle.statements.specs.Areas.{HoldsScreen, Stated};
+ghost use Rattle.statements.specs.Blank.{Blank};
+ghost use Rattle.statements.specs.Reading.{Reads, ReadsNothing, AnswersRead};
+ghost use Rattle.statements.specs.RoundTrips.{IsWritten, ReadsBack, AnswersRoundTrip};
+ghost use Rattle.statements.specs.Rows.{Packable, PacksLeast, UnpacksToRow, Unpacked, RowRefused};
+ghost use Rattle.statements.specs.Rows.{AnswersPack, AnswersUnpack};
+ghost use Rattle.statements.specs.Writing.{NoBodyBelow, WritesLeast, NeverAbove, Attained, BothOccur};
+ghost use Rattle.statements.specs.Writing.{WritesNothing, AnswersWrite};
+use packbits::RowAnswer;
+use picture::Picture;
+use picture::ReadAnswer;
+use picture::WriteAnswer;
+use reader::KIND_DEGAS;
+use reader::KIND_NEOCHROME;
+use writer::FORM_NEOCHROME;
+use writer::FORM_PACKED;
+
+// The answers of a writing and of its reading back.
+pub struct RoundTrip {
+    pub written: WriteAnswer,
+    pub read: ReadAnswer,
+}
+
+// Demand 2: "Given a lent area of the stated size, a file of a known kind is accepted exactly when its flag and
+// resolution are allowed, its parts fit and its runs fill every plane row exactly." And what an accepted file gives:
+// "resolution, palette, every register of every pixel and every count". The blank files are accepted.
+pub fn read_file(kind: u8, file: &[u8], area: &mut [u8]) -> ReadAnswer
+    ensures exactly { λ a.
+        ⌜ (HoldsScreen (now (area .entry)) → (a .refusal .number ≡ 0) ↔ Accepts kind (now (file .entry))) ⌝ }
+    ensures accepted { λ a.
+        ⌜ (HoldsScreen (now (area .entry)) → (fits : Accepts kind (now (file .entry)))
+        → Reads (given fits) a (now (area .entry)) (now (area .exit))) ⌝ }
+    ensures blank { λ a.
+        ⌜ (HoldsScreen (now (area .entry)) → Blank kind (now (file .entry)) → a .refusal .number ≡ 0) ⌝ }
+    ensures refused { λ a. ⌜ (Refuses (a .refusal) → ReadsNothing a (now (area .entry)) (now (area .exit))) ⌝ }
+    ensures whole { λ a. ⌜ AnswersRead kind (now (file .entry)) a (now (area .entry)) (now (area .exit)) ⌝ }
+{
+    reader::read(kind, file, area)
+}
+
+// Demand 3: "Given resolution 0, 1 or 2 and lent areas of at least the stated sizes, whatever the screen, palette and
+// tail, the packed writer refuses, with 9, exactly when no byte string under 32,000 bytes unpacks to that screen at
+// that resolution. Otherwise it writes the picture's form 3". How long a screen's least body can be; and both occur.
+pub fn write_packed(picture: Picture, screen: &[u8], out: &mut [u8]) -> WriteAnswer
+    ensures exactly { λ a.
+        ⌜ ((r : Resolution) → Stated r picture (now (screen .entry)) (now (out .entry))
+        → (a .refusal .number ≡ noPackedBody) ↔ NoBodyBelow r (now (screen .entry))) ⌝ }
+    ensures otherwise { λ a.
+        ⌜ ((r : Resolution) → Stated r picture (now (screen .entry)) (now (out .entry))
+        → (NoBodyBelow r (now (screen .entry)) → ⊥)
+        → WritesLeast r picture (now (screen .entry)) a (now (out .entry)) (now (out .exit))) ⌝ }
+    ensures bound { λ _.
+        ⌜ ((r : Resolution) → NeverAbove r (now (screen .entry))) × ((r : Resolution) → Attained r) ⌝ }
+    ensures occur { λ a.
+        ⌜ ((r : Resolution) → Stated r picture (now (screen .entry)) (now (out .entry))
+        → BothOccur r (now (screen .entry)) a) ⌝ }
+    ensures refused { λ a. ⌜ (Refuses (a .refusal) → WritesNothing a (now (out .entry)) (now (out .exit))) ⌝ }
+    ensures whole { λ a.
+        ⌜ AnswersWrite formPacked picture (now (screen .entry)) a (now (out .entry)) (now (out .exit)) ⌝ }
+{
+    writer::write(FORM_PACKED, picture, screen, out)
+}
+
+// The kind that a form is read back as.
+fn kind_of(form: u8) -> u8
+    ensures { λ kind. ⌜ kind ≡ kindOf form ⌝ }
+{
+    if form == FORM_NEOCHROME {
+        KIND_NEOCHROME
+    } else {
+        KIND_DEGAS
+    }
+}
+
+// Demand 2: "Writing a picture and reading it back gives the same resolution, palette and registers, with the tail that
+// document 01 names for the form." The file is the output's front, as long as the writing answers; a writing that is
+// refused is not read back.
+pub fn write_and_read(
+    form: u8,
+    picture: Picture,
+    screen: &[u8],
+    out: &mut [u8],
+    area: &mut [u8],
+) -> RoundTrip
+    ensures back { λ b.
+        ⌜ (HoldsScreen (now (area .entry)) → b .written .refusal .number ≡ 0
+        → ReadsBack form picture (now (screen .entry)) b (now (area .exit))) ⌝ }
+    ensures written { λ b.
+        ⌜ ((r : Resolution) → Stated r picture (now (screen .entry)) (now (out .entry))
+        → IsWritten form r (now (screen .entry)) → b .written .refusal .number ≡ 0) ⌝ }
+    ensures whole { λ b.
+        ⌜ AnswersRoundTrip form picture (now (screen .entry)) b (now (out .entry)) (now (out .exit))
+        (now (area .entry)) (now (area .exit)) ⌝ }
+{
+    let written = writer::write(form, picture, screen, out);
+    let refusal = written.refusal;
+    if refusal.number != 0 {
+        let read = picture::read_refused(refusal);
+        return RoundTrip { written, read };
+    }
+    let length = written.length;
+    let read = reader::read(kind_of(form), &out[..length], area);
+    RoundTrip { written, read }
+}
+
+// Document 01: "The writer's row is the shortest byte string that unpacks to the row; among equally short ones, the
+// first in dictionary order of unsigned bytes."
+pub fn pack_row_least(row: &[u8], out: &mut [u8]) -> RowAnswer
+    ensures exactly { λ a. ⌜ (a .refusal .number ≡ 0) ↔ Packable (now (row .entry)) (now (out .entry)) ⌝ }
+    ensures least { λ a.
+        ⌜ (Packable (now (row .entry)) (now (out .entry))
+        → PacksLeast (now (row .entry)) a (now (out .entry)) (now (out .exit))) ⌝ }
+    ensures refused { λ a. ⌜ (Refuses (a .refusal) → RowRefused a (now (out .entry)) (now (out .exit))) ⌝ }
+    ensures whole { λ a. ⌜ AnswersPack (now (row .entry)) a (now (out .entry)) (now (out .exit)) ⌝ }
+{
+    pack::pack_row(row, out)
+}
+
+// Document 01: "A byte string, however long, unpacks to a row when its records fill the row with exactly that row's
+// bytes, none lacks bytes or crosses the row's end, and the record that fills the row is the string's last."
+pub fn unpack_row_exactly(packed: &[u8], width: usize, out: &mut [u8]) -> RowAnswer
+    ensures exactly { λ a.
+        ⌜ (a .refusal .number ≡ 0) ↔ UnpacksToRow (now (packed .entry)) width (now (out .entry)) ⌝ }
+    ensures accepted { λ a.
+        ⌜ ((used records : ℕ) (row : List ℕ)
+        → AcceptsRow (now (packed .entry)) width (length (now (out .entry))) used records row
+        → Unpacked used records row a (now (out .entry)) (now (out .exit))) ⌝ }
+    ensures refused { λ a. ⌜ (Refuses (a .refusal) → RowRefused a (now (out .entry)) (now (out .exit))) ⌝ }
+    ensures whole { λ a. ⌜ AnswersUnpack (now (packed .entry)) width a (now (out .entry)) (now (out .exit)) ⌝ }
+{
+    unpack::unpack_row(packed, width, out)
+}
