@@ -20,8 +20,13 @@ static uint8_t packed[KUTIMUQ_WRITE_AREA_BYTES];
 
 static int refused(const char *what, KutimuqRefusal refusal)
 {
-    fprintf(stderr, "%s: refused %u at %zu: %s\n", what, refusal.number, refusal.place,
+    fprintf(stderr, "%s: refused %u at %zu: %s", what, refusal.number, refusal.place,
             kutimuq_meaning(refusal.number));
+    if (refusal.number == KUTIMUQ_INPUT_ENDS || refusal.number == KUTIMUQ_RECORD_CROSSES) {
+        fprintf(stderr, " (plane row %zu, %zu bytes good)", refusal.plane_row,
+                refusal.good_bytes);
+    }
+    fputc('\n', stderr);
     return 1;
 }
 

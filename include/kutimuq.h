@@ -10,8 +10,8 @@
  *
  * Every function takes every other input and answers. The number 0 means
  * accepted; any other number is a refusal. A refusal gives its number, a place,
- * and zero in all else, and no byte of any lent area has changed. An accepted
- * answer's place is 0.
+ * for numbers 6 and 7 how far the rows are good, and zero in all else, and no
+ * byte of any lent area has changed. An accepted answer's refusal is all 0.
  *
  * Resolutions: 0 low (320 x 200, 4 planes), 1 medium (640 x 200, 2 planes),
  * 2 high (640 x 400, 1 plane). A screen is the first 32,000 bytes of the area
@@ -30,9 +30,9 @@ extern "C" {
 #endif
 
 #define KUTIMUQ_VERSION_MAJOR 0
-#define KUTIMUQ_VERSION_MINOR 1
+#define KUTIMUQ_VERSION_MINOR 2
 #define KUTIMUQ_VERSION_PATCH 0
-#define KUTIMUQ_VERSION "0.1.0"
+#define KUTIMUQ_VERSION "0.2.0"
 
 /* The answer must be looked at; no pointer may be null. */
 #ifdef __GNUC__
@@ -147,10 +147,15 @@ static inline KutimuqShape kutimuq_shape(uint16_t resolution)
     return shapes[resolution < 3 ? resolution : 3];
 }
 
-/* A number and a place; both 0 in an accepted answer. */
+/* Why an input is refused; all 0 in an accepted answer. Plane row and good bytes
+   come with numbers 6 and 7 only and are 0 otherwise: reading a file gives both,
+   unpacking a row gives good bytes, and plane row 0. By themselves row 0 with 0
+   bytes cannot be told from "not given": the number tells. */
 typedef struct KutimuqRefusal {
     uint8_t number;
     size_t place;
+    size_t plane_row;  /* the plane row with the record at fault, from 0 */
+    size_t good_bytes; /* that row's bytes from the records before it */
 } KutimuqRefusal;
 
 /* Packed bytes used or written, and records, do-nothing ones included. */
@@ -166,7 +171,10 @@ typedef struct KutimuqTable {
 } KutimuqTable;
 
 /* A picture without its screen. The tail's tables are left limits, right
-   limits, directions and delays; all zero where reading found no tail. */
+   limits, directions and delays; all zero where reading found no tail.
+   TAIL_PRESENT MUST BE 0 OR 1, as it is where C code assigns it; of another
+   byte, copied there by memcpy or through a union, the proofs promise nothing.
+   Writing does not look at it: forms 2 and 3 write the tail's words as given. */
 typedef struct KutimuqPicture {
     uint16_t resolution;
     uint16_t palette[16];
@@ -274,6 +282,27 @@ KutimuqRefusal kutimuq_line_out(const uint8_t *screen, size_t screen_len, uint16
 KUTIMUQ_MUST_USE KUTIMUQ_NONNULL
 KutimuqRefusal kutimuq_line_in(uint8_t *screen, size_t screen_len, uint16_t resolution,
                                size_t line, const uint8_t *registers, size_t registers_len);
+
+/*
+ * Takes the registers of all pixels, line after line from the top, one byte a
+ * pixel, from a screen. Output past width * height is unchanged.
+ * Refusals in order: 1 screen below 32,000 bytes, 5, 1 output below
+ * width * height.
+ */
+KUTIMUQ_MUST_USE KUTIMUQ_NONNULL
+KutimuqRefusal kutimuq_screen_out(const uint8_t *screen, size_t screen_len,
+                                  uint16_t resolution, uint8_t *out, size_t out_len);
+
+/*
+ * Puts the registers of all pixels, line after line from the top, one byte a
+ * pixel, into a screen. Bytes of the screen past 32,000 stay; entries past
+ * width * height are not judged.
+ * Refusals in order: 1 screen below 32,000 bytes, 5, 1 registers below
+ * width * height, 10 a register not below 2^planes.
+ */
+KUTIMUQ_MUST_USE KUTIMUQ_NONNULL
+KutimuqRefusal kutimuq_screen_in(uint8_t *screen, size_t screen_len, uint16_t resolution,
+                                 const uint8_t *registers, size_t registers_len);
 
 /*
  * Counts the pixels of each register in a rectangle.

@@ -7,7 +7,7 @@
 Each name is imported at its first use.
 """
 
-__version__ = "0.1.0"
+__version__ = "0.2.0"
 
 # Public name: the module that has it.
 _PUBLIC = {
@@ -16,13 +16,13 @@ _PUBLIC = {
     "Colour": "index",
     "Entry": "legend",
     "File": "pictures",
-    "Form": "kinds",
-    "Kind": "kinds",
+    "Form": "enumerations",
+    "Kind": "enumerations",
     "LibraryMissing": "shared_object",
     "Picture": "pictures",
     "Pond": "index",
     "Rectangle": "screens",
-    "RefusalNumber": "refusals",
+    "RefusalNumber": "enumerations",
     "Refused": "refusals",
     "Row": "pictures",
     "Tail": "pictures",

@@ -1,13 +1,14 @@
 """What type checkers see of the names that __init__.py imports at their first use."""
 
+from .enumerations import Form as Form
+from .enumerations import Kind as Kind
+from .enumerations import RefusalNumber as RefusalNumber
 from .images import BadImage as BadImage
 from .index import Colour as Colour
 from .index import Pond as Pond
 from .index import colour as colour
 from .index import pond as pond
 from .index import tally as tally
-from .kinds import Form as Form
-from .kinds import Kind as Kind
 from .kinds import find_kind as find_kind
 from .legend import BadText as BadText
 from .legend import Entry as Entry
@@ -21,7 +22,6 @@ from .pictures import pack_row as pack_row
 from .pictures import read as read
 from .pictures import unpack_row as unpack_row
 from .pictures import write as write
-from .refusals import RefusalNumber as RefusalNumber
 from .refusals import Refused as Refused
 from .screens import Rectangle as Rectangle
 from .screens import from_registers as from_registers

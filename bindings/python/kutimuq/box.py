@@ -12,12 +12,13 @@ from errno import EEXIST
 from hashlib import sha256
 
 from . import kinds
+from .enumerations import Form, RefusalNumber
 from .files import ERROR, Output, complain, give_text, is_stream, shown, take
 from .index import tally
-from .kinds import Form, find_kind
+from .kinds import find_kind
 from .library import library
 from .pictures import Picture, read, write
-from .refusals import RefusalNumber, Refused, meaning_of
+from .refusals import Refused, good_part, meaning_of
 
 # What a record holds, in the order of the CSV file. A record is a dict, so that it can be a line of JSON.
 COLUMNS = (
@@ -79,16 +80,23 @@ def judge(name: str, kind: int | None = None) -> dict:
     try:
         picture = read(data, found.kind)
     except Refused as refusal:
-        record.update(
-            number=refusal.number,
-            place=refusal.place,
-            meaning=refusal.meaning,
-            plane_row=refusal.plane_row,
-            good_bytes=refusal.good_bytes,
-        )
+        record.update(refused_fields(refusal, data))
         return record
     record.update(accepted_fields(picture))
     return record
+
+
+def refused_fields(refusal: Refused, data: bytes) -> dict:
+    """What a record says about a refused file."""
+    return {
+        # Only a packed DEGAS file of a known resolution is refused in a plane row.
+        "resolution": kinds.degas_resolution(data) if refusal.in_row else None,
+        "number": refusal.number,
+        "place": refusal.place,
+        "meaning": refusal.meaning,
+        "plane_row": refusal.plane_row if refusal.in_row else None,
+        "good_bytes": refusal.good_bytes if refusal.in_row else None,
+    }
 
 
 def accepted_fields(picture: Picture) -> dict:
@@ -263,7 +271,9 @@ def line_of(record: dict) -> str:
         return f"{name}: not read: {record['error']}"
     known = kinds.decision(record["kind"], record["kind_by"])
     if record["number"]:
-        return f"{name}: refused {record['number']} at {record['place']}: {record['meaning']} ({known})"
+        in_row = record["plane_row"] is not None
+        facts = f"{good_part(record['plane_row'], record['good_bytes'])}; {known}" if in_row else known
+        return f"{name}: refused {record['number']} at {record['place']}: {record['meaning']} ({facts})"
     line = f"{name}: accepted: {known}, resolution {record['resolution']}"
     if record["records"]:
         line += f", {record['records']} records, body {record['body']}"

@@ -9,9 +9,9 @@ import os
 import sys
 
 from .files import OUTPUT, Output, complain, give, give_text, put, shown, take
-from .kinds import FORMS, Form, Kind, find_kind, names
+from .kinds import FORM_NAMES, FORMS, KIND_NAMES, find_kind
 from .options import Command, Option, WrongUse, choice, columns, command_help, parse
-from .refusals import RefusalNumber, Refused
+from .refusals import Refused
 from .shared_object import LibraryMissing
 
 PROGRAM = "kutimuq"
@@ -127,7 +127,7 @@ def read_named(name: str, options):
 
     data = take(name)
     if options.kind is not None:
-        return read(data, Kind[options.kind.upper()])
+        return read(data, KIND_NAMES[options.kind])
     found = find_kind(data, name)
     if found.kind and not options.quiet:
         complain(found, name)
@@ -136,7 +136,10 @@ def read_named(name: str, options):
 
 def refuse(refusal: Refused, name: str) -> None:
     """Says that a file was refused."""
-    hint = ": neither content nor extension names a kind, --kind can" if refusal.number == RefusalNumber.UNKNOWN_KIND else ""
+    from .enumerations import RefusalNumber
+
+    unknown = refusal.number == RefusalNumber.UNKNOWN_KIND
+    hint = ": neither content nor extension names a kind, --kind can" if unknown else ""
     complain(f"{refusal}{hint}", name)
 
 
@@ -289,7 +292,7 @@ def convert(options) -> int:
     """`convert`: files in another form."""
     from .pictures import write
 
-    form = Form[options.form.upper()]
+    form = FORM_NAMES[options.form]
     return make_files(
         options, lambda picture: write(picture, picture.screen, form), lambda picture: FORMS[form][picture.resolution]
     )
@@ -300,7 +303,7 @@ def encode(options) -> int:
     from .images import IMAGE_LIMIT, BadImage, picture_of, read_image
     from .pictures import open_picture, write
 
-    form = Form[options.form.upper()]
+    form = FORM_NAMES[options.form]
     words, tables = options.palette, None
     if options.like is not None:
         try:
@@ -427,15 +430,17 @@ def check(options) -> int:
     from .box import run
 
     end_in_order()
-    options.kind = None if options.kind is None else Kind[options.kind.upper()]
+    options.kind = None if options.kind is None else KIND_NAMES[options.kind]
     return run(options, legend_of(options))
 
 
-KIND = Option(("--kind",), "KIND", "degas, neo or tiny; default: found by content, then by extension", choice(names(Kind)))
+KIND = Option(
+    ("--kind",), "KIND", "degas, neo or tiny; default: found by content, then by extension", choice(list(KIND_NAMES))
+)
 QUIET = Option(("-q", "--quiet"), None, "do not say which kind was found")
 OUTPUT_FILE = Option(("-o", "--output"), "FILE", "where the result goes; default: standard output")
 FOLDER = Option(("-d", "--folder"), "FOLDER", "one result for each file, named after it, in this folder")
-FORM = Option(("--form",), "FORM", ", ".join(names(Form)), choice(names(Form)), True)
+FORM = Option(("--form",), "FORM", ", ".join(FORM_NAMES), choice(list(FORM_NAMES)), True)
 RECTANGLE = Option(("--rectangle",), "L,T,C,N", "left, top, columns, lines; default: the whole screen", parse_rectangle)
 LEGEND = Option(("--legend",), "FILE", "16 lines `class confidence [owner [name]]`, register 0 first")
 NEEDED_LEGEND = LEGEND._replace(required=True)

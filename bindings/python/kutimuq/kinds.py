@@ -4,27 +4,22 @@ from __future__ import annotations
 
 import os
 from collections import namedtuple
-from enum import IntEnum
 
+# Kinds of file, by the numbers that the library reads them under; `Kind` in enumerations.py is made of them.
+KIND_DEGAS = 1
+KIND_NEO = 2
+KIND_TINY = 3
 UNKNOWN = 0  # no kind has this number: the library refuses it
 
+# Forms of file, by the numbers that the library writes them under; `Form` in enumerations.py is made of them.
+FORM_PLAIN = 1  # DEGAS
+FORM_ELITE = 2  # DEGAS Elite, raw
+FORM_PACKED = 3  # DEGAS Elite, packed
+FORM_NEO = 4  # NEOchrome
 
-class Kind(IntEnum):
-    """A kind of file, by the number that the library reads it under."""
-
-    DEGAS = 1
-    NEO = 2
-    TINY = 3
-
-
-class Form(IntEnum):
-    """A form of file, by the number that the library writes it under."""
-
-    PLAIN = 1  # DEGAS
-    ELITE = 2  # DEGAS Elite, raw
-    PACKED = 3  # DEGAS Elite, packed
-    NEO = 4  # NEOchrome
-
+# Their names at the command line.
+KIND_NAMES = {"degas": KIND_DEGAS, "neo": KIND_NEO, "tiny": KIND_TINY}
+FORM_NAMES = {"plain": FORM_PLAIN, "elite": FORM_ELITE, "packed": FORM_PACKED, "neo": FORM_NEO}
 
 RAW_EXTENSIONS = (".pi1", ".pi2", ".pi3")
 PACKED_EXTENSIONS = (".pc1", ".pc2", ".pc3")
@@ -37,15 +32,15 @@ TINY_ROTATED_HEADER = 41
 TINY_LARGEST_COUNT = 0xFFFF
 
 # The extensions of each form, by resolution.
-FORMS: dict[Form, tuple[str, ...]] = {
-    Form.PLAIN: RAW_EXTENSIONS,
-    Form.ELITE: RAW_EXTENSIONS,
-    Form.PACKED: PACKED_EXTENSIONS,
-    Form.NEO: NEO_EXTENSIONS,
+FORMS: dict[int, tuple[str, ...]] = {
+    FORM_PLAIN: RAW_EXTENSIONS,
+    FORM_ELITE: RAW_EXTENSIONS,
+    FORM_PACKED: PACKED_EXTENSIONS,
+    FORM_NEO: NEO_EXTENSIONS,
 }
 
 
-def form_named(name: str, tail_present: bool) -> Form:
+def form_named(name: str, tail_present: bool) -> int:
     """The form that an extension names; of the two raw ones the one that keeps a tail, if there is one."""
     extension = os.path.splitext(name)[1].lower()
     found = [form for form, extensions in FORMS.items() if extension in extensions]
@@ -60,6 +55,11 @@ def _is_degas(head: bytes, length: int) -> bool:
     packed = word & 0xFFFC == 0x8000
     raw = length in (32_034, 32_066) and word < 0x8000
     return packed or raw
+
+
+def degas_resolution(head: bytes) -> int:
+    """The resolution in a DEGAS file's first word."""
+    return head[1] & 3
 
 
 def _is_neo(head: bytes, length: int) -> bool:
@@ -93,10 +93,10 @@ class Traits(namedtuple("Traits", "title extensions longest is_content")):
     longest: int
 
 
-KINDS: dict[Kind, Traits] = {
-    Kind.DEGAS: Traits("DEGAS", (*RAW_EXTENSIONS, *PACKED_EXTENSIONS), 32_066, _is_degas),
-    Kind.NEO: Traits("NEOchrome", NEO_EXTENSIONS, 32_128, _is_neo),
-    Kind.TINY: Traits("Tiny", TINY_EXTENSIONS, TINY_ROTATED_HEADER + 3 * TINY_LARGEST_COUNT, _is_tiny),
+KINDS: dict[int, Traits] = {
+    KIND_DEGAS: Traits("DEGAS", (*RAW_EXTENSIONS, *PACKED_EXTENSIONS), 32_066, _is_degas),
+    KIND_NEO: Traits("NEOchrome", NEO_EXTENSIONS, 32_128, _is_neo),
+    KIND_TINY: Traits("Tiny", TINY_EXTENSIONS, TINY_ROTATED_HEADER + 3 * TINY_LARGEST_COUNT, _is_tiny),
 }
 
 # A longer file is refused for its length whatever follows, so no more than this is ever read of one.
@@ -116,7 +116,7 @@ class Found(namedtuple("Found", "kind by")):
 
 def title(kind: int) -> str:
     """A kind's name."""
-    return KINDS[Kind(kind)].title if kind in KINDS else "unknown"
+    return KINDS[kind].title if kind in KINDS else "unknown"
 
 
 def decision(name: str, by: str) -> str:
@@ -126,31 +126,26 @@ def decision(name: str, by: str) -> str:
 
 def kind_titled(name: str) -> int:
     """The number of the kind with this name."""
-    return next((int(kind) for kind, traits in KINDS.items() if traits.title == name), UNKNOWN)
+    return next((kind for kind, traits in KINDS.items() if traits.title == name), UNKNOWN)
 
 
 def find_kind(data: bytes, name: str = "") -> Found:
     """The kind that a file's content names; where that leaves doubt, the one its extension names."""
     for kind, traits in KINDS.items():
         if traits.is_content(data, len(data)):
-            return Found(int(kind), "content")
+            return Found(kind, "content")
     extension = os.path.splitext(name)[1].lower()
     for kind, traits in KINDS.items():
         if extension in traits.extensions:
-            return Found(int(kind), "extension")
+            return Found(kind, "extension")
     return Found(UNKNOWN, "nothing")
 
 
-def number_of(choice, numbers: type[IntEnum]) -> int:
+def number_of(choice, names: dict[str, int]) -> int:
     """A kind or form given as a member, as a number or by its name."""
     if not isinstance(choice, str):
         return choice
     try:
-        return numbers[choice.upper()]
+        return names[choice.lower()]
     except KeyError:
-        raise ValueError(f"{choice!r} is none of {', '.join(names(numbers))}") from None
-
-
-def names(numbers: type[IntEnum]) -> list[str]:
-    """The names of kinds or forms as the command line has them."""
-    return [name.lower() for name in numbers.__members__]
+        raise ValueError(f"{choice!r} is none of {', '.join(names)}") from None

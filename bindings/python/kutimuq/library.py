@@ -4,7 +4,6 @@ from __future__ import annotations
 
 import ctypes
 from ctypes import Structure, c_bool, c_char_p, c_size_t, c_uint8, c_uint16, c_uint32, c_void_p
-from functools import lru_cache
 from operator import index
 
 from .shared_object import LibraryMissing, find
@@ -18,7 +17,12 @@ SIZE_MAX = c_size_t(-1).value
 
 
 class Refusal(Structure):
-    _fields_: list = [("number", c_uint8), ("place", c_size_t)]
+    _fields_: list = [
+        ("number", c_uint8),
+        ("place", c_size_t),
+        ("plane_row", c_size_t),
+        ("good_bytes", c_size_t),
+    ]
 
 
 class RowAnswer(Structure):
@@ -78,6 +82,8 @@ FUNCTIONS = {
     "kutimuq_pack_row": (RowAnswer, (*INPUT, *OUTPUT)),
     "kutimuq_line_out": (Refusal, (*INPUT, c_uint16, c_size_t, *OUTPUT)),
     "kutimuq_line_in": (Refusal, (*OUTPUT, c_uint16, c_size_t, *INPUT)),
+    "kutimuq_screen_out": (Refusal, (*INPUT, c_uint16, *OUTPUT)),
+    "kutimuq_screen_in": (Refusal, (*OUTPUT, c_uint16, *INPUT)),
     "kutimuq_tally": (TallyAnswer, (*INPUT, c_uint16, Rectangle)),
     "kutimuq_colour": (ColourAnswer, (c_uint16, Palette, c_uint8)),
     "kutimuq_pond": (PondAnswer, (*INPUT, c_uint16, Rectangle, c_uint8, c_uint8, Legend)),
@@ -86,10 +92,19 @@ FUNCTIONS = {
 }
 
 
-@lru_cache(maxsize=None)
+_library: ctypes.CDLL | None = None
+
+
 def library() -> ctypes.CDLL:
     """The loaded library; it is looked for at the first use."""
-    path = find()
+    global _library
+    if _library is None:
+        _library = load(find())
+    return _library
+
+
+def load(path: str) -> ctypes.CDLL:
+    """The library in this shared object, with the types of its functions."""
     try:
         loaded = ctypes.CDLL(path)
         for name, (answer, arguments) in FUNCTIONS.items():

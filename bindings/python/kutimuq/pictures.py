@@ -7,7 +7,7 @@ from collections import namedtuple
 
 from . import library as lib
 from .files import put, take, take_from
-from .kinds import Form, Kind, find_kind, form_named, number_of
+from .kinds import FORM_NAMES, KIND_NAMES, find_kind, form_named, number_of
 from .library import library
 from .refusals import accepted
 
@@ -86,7 +86,7 @@ class Picture(
         The form is a Form, its number or its name; without one the extension names it.
         """
         name = os.fspath(path)
-        number = form_named(name, self.tail_present) if form is None else number_of(form, Form)
+        number = form_named(name, self.tail_present) if form is None else number_of(form, FORM_NAMES)
         file = write(self, self.screen, number)
         put(path, file)
         return file
@@ -112,11 +112,11 @@ def open_picture(file, kind=None) -> Picture:
     if kind is None:
         name = getattr(file, "name", "") if opened else os.fspath(file)
         kind = find_kind(data, name if isinstance(name, str) else "").kind
-    return read(data, number_of(kind, Kind))
+    return read(data, number_of(kind, KIND_NAMES))
 
 
 def read(data, kind: int) -> Picture:
-    """The picture in a file's bytes; the kind is Kind.DEGAS or Kind.NEO."""
+    """The picture in a file's bytes; the kind is a Kind or its number."""
     data = lib.lent(data)
     screen = lib.room(SCREEN_BYTES)
     answer = accepted(library().kutimuq_read(lib.byte(kind), data, len(data), screen, len(screen)))

@@ -1,52 +1,31 @@
-"""Refusals: the library's numbers, what they mean, and the exception that carries them."""
+"""Refusals: what the library's numbers mean, and the exception that carries them."""
 
 from __future__ import annotations
-
-from enum import IntEnum
-
-
-class RefusalNumber(IntEnum):
-    """The numbers given back, named as in the library, with their meaning."""
-
-    meaning: str
-
-    def __new__(cls, number: int, meaning: str):
-        member = int.__new__(cls, number)
-        member._value_ = number
-        member.meaning = meaning
-        return member
-
-    ACCEPTED = 0, "accepted"
-    AREA_TOO_SHORT = 1, "a lent area too short"
-    UNKNOWN_KIND = 2, "unknown kind or form"
-    WRONG_LENGTH = 3, "file length not allowed"
-    WRONG_FLAG = 4, "NEOchrome flag not 0"
-    UNKNOWN_RESOLUTION = 5, "resolution above 2"
-    INPUT_ENDS = 6, "input ends before the screen or row is full"
-    RECORD_CROSSES = 7, "a record crosses its row's end"
-    WRONG_TAIL = 8, "after the body not exactly 32 bytes"
-    NO_PACKED_BODY = 9, "no packed body below 32,000 exists"
-    OUT_OF_RANGE = 10, "a number out of range"
-    UNDEFINED_CONTROL = 11, "a control byte or a count that is not defined"
-    RUN_TOO_LONG = 12, "a count cut short, or a run past the words to make or the data"
-    SIZE_MISMATCH = 13, "data left or words missing after the last run"
 
 
 def meaning_of(number: int) -> str:
     """What a number means, also one that only a later library knows."""
+    from .enumerations import RefusalNumber
+
     try:
         return RefusalNumber(number).meaning  # type: ignore[call-arg]
     except ValueError:
         return "unknown refusal"
 
 
+def good_part(plane_row: int, good_bytes: int) -> str:
+    """How far the rows are good, in words."""
+    return f"plane row {plane_row}, {good_bytes} bytes good"
+
+
 class Refused(Exception):
     """The input was judged and refused; nothing was made from it.
 
-    plane_row and good_bytes say how far a packed body is good, where the library tells; else they are None.
+    For numbers 6 and 7, plane_row is the row with the record at fault, from 0, and good_bytes are the bytes that it had
+    before that record; a row that is unpacked by itself is row 0. Both are 0 for every other number.
     """
 
-    def __init__(self, number: int, place: int = 0, plane_row: int | None = None, good_bytes: int | None = None):
+    def __init__(self, number: int, place: int = 0, plane_row: int = 0, good_bytes: int = 0):
         super().__init__(number, place, plane_row, good_bytes)
         self.number = number
         self.place = place
@@ -54,13 +33,21 @@ class Refused(Exception):
         self.good_bytes = good_bytes
         self.meaning = meaning_of(number)
 
+    @property
+    def in_row(self) -> bool:
+        """Whether a record of a packed row is at fault, so that the plane row and its good bytes are given."""
+        from .enumerations import RefusalNumber
+
+        return self.number in (RefusalNumber.INPUT_ENDS, RefusalNumber.RECORD_CROSSES)
+
     def __str__(self) -> str:
-        return f"refused {self.number} at {self.place}: {self.meaning}"
+        good = f" ({good_part(self.plane_row, self.good_bytes)})" if self.in_row else ""
+        return f"refused {self.number} at {self.place}: {self.meaning}{good}"
 
 
 def accepted(answer):
     """The library's answer, or the exception if it is a refusal: the one place where answers become exceptions."""
     refusal = getattr(answer, "refusal", answer)
     if refusal.number:
-        raise Refused(refusal.number, refusal.place)
+        raise Refused(refusal.number, refusal.place, refusal.plane_row, refusal.good_bytes)
     return answer

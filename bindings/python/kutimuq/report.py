@@ -16,10 +16,14 @@ from .files import shown, take
 from .images import png_of
 from .index import colours
 from .pictures import read
-from .refusals import Refused
+from .refusals import Refused, good_part
 from .screens import shape
 
 TITLES = ("low", "medium", "high")
+GOOD_NOTE = (
+    "<p>Good are the bytes that the records before the one at fault make, and the pixels that have all their planes "
+    "among these bytes. Damage that leaves whole records is not seen.</p>"
+)
 
 
 def page(check: Check, paths: list[str], legend, jobs: int) -> bytes:
@@ -66,15 +70,32 @@ def refused_table(records: list[dict]) -> str:
     if not bad:
         return "<p>None.</p>"
     keys = ["name", "kind", "number", "place", "meaning"]
-    keys += [key for key in ("plane_row", "good_bytes") if any(record[key] is not None for record in bad)]
+    row_given = any(record["plane_row"] is not None for record in bad)
+    if row_given:
+        keys += ["good_rows", "good_pixels"]
     rows = ["<tr>" + "".join(f"<th>{key.replace('_', ' ')}</th>" for key in keys) + "</tr>"]
     for record in bad:
-        told = dict(record)
+        told = {**record, **good_columns(record)}
         if record["error"] is not None:
             told["meaning"] = f"not read: {record['error']}"
         cells = ("" if told[key] is None else text(str(told[key])) for key in keys)
         rows.append("<tr>" + "".join(f"<td>{cell}</td>" for cell in cells) + "</tr>")
-    return "<table>" + "\n".join(rows) + "</table>"
+    return "<table>" + "\n".join(rows) + "</table>" + (GOOD_NOTE if row_given else "")
+
+
+def good_columns(record: dict) -> dict:
+    """How far a refused map is good: the row at fault as scan line and plane, and the share of good pixels."""
+    plane_row, good_bytes = record["plane_row"], record["good_bytes"]
+    if plane_row is None:
+        return {"good_rows": None, "good_pixels": None}
+    width, height, planes = shape(record["resolution"])
+    line, plane = divmod(plane_row, planes)
+    good = line * width + (8 * good_bytes if plane == planes - 1 else 0)
+    tenths = 1000 * good // (width * height)
+    return {
+        "good_rows": f"{good_part(plane_row, good_bytes)}: scan line {line}, plane {plane}",
+        "good_pixels": f"{good} of {width * height} ({tenths // 10}.{tenths % 10} %)",
+    }
 
 
 def copies_of(records: list[dict]) -> dict[str, list[str]]:

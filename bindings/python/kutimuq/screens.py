@@ -9,7 +9,7 @@ from collections import namedtuple
 from . import library as lib
 from .library import library
 from .pictures import SCREEN_BYTES, Picture, Tail
-from .refusals import RefusalNumber, Refused, accepted
+from .refusals import Refused, accepted
 
 
 class Shape(namedtuple("Shape", "width height planes")):
@@ -61,27 +61,15 @@ def screen_out(screen, resolution: int) -> bytes:
     screen = lib.lent(screen)
     width, height, _ = shape(resolution)
     out = lib.room(width * height)
-    number = lib.word(resolution)
-    line_out_call = library().kutimuq_line_out
-    for line in range(height):
-        target = ctypes.byref(out, line * width)
-        accepted(line_out_call(screen, len(screen), number, line, target, width))
+    accepted(library().kutimuq_screen_out(screen, len(screen), lib.word(resolution), out, len(out)))
     return out.raw
 
 
 def screen_in(pixels: bytes, resolution: int) -> bytes:
     """The screen of these registers; too few get 1, and a number that is no register gets 10."""
-    width, height, _ = shape(resolution)
     screen = lib.room(SCREEN_BYTES)
-    for line in range(height):
-        put_line(screen, resolution, line, pixels[line * width : (line + 1) * width])
+    accepted(library().kutimuq_screen_in(screen, len(screen), lib.word(resolution), pixels, len(pixels)))
     return screen.raw
-
-
-def put_line(buffer, resolution: int, line: int, row: bytes) -> None:
-    """Puts a scan line, given as bytes, into a buffer."""
-    number = lib.word(resolution)
-    accepted(library().kutimuq_line_in(buffer, len(buffer), number, lib.size(line), row, len(row)))
 
 
 def line_out(screen, resolution: int, line: int) -> bytes:
@@ -97,7 +85,9 @@ def line_in(screen, resolution: int, line: int, registers) -> bytes:
     """A copy of the screen with the registers of a scan line put in."""
     screen = lib.lent(screen)
     changed = (ctypes.c_char * len(screen)).from_buffer_copy(screen)
-    put_line(changed, resolution, line, register_bytes(registers))
+    row = register_bytes(registers)
+    number = lib.word(resolution)
+    accepted(library().kutimuq_line_in(changed, len(changed), number, lib.size(line), row, len(row)))
     return changed.raw
 
 
@@ -124,6 +114,8 @@ def screen_from_registers(rows, resolution: int) -> bytes:
     Refused in order: an unknown resolution with 5, rows or numbers missing with 1, too many with 10, a number that
     is no register with 10. A masked numpy array is no array of registers: ValueError.
     """
+    from .enumerations import RefusalNumber
+
     if resolution not in SHAPES:
         return screen_in(b"", resolution)
     width, height, _ = shape(resolution)

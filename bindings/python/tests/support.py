@@ -25,6 +25,8 @@ BLANK_SUMMARY = (
     b"tally 64000 0 0 0 0 0 0 0 0 0 0 0 0 0 0 0\n"
 )
 
+CROSSING = b"\x7f"  # a literal of 128 bytes, which no plane row holds
+
 PROGRAM = (sys.executable, "-S", "-m", "kutimuq")  # -S: the standard library alone, and quick to start
 
 SHAPES = ((320, 200, 4), (640, 200, 2), (640, 400, 1))
@@ -46,6 +48,12 @@ def blocks(resolution, seed=1):
 def noise(seed=1):
     """A screen of random bytes; it does not pack below 32,000 bytes."""
     return random.Random(seed).randbytes(32_000)
+
+
+def broken(plane_row, good_bytes, fault=CROSSING, resolution=0):
+    """A packed file of rows of zeros; this plane row has so many bytes, one a record, and then the fault."""
+    row = bytes((257 - SHAPES[resolution][0] // 8, 0))
+    return bytes((0x80, resolution)) + bytes(32) + row * plane_row + b"\0\7" * good_bytes + fault
 
 
 def register_at(screen, resolution, x, y):
@@ -73,6 +81,10 @@ class Case(unittest.TestCase):
         with self.assertRaises(kutimuq.Refused) as caught:
             function(*arguments)
         self.assertEqual((caught.exception.number, caught.exception.place), (number, place))
+        # How far the rows are good is given with 6 and 7; every other refusal has 0 there.
+        if number not in (6, 7):
+            self.assertEqual((caught.exception.plane_row, caught.exception.good_bytes), (0, 0))
+        return caught.exception
 
 
 class Done(NamedTuple):

@@ -15,7 +15,7 @@ from unittest import mock
 import kutimuq
 from kutimuq import Form, box
 
-from .support import BLANK, PALETTE, PROGRAM, PYTHON, TAIL, command, heed_interrupts, noise
+from .support import BLANK, PALETTE, PROGRAM, PYTHON, TAIL, broken, command, heed_interrupts, noise
 
 SAMPLE = kutimuq.Picture(0, PALETTE, True, TAIL, bytes(32_000))
 
@@ -70,6 +70,17 @@ class Lines(Box):
             f"{self.name('below/E.NEO')}: accepted: NEOchrome by extension, resolution 0",
             f"{self.name('below/F.TXT')}: refused 2 at 0: unknown kind or form (kind unknown)",
             "4 accepted, 2 refused",
+        ])
+
+    def test_which_row_broke(self):
+        self.put("D.PC1", broken(26, 11))
+        self.put("E.PC1", broken(0, 0, b""))
+        lines = self.check().stdout.decode().splitlines()
+        self.assertEqual(lines[3:5], [
+            f"{self.name('D.PC1')}: refused 7 at 108: a record crosses its row's end "
+            "(plane row 26, 11 bytes good; DEGAS by content)",
+            f"{self.name('E.PC1')}: refused 6 at 34: input ends before the screen or row is full "
+            "(plane row 0, 0 bytes good; DEGAS by content)",
         ])
 
     def test_exit_status(self):
@@ -134,6 +145,19 @@ class Tables(Box):
         self.assertEqual((e["kind"], e["kind_by"], e["bytes"]), ("NEOchrome", "extension", 32_128))
         self.assertEqual((f["kind"], f["kind_by"]), ("unknown", "nothing"))
         self.assertEqual(tuple(c["tally"]), kutimuq.tally(noise(), 0))
+
+    def test_which_row_broke(self):
+        self.put("D.PC1", broken(26, 11))
+        self.put("E.PC2", broken(0, 0, b"", 1))
+        records = self.records("--csv", self.out / "csv")
+        keys = ("number", "resolution", "plane_row", "good_bytes")
+        told = [tuple(record[key] for key in keys) for record in records]
+        self.assertEqual(told[3:5], [(7, 0, 26, 11), (6, 1, 0, 0)])
+        self.assertEqual({(row, good) for _, _, row, good in told[:3] + told[5:]}, {(None, None)})
+        with open(self.out / "csv", encoding="utf-8", newline="") as file:
+            rows = [tuple(row[key] for key in keys) for row in csv.DictReader(file)]
+        self.assertEqual(rows[3:5], [("7", "0", "26", "11"), ("6", "1", "0", "0")])
+        self.assertEqual({(row, good) for _, _, row, good in rows[:3] + rows[5:]}, {("", "")})
 
     def test_json_to_a_stream(self):
         lines = self.check("--json", "/dev/stderr").stderr.decode().splitlines()
@@ -238,6 +262,14 @@ class Interrupted(Box):
         whole[2]["modified"] = 10**9
         self.assertEqual(found, whole)
         self.assertFalse(part.exists())
+
+    def test_taken_up_with_the_row_that_broke(self):
+        self.put("A.PC1", broken(26, 11))
+        self.interrupt(1)
+        part = self.out / "json.part"
+        part.write_text(part.read_text().replace('"good_bytes": 11', '"good_bytes": 12'))
+        found = self.records("--resume")
+        self.assertEqual((found[0]["plane_row"], found[0]["good_bytes"]), (26, 12))
 
     def test_taken_up_after_a_file_that_was_not_read(self):
         os.symlink("nowhere", self.folder / "0.PC1")

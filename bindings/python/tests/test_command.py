@@ -23,6 +23,7 @@ from .support import (
     SHAPES,
     TAIL,
     blocks,
+    broken,
     command,
     expected_registers,
     noise,
@@ -378,6 +379,21 @@ class Refusals(unittest.TestCase):
         self.assertEqual(self.refused(line, "summary", "--kind", "degas", data=b""), b"refused 3 at 0\n")
         line = "2 at 0: unknown kind or form: neither content nor extension names a kind, --kind can"
         self.assertEqual(self.refused(line, "summary", data=b"text"), b"refused 2 at 0\n")
+
+    def test_which_row_broke(self):
+        line = "7 at 108: a record crosses its row's end (plane row 26, 11 bytes good)"
+        self.assertEqual(self.refused(line, "tally", data=broken(26, 11)), b"")
+        self.assertEqual(self.refused(line, "summary", data=broken(26, 11)), b"refused 7 at 108\n")
+        line = "6 at 34: input ends before the screen or row is full (plane row 0, 0 bytes good)"
+        self.assertEqual(self.refused(line, "summary", data=broken(0, 0, b"")), b"refused 6 at 34\n")
+
+    def test_which_row_broke_in_a_named_file(self):
+        with tempfile.TemporaryDirectory() as folder:
+            path = Path(folder, "map.pc1")
+            path.write_bytes(broken(26, 11))
+            done = command("png", "-q", path)
+        told = "refused 7 at 108: a record crosses its row's end (plane row 26, 11 bytes good)"
+        self.assertEqual(done.stderr.decode(), f"kutimuq: {path}: {told}\n")
 
     def test_long_input(self):
         line = "3 at 0: file length not allowed"

@@ -4,11 +4,18 @@ import unittest
 
 import kutimuq
 from kutimuq import Form, Kind
-from kutimuq.kinds import KINDS, READ_LIMIT, UNKNOWN, find_kind
+from kutimuq.kinds import FORM_NAMES, FORMS, KIND_NAMES, KINDS, READ_LIMIT, UNKNOWN, find_kind
 
 from .support import BLANK, PALETTE, Case, noise
 
 PICTURE = kutimuq.Picture(0, PALETTE)
+
+
+class Enumerations(unittest.TestCase):
+    def test_every_kind_and_form_has_its_name(self):
+        for numbers, names, table in ((Kind, KIND_NAMES, KINDS), (Form, FORM_NAMES, FORMS)):
+            self.assertEqual({each.name.lower(): each.value for each in numbers}, names)
+            self.assertEqual(list(table), list(names.values()))
 
 
 class Content(unittest.TestCase):

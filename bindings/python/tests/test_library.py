@@ -75,4 +75,8 @@ class Numbers(unittest.TestCase):
 
     def test_a_number_of_a_later_library(self):
         self.assertEqual(str(kutimuq.Refused(200, 7)), "refused 200 at 7: unknown refusal")
-        self.assertEqual(kutimuq.Refused(6, 34).plane_row, None)
+
+    def test_the_numbers_as_the_library_gives_them(self):
+        refusal = kutimuq.Refused(8, 34, 3, 5)
+        self.assertEqual((refusal.plane_row, refusal.good_bytes, refusal.in_row), (3, 5, False))
+        self.assertEqual(str(refusal), "refused 8 at 34: after the body not exactly 32 bytes")

@@ -8,7 +8,7 @@ from pathlib import Path
 import kutimuq
 from kutimuq import Form, Kind
 
-from .support import BLANK, PALETTE, TAIL, Case, blocks, noise
+from .support import BLANK, CROSSING, PALETTE, SHAPES, TAIL, Case, blocks, broken, noise
 
 LENGTHS = {Form.PLAIN: 32_034, Form.ELITE: 32_066, Form.NEO: 32_128}
 
@@ -79,6 +79,22 @@ class Reading(Case):
         self.assertEqual(
             str(caught.exception), "refused 8 at 1634: after the body not exactly 32 bytes"
         )
+
+
+    def test_which_row_broke(self):
+        for resolution, (width, height, planes) in enumerate(SHAPES):
+            last_row, last_byte = height * planes - 1, width // 8 - 1
+            for plane_row, good_bytes in ((0, 0), (0, 1), (26, 0), (26, 11), (last_row, last_byte)):
+                for number, fault in ((6, b""), (6, b"\0"), (7, CROSSING)):
+                    file = broken(plane_row, good_bytes, fault, resolution)
+                    refused = self.assertRefused(number, len(file) - len(fault), kutimuq.read, file, Kind.DEGAS)
+                    self.assertEqual((refused.plane_row, refused.good_bytes), (plane_row, good_bytes))
+
+    def test_which_row_broke_in_words(self):
+        refused = self.assertRefused(7, 108, kutimuq.read, broken(26, 11), Kind.DEGAS)
+        self.assertEqual(str(refused), "refused 7 at 108: a record crosses its row's end (plane row 26, 11 bytes good)")
+        refused = self.assertRefused(6, 34, kutimuq.read, broken(0, 0, b""), Kind.DEGAS)
+        self.assertTrue(str(refused).endswith(" is full (plane row 0, 0 bytes good)"))
 
 
 class Writing(Case):
@@ -264,10 +280,18 @@ class Rows(Case):
         self.assertRefused(7, 0, kutimuq.unpack_row, b"\xfe\x07", 2)
         self.assertRefused(6, 0, kutimuq.unpack_row, b"", 2)
         self.assertRefused(6, 1, kutimuq.unpack_row, b"\x80", 2)
+        self.assertRefused(6, 2, kutimuq.unpack_row, b"\xff\x07", 3)
         for width in (0, 129, -1, 1 << 32, 1 << 64, (1 << 64) + 2):
             self.assertRefused(10, 0, kutimuq.unpack_row, b"\xff\x07", width)
         for width in (0, 129):
             self.assertRefused(10, 0, kutimuq.pack_row, bytes(width))
+
+    def test_how_far_a_row_is_good(self):
+        good = bytes.fromhex("FE 07 80 01 01 02")
+        for number, fault in ((6, "FE"), (6, "01 07"), (7, "03 01 02 03 04")):
+            refused = self.assertRefused(number, 6, kutimuq.unpack_row, good + bytes.fromhex(fault), 8)
+            self.assertEqual((refused.plane_row, refused.good_bytes), (0, 5))
+            self.assertEqual(str(refused), f"refused {number} at 6: {refused.meaning} (plane row 0, 5 bytes good)")
 
     def test_not_bytes(self):
         for row in (3, None, "row", [1, 2]):

@@ -7,12 +7,11 @@ import tempfile
 import unittest
 from html.parser import HTMLParser
 from pathlib import Path
-from unittest import mock
 
 import kutimuq
 from kutimuq import Form, box, report
 
-from .support import BLANK, PALETTE, SAMPLES, TAIL, blocks, command
+from .support import BLANK, PALETTE, SAMPLES, TAIL, blocks, broken, command
 
 # Opens a picture, points at a pixel of it and marks the page as ready.
 POINT = """<script>
@@ -95,13 +94,27 @@ class Page(unittest.TestCase):
         (self.folder / "A.PC1").unlink()
         self.assertEqual(report.image_of(*arguments), "")
 
-    def test_rows_and_bytes_where_they_are_known(self):
-        self.assertNotIn("plane row", self.page())
-        read = mock.Mock(side_effect=kutimuq.Refused(7, 40, 5, 12))
-        with mock.patch.object(box, "read", read):
-            command("check", self.folder, "--report", self.path)
-        self.assertIn("<td>5</td><td>12</td>", self.path.read_text())
-        self.assertIn("<th>plane row</th><th>good bytes</th>", self.path.read_text())
+    def test_how_far_maps_are_good(self):
+        for resolution, plane_row, good_bytes, line, plane, pixels in (
+            (0, 0, 0, 0, 0, "0 of 64000 (0.0 %)"),
+            (0, 26, 11, 6, 2, "1920 of 64000 (3.0 %)"),
+            (0, 27, 11, 6, 3, "2008 of 64000 (3.1 %)"),
+            (1, 26, 11, 13, 0, "8320 of 128000 (6.5 %)"),
+            (1, 399, 79, 199, 1, "127992 of 128000 (99.9 %)"),
+            (2, 26, 11, 26, 0, "16728 of 256000 (6.5 %)"),
+        ):
+            self.put("@@DATA@@.PC1", broken(plane_row, good_bytes, resolution=resolution))
+            rows = f"plane row {plane_row}, {good_bytes} bytes good: scan line {line}, plane {plane}"
+            page = self.page()
+            self.assertIn(f"row&#x27;s end</td><td>{rows}</td><td>{pixels}</td></tr>", page)
+            self.assertIn("after the body not exactly 32 bytes</td><td></td><td></td></tr>", page)
+        self.assertIn("<th>meaning</th><th>good rows</th><th>good pixels</th></tr>", page)
+
+    def test_no_map_that_broke_in_a_row(self):
+        self.put("@@DATA@@.PC1", BLANK + b"\0")
+        page = self.page()
+        self.assertIn("<th>meaning</th></tr>", page)
+        self.assertNotIn("good", page)
 
     @unittest.skipUnless(shutil.which("chromium"), "chromium is not installed")
     def test_in_a_browser(self):

@@ -44,5 +44,6 @@ class Samples(unittest.TestCase):
             f"{PONDS},magnesium pond,2,magnesium brine,80,2624,472,904,",
             f"{PONDS},shadow over it,4,cloud shadow,80,400,0,3600,",
             f"{PONDS},whole works,2,magnesium brine,80,2624,3968,57408,",
-            f"{SAMPLES / 'torn.pc1'},,,,,,,,refused 7 at 4096: a record crosses its row's end",
+            f"{SAMPLES / 'torn.pc1'},,,,,,,,"
+            "\"refused 7 at 4096: a record crosses its row's end (plane row 481, 30 bytes good)\"",
         ]))

@@ -122,6 +122,20 @@ extern "C" {
         registers: *const u8,
         registers_len: usize,
     ) -> Refusal;
+    pub fn kutimuq_screen_out(
+        screen: *const u8,
+        screen_len: usize,
+        resolution: u16,
+        out: *mut u8,
+        out_len: usize,
+    ) -> Refusal;
+    pub fn kutimuq_screen_in(
+        screen: *mut u8,
+        screen_len: usize,
+        resolution: u16,
+        registers: *const u8,
+        registers_len: usize,
+    ) -> Refusal;
     pub fn kutimuq_tally(
         screen: *const u8,
         screen_len: usize,

@@ -34,7 +34,9 @@ mod rows;
 
 pub use ffi::{Legend, Rectangle};
 pub use files::{read, write, Form, Kind, Picture, Reading, Tail, Written};
-pub use pixels::{colour, line_in, line_out, pond, tally, Colour, PondReading};
+pub use pixels::{
+    colour, line_in, line_out, pond, screen_in, screen_out, tally, Colour, PondReading,
+};
 pub use refusal::Refusal;
 pub use resolution::{Resolution, Shape};
 pub use rows::{pack_row, unpack_row, PackedRow};

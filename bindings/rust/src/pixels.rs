@@ -45,6 +45,26 @@ pub fn line_in(
     unsafe { ffi::kutimuq_line_in(to, to_len, resolution as u16, line, from, from_len) }.judged()
 }
 
+/// Takes the registers of a whole screen, line after line, one byte a pixel, to the front of `out`.
+pub fn screen_out(screen: &[u8], resolution: Resolution, out: &mut [u8]) -> Result<(), Refusal> {
+    let (from, from_len) = (screen.as_ptr(), screen.len());
+    let (to, to_len) = (out.as_mut_ptr(), out.len());
+    // SAFETY: pointers and lengths are those of slices.
+    unsafe { ffi::kutimuq_screen_out(from, from_len, resolution as u16, to, to_len) }.judged()
+}
+
+/// Puts the registers of a whole screen, line after line, one byte a pixel.
+pub fn screen_in(
+    screen: &mut [u8],
+    resolution: Resolution,
+    registers: &[u8],
+) -> Result<(), Refusal> {
+    let (to, to_len) = (screen.as_mut_ptr(), screen.len());
+    let (from, from_len) = (registers.as_ptr(), registers.len());
+    // SAFETY: pointers and lengths are those of slices.
+    unsafe { ffi::kutimuq_screen_in(to, to_len, resolution as u16, from, from_len) }.judged()
+}
+
 /// Counts the pixels of each register in a rectangle.
 pub fn tally(screen: &[u8], resolution: Resolution, area: Rectangle) -> Result<[u32; 16], Refusal> {
     let (from, from_len) = (screen.as_ptr(), screen.len());

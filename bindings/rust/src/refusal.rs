@@ -1,16 +1,21 @@
-//! Refusals: the number, the place, and what each number means.
+//! Refusals: the number, the place, how far the rows are good, and what each number means.
 
 use std::error::Error;
 use std::fmt;
 
 /// Why an operation refused its input; all zero in the answer of one that accepted it.
 ///
-/// The place is an offset for 6, 7, 8, 11 and 12, and else 0.
+/// The place is an offset for 6, 7, 8, 11 and 12, and else 0. Plane row and good bytes come with 6
+/// and 7 only and are else 0: `read` gives both, `unpack_row` good bytes, and plane row 0.
 #[repr(C)]
 #[derive(Clone, Copy, Debug, Default, PartialEq, Eq)]
 pub struct Refusal {
     pub number: u8,
     pub place: usize,
+    /// The plane row with the record at fault, from 0.
+    pub plane_row: usize,
+    /// That row's bytes from the records before it.
+    pub good_bytes: usize,
 }
 
 /// Declares each number as a constant, and all of them as `NUMBERS`.
@@ -58,7 +63,14 @@ impl Refusal {
 
 impl fmt::Display for Refusal {
     fn fmt(&self, out: &mut fmt::Formatter) -> fmt::Result {
-        write!(out, "refused {} at {}: {}", self.number, self.place, self.meaning())
+        let Refusal { number, place, plane_row, good_bytes } = *self;
+        write!(out, "refused {number} at {place}: {}", self.meaning())?;
+        match number {
+            INPUT_ENDS | RECORD_CROSSES => {
+                write!(out, " (plane row {plane_row}, {good_bytes} bytes good)")
+            }
+            _ => Ok(()),
+        }
     }
 }
 

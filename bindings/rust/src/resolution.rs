@@ -50,7 +50,7 @@ impl TryFrom<u16> for Resolution {
             0 => Ok(Resolution::Low),
             1 => Ok(Resolution::Medium),
             2 => Ok(Resolution::High),
-            _ => Err(Refusal { number: refusal::UNKNOWN_RESOLUTION, place: 0 }),
+            _ => Err(Refusal { number: refusal::UNKNOWN_RESOLUTION, ..Refusal::default() }),
         }
     }
 }

@@ -56,6 +56,46 @@ fn lines_out_are_the_lines_put_in() {
 }
 
 #[test]
+fn a_whole_screen_is_its_lines() {
+    for resolution in Resolution::ALL {
+        let lines = pattern(resolution);
+        let registers = lines.concat();
+        let mut screen = [UNTOUCHED; SCREEN_BYTES + 1];
+        screen_in(&mut screen, resolution, &registers).expect("a screen");
+        assert_eq!(screen[..SCREEN_BYTES], screen_of(resolution, &lines)[..]);
+        assert_eq!(screen[SCREEN_BYTES], UNTOUCHED);
+        let mut out = vec![UNTOUCHED; registers.len() + 1];
+        screen_out(&screen, resolution, &mut out).expect("registers");
+        assert_eq!(out[..registers.len()], registers[..]);
+        assert_eq!(out[registers.len()], UNTOUCHED);
+    }
+}
+
+#[test]
+fn a_whole_screen_is_refused() {
+    for resolution in Resolution::ALL {
+        let Shape { width, height, planes, .. } = resolution.shape();
+        let mut screen = [UNTOUCHED; SCREEN_BYTES];
+        let mut registers = vec![0; width * height];
+        let short = &screen[1..];
+        assert_eq!(refused(screen_out(short, resolution, &mut registers)), (1, 0));
+        assert_eq!(refused(screen_out(&screen, resolution, &mut registers[1..])), (1, 0));
+        assert!(registers.iter().all(|register| *register == 0));
+
+        let last = registers.len() - 1;
+        for place in [0, last] {
+            registers.fill(0);
+            registers[place] = 1 << planes;
+            assert_eq!(refused(screen_in(&mut screen[1..], resolution, &registers)), (1, 0));
+            assert_eq!(refused(screen_in(&mut screen, resolution, &registers[..last])), (1, 0));
+            let answer = screen_in(&mut screen, resolution, &registers);
+            assert_eq!(refused(answer), (refusal::OUT_OF_RANGE, 0));
+        }
+        assert!(screen.iter().all(|byte| *byte == UNTOUCHED));
+    }
+}
+
+#[test]
 fn tally_counts_the_registers() {
     for resolution in Resolution::ALL {
         let lines = pattern(resolution);
@@ -114,6 +154,74 @@ fn rows_pack_to_the_shortest_body() {
 }
 
 #[test]
+fn a_row_says_how_far_it_is_good() {
+    // Three bytes, nothing, two bytes; then a record at fault for each number.
+    let good = [0xFE, 7, 0x80, 0x01, 1, 2];
+    let mut row = [UNTOUCHED; 8];
+    for (number, fault) in [
+        (refusal::INPUT_ENDS, &[][..]),
+        (refusal::INPUT_ENDS, &[0x02, 1, 2]),
+        (refusal::INPUT_ENDS, &[0xFE]),
+        (refusal::RECORD_CROSSES, &[0x03, 1, 2, 3, 4]),
+        (refusal::RECORD_CROSSES, &[0xFD]),
+    ] {
+        let packed = [&good, fault].concat();
+        let refused = unpack_row(&packed, 8, &mut row).expect_err("a refusal");
+        assert_eq!(refused, Refusal { number, place: 6, plane_row: 0, good_bytes: 5 });
+        assert!(refused.to_string().ends_with(" (plane row 0, 5 bytes good)"));
+    }
+    assert_eq!(row, [UNTOUCHED; 8]);
+    for refused in [unpack_row(&good, 129, &mut row), unpack_row(&good, 9, &mut row)] {
+        let Refusal { place, plane_row, good_bytes, .. } = refused.expect_err("a refusal");
+        assert_eq!((place, plane_row, good_bytes), (0, 0, 0));
+    }
+}
+
+/// A packed file of zeros whose plane row of this number is bytes, one a record, and then the
+/// fault, at which the file ends.
+fn broken_file(
+    resolution: Resolution,
+    plane_row: usize,
+    good_bytes: usize,
+    fault: &[u8],
+) -> Vec<u8> {
+    let repeat = (257 - resolution.shape().row_bytes) as u8;
+    let mut file = vec![0; 34];
+    file[..2].copy_from_slice(&[0x80, resolution as u8]);
+    file.extend([repeat, 0].repeat(plane_row));
+    file.extend([0x00, 7].repeat(good_bytes));
+    file.extend(fault);
+    file
+}
+
+#[test]
+fn a_file_says_which_row_broke() {
+    let mut area = vec![UNTOUCHED; SCREEN_BYTES];
+    for resolution in Resolution::ALL {
+        let Shape { height, planes, row_bytes, .. } = resolution.shape();
+        let last_row = height * planes - 1;
+        let last_byte = row_bytes - 1;
+        for (plane_row, good_bytes) in [(0, 0), (0, 1), (26, 11), (26, 0), (last_row, last_byte)] {
+            for (number, fault) in [
+                (refusal::INPUT_ENDS, &[][..]),
+                (refusal::INPUT_ENDS, &[0x00]),
+                (refusal::RECORD_CROSSES, &[(row_bytes - good_bytes) as u8]),
+            ] {
+                let file = broken_file(resolution, plane_row, good_bytes, fault);
+                let place = 34 + 2 * plane_row + 2 * good_bytes;
+                let refused = read(Kind::Degas, &file, &mut area).expect_err("a refusal");
+                assert_eq!(refused, Refusal { number, place, plane_row, good_bytes });
+            }
+        }
+    }
+    assert!(area.iter().all(|byte| *byte == UNTOUCHED));
+    let crossing = broken_file(Resolution::Low, 26, 11, &[29]);
+    let refused = read(Kind::Degas, &crossing, &mut area).expect_err("a refusal");
+    let meaning = "a record crosses its row's end (plane row 26, 11 bytes good)";
+    assert_eq!(refused.to_string(), format!("refused 7 at 108: {meaning}"));
+}
+
+#[test]
 fn every_form_reads_back() {
     for resolution in Resolution::ALL {
         let screen = screen_of(resolution, &pattern(resolution));
@@ -148,7 +256,8 @@ fn the_sample_and_its_damage() {
 
     let mut area = vec![UNTOUCHED; SCREEN_BYTES];
     let cut = read(Kind::Degas, &PONDS[..PONDS.len() - 1], &mut area).expect_err("a refusal");
-    assert_eq!(cut, Refusal { number: refusal::WRONG_TAIL, place: PONDS.len() - 32 });
+    let place = PONDS.len() - 32;
+    assert_eq!(cut, Refusal { number: refusal::WRONG_TAIL, place, ..Refusal::default() });
     assert!(cut.to_string().starts_with("refused 8 at "));
     assert!(cut.to_string().ends_with(cut.meaning()));
     assert_eq!(refused(read(Kind::Neochrome, PONDS, &mut area)), (refusal::WRONG_LENGTH, 0));

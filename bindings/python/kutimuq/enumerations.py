@@ -1,0 +1,51 @@
+"""The library's numbers as enumerations. They are not needed to start, and enum takes long to import."""
+
+from __future__ import annotations
+
+from enum import IntEnum
+
+from . import kinds
+
+
+class Kind(IntEnum):
+    """A kind of file, by the number that the library reads it under."""
+
+    DEGAS = kinds.KIND_DEGAS
+    NEO = kinds.KIND_NEO
+    TINY = kinds.KIND_TINY
+
+
+class Form(IntEnum):
+    """A form of file, by the number that the library writes it under."""
+
+    PLAIN = kinds.FORM_PLAIN
+    ELITE = kinds.FORM_ELITE
+    PACKED = kinds.FORM_PACKED
+    NEO = kinds.FORM_NEO
+
+
+class RefusalNumber(IntEnum):
+    """The numbers given back, named as in the library, with their meaning."""
+
+    meaning: str
+
+    def __new__(cls, number: int, meaning: str):
+        member = int.__new__(cls, number)
+        member._value_ = number
+        member.meaning = meaning
+        return member
+
+    ACCEPTED = 0, "accepted"
+    AREA_TOO_SHORT = 1, "a lent area too short"
+    UNKNOWN_KIND = 2, "unknown kind or form"
+    WRONG_LENGTH = 3, "file length not allowed"
+    WRONG_FLAG = 4, "NEOchrome flag not 0"
+    UNKNOWN_RESOLUTION = 5, "resolution above 2"
+    INPUT_ENDS = 6, "input ends before the screen or row is full"
+    RECORD_CROSSES = 7, "a record crosses its row's end"
+    WRONG_TAIL = 8, "after the body not exactly 32 bytes"
+    NO_PACKED_BODY = 9, "no packed body below 32,000 exists"
+    OUT_OF_RANGE = 10, "a number out of range"
+    UNDEFINED_CONTROL = 11, "a control byte or a count that is not defined"
+    RUN_TOO_LONG = 12, "a count cut short, or a run past the words to make or the data"
+    SIZE_MISMATCH = 13, "data left or words missing after the last run"
