@@ -1,57 +1,89 @@
 #!/bin/sh
-# Instructions per picture, by valgrind: each operation done twice less done once.
+# Instructions per call, by callgrind: each operation done twice less done once, by the library and in plain Rust.
+#
+# Usage: instructions.sh [OPERATION...]
+#
+# OPERATION is an operation of the table of times, or pack-row alone; ten are counted where none is named. The
+# environment variable SCREEN is a screen of that table, by default map; 64 screens in turn count as one call.
 set -eu
+
+# Valgrind counts each byte of a rep movsb as one instruction: here no copy is long enough for one.
+export GLIBC_TUNABLES=glibc.cpu.x86_rep_movsb_threshold=1000000
 
 here=$(cd "$(dirname "$0")" && pwd)
 cargo build -q --release --offline --manifest-path "$here/Cargo.toml"
 bench=${CARGO_TARGET_DIR:-$here/target}/release/kutimuq-bench
+screen=${SCREEN:-map}
 
-# All instructions of a run: OPERATION SCREEN SIZE N.
+# All instructions of a run: OPERATION SIZE N.
 collected() {
-    valgrind --tool=callgrind --callgrind-out-file=/dev/null "$bench" --once "$@" 2>&1 |
+    valgrind --tool=callgrind --callgrind-out-file=/dev/null "$bench" --once "$1" "$screen" "$2" "$3" 2>&1 |
         sed -n 's/.*Collected : //p'
 }
 
-# Instructions of one operation: OPERATION SCREEN SIZE.
+# Instructions of one operation: OPERATION SIZE. An unknown name ends the script with the program's own message.
 instructions() {
+    "$bench" --once "$1" "$screen" "$2" 1 || exit
     twice=$(collected "$@" 2)
     once=$(collected "$@" 1)
     if [ "$twice" -le "$once" ]; then
-        echo "no count of: $*" >&2
+        echo "no count of: $1 $screen $2" >&2
         exit 1
     fi
     echo $((twice - once))
 }
 
-# A line of a table: OPERATION SCREEN SIZE BYTES BASELINE, the last an operation to compare with.
-line() {
-    ours=$(instructions "$1" "$2" "$3")
-    theirs=$(instructions "$5" "$2" "$3")
-    awk -v n="$1" -v s="$2" -v z="$3" -v l="$ours" -v o="$theirs" -v b="$4" \
-        'BEGIN { printf "| %s | %s | %s | %d | %d | %.2f | %.2f |\n", n, s, z, l, o, l / o, l / b }'
+# Counts in columns, those of the library before those of plain Rust, and the ratios: NAME COUNT...
+columns() {
+    echo "$@" | awk '
+        function grouped(n) { return n < 1000 ? n : grouped(int(n / 1000)) sprintf(",%03d", n % 1000) }
+        {
+            half = (NF - 1) / 2
+            printf "| %s |", $1
+            for (i = 2; i <= NF; i++) printf " %s |", grouped($i)
+            for (i = 2; i <= half + 1; i++) printf "%s %.2f", i == 2 ? "" : ",", $i / $(i + half)
+            print " |"
+        }'
 }
 
-echo "instructions per picture; ratio: library / Rust (raw-read: library / memcpy, where valgrind"
-echo "counts each byte of a rep movsb as one instruction)"
-echo
-echo "| operation | screen | resolution | library | Rust or memcpy | ratio | per byte |"
-echo "|---|---|---|---|---|---|---|"
-for operation in raw-read packed-read tiny-read form3-write lines-out tally; do
-    baseline=rust-$operation
-    if [ $operation = raw-read ]; then baseline=memcpy; fi
-    for screen in map blank noise worst; do
+# A line of the table of pictures: OPERATION.
+picture_line() {
+    counts=
+    for by in "" rust-; do
         for resolution in low medium high; do
-            line $operation $screen $resolution 32000 $baseline
+            count=$(instructions "$by$1" $resolution)
+            counts="$counts $count"
         done
     done
-done
-echo
-echo "instructions per row packed"
-echo
-echo "| operation | screen | width | library | Rust | ratio | per byte |"
-echo "|---|---|---|---|---|---|---|"
-for screen in map worst; do
-    for width in 1 2 4 8 16 32 48 64 80 96 112 128; do
-        line pack-row $screen $width $width rust-pack-row
+    # shellcheck disable=SC2086 # one word a count
+    columns "$1" $counts
+}
+
+picture_lines() {
+    echo "| operation | low | medium | high | Rust low | Rust medium | Rust high | ratio |"
+    echo "|---|---|---|---|---|---|---|---|"
+    for operation; do
+        picture_line "$operation"
     done
-done
+    copy=$(instructions memcpy low)
+    echo
+    echo "memcpy of a screen: $copy"
+}
+
+row_lines() {
+    echo "| width of a row packed | library | Rust | ratio |"
+    echo "|---|---|---|---|"
+    for width in 1 2 4 8 16 32 48 64 80 96 112 128; do
+        library=$(instructions pack-row $width)
+        rust=$(instructions rust-pack-row $width)
+        columns $width "$library" "$rust"
+    done
+}
+
+echo "instructions per call, screen $screen; ratio: library / Rust"
+echo
+case "$*" in
+"") picture_lines packed-read tiny-read form3-write lines-in lines-out screen-in screen-out tally pond raw-read ;;
+pack-row) row_lines ;;
+*) picture_lines "$@" ;;
+esac

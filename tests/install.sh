@@ -6,6 +6,7 @@ set -eu
 
 root=$(cd "$(dirname "$0")/.." && pwd)
 sample=$root/samples/ponds.pc1
+torn=$root/samples/torn.pc1
 work=$(mktemp -d)
 trap 'rm -rf "$work"' EXIT
 include=$work/usr/include
@@ -74,6 +75,10 @@ example() {
     check "exit status of a refusal" test "$status" = 1
     refusal=$("$KUTIMUQ_SUMMARY" < "$work/cut")
     check "the cut sample's refusal" grep -qF "$work/cut: $refusal: " "$work/errors"
+
+    "$1" "$torn" 2> "$work/errors" || :
+    refusal="$("$KUTIMUQ_SUMMARY" < "$torn"): a record crosses its row's end (plane row 481, 30 bytes good)"
+    check "the torn sample's row" grep -qxF "$torn: $refusal" "$work/errors"
 }
 
 make -s -C "$root" -o target/staticlib/libcapi.a install PREFIX=/usr DESTDIR="$work"

@@ -16,7 +16,9 @@
            sizeof(((Kutimuq##name *)NULL)->field))
 #define REFUSAL(name) \
     FIELD(name, refusal.number); \
-    FIELD(name, refusal.place)
+    FIELD(name, refusal.place); \
+    FIELD(name, refusal.plane_row); \
+    FIELD(name, refusal.good_bytes)
 #define CONSTANT(name) printf("%s is %d\n", #name, KUTIMUQ_##name)
 #define NAME(name) \
     case KUTIMUQ_##name: \
@@ -27,6 +29,8 @@ static void print_refusals(void)
     STRUCT(Refusal);
     FIELD(Refusal, number);
     FIELD(Refusal, place);
+    FIELD(Refusal, plane_row);
+    FIELD(Refusal, good_bytes);
 
     STRUCT(RowAnswer);
     REFUSAL(RowAnswer);

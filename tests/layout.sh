@@ -1,7 +1,7 @@
 #!/bin/sh
-# Compares what the C header declares with the Rust side, the refusal numbers with Rattle's, and those,
-# their meanings and the version with Python's. KUTIMUQ_INCLUDE names the header's folder, default
-# include/ of the repository.
+# Compares what the C header declares with the Rust side, the structs' fields and the refusal numbers with
+# Rattle's, and those numbers, their meanings and the version with Python's. KUTIMUQ_INCLUDE names the
+# header's folder, default include/ of the repository.
 set -eu
 
 here=$(cd "$(dirname "$0")" && pwd)
@@ -32,5 +32,9 @@ equal "the refusal numbers of Rust and Rattle" "$work/numbers" "$work/rattle"
 grep '^version \| number [0-9]*: ' "$work/rust" > "$work/named"
 PYTHONPATH=$root/bindings/python python3 "$here/layout.py" > "$work/python"
 equal "Rust and Python" "$work/named" "$work/python"
+
+python3 "$here/fields.py" rattle "$root/crates" > "$work/rattle-fields"
+python3 "$here/fields.py" c "$include/kutimuq.h" > "$work/c-fields"
+equal "the fields of Rattle's structs and C's" "$work/rattle-fields" "$work/c-fields"
 
 echo "layout: $passed passed, 0 failed"

@@ -3,9 +3,9 @@
 //! Usage: kutimuq-bench
 //!        kutimuq-bench --once OPERATION SCREEN RESOLUTION N
 //!
-//! The second form does one operation N times, for a count of instructions. OPERATION is a name
-//! of the table, `rust-` and such a name, or `memcpy`; or `pack-row` or `rust-pack-row`, with a
-//! row width in place of the resolution.
+//! The second form does one operation N times, for a count of instructions, each time for every
+//! picture of the series. OPERATION is a name of the table, `rust-` and such a name, or
+//! `memcpy`; or `pack-row` or `rust-pack-row`, with a row width in place of the resolution.
 
 mod operations;
 mod pictures;
@@ -14,8 +14,9 @@ mod times;
 
 use std::process::ExitCode;
 
+use kutimuq_tests::reference::PACK_AREA_BYTES;
 use operations::{By, OPERATIONS};
-use pictures::{Subject, KINDS, RESOLUTIONS};
+use pictures::{Subject, RESOLUTIONS, SERIES};
 
 fn main() -> ExitCode {
     let arguments: Vec<String> = std::env::args().skip(1).collect();
@@ -37,23 +38,23 @@ fn main() -> ExitCode {
 
 fn once(operation: &str, screen: &str, size: &str, times: &str) -> Option<()> {
     let times: usize = times.parse().ok()?;
-    let kind = named(&KINDS, screen)?;
+    let series = named(&SERIES, screen)?;
     let (name, by) = match operation.strip_prefix("rust-") {
         Some(name) => (name, By::Plain),
         None => (operation, By::Library),
     };
     if name == "pack-row" {
-        let row = Subject::new(kind, 0).row(size.parse().ok()?);
-        let mut out = [0; 129];
+        let row = Subject::new(series, 0).row(size.parse().ok()?);
+        let mut out = [0; PACK_AREA_BYTES];
         (0..times).for_each(|_| operations::pack_row(by, &row, &mut out));
         return Some(());
     }
-    let mut subject = Subject::new(kind, named(&RESOLUTIONS, size)?);
+    let mut subject = Subject::new(series, named(&RESOLUTIONS, size)?);
     if name == "memcpy" {
         (0..times).for_each(|_| operations::copy(&mut subject));
         return Some(());
     }
-    let operation = named(&OPERATIONS, name)?;
+    let operation = named(OPERATIONS, name)?;
     (0..times).for_each(|_| operations::run(operation, by, &mut subject));
     Some(())
 }

@@ -1,14 +1,16 @@
 //! The operations measured, once by the library and once in plain Rust.
 
+use std::fmt::Debug;
 use std::hint::black_box;
 
+use kutimuq::ffi::{Legend, Rectangle};
 use kutimuq_tests::library::Library;
 use kutimuq_tests::operations::Operations;
 use kutimuq_tests::reference::{
-    whole_screen, FORM_ELITE_PACKED, KIND_DEGAS, KIND_TINY, SCREEN_BYTES,
+    Shape, FORM_ELITE_PACKED, KIND_DEGAS, KIND_TINY, PACK_AREA_BYTES, SCREEN_BYTES, WIDEST_ROW,
 };
 
-use crate::pictures::Subject;
+use crate::pictures::{Areas, Input, Series, Subject};
 use crate::plain;
 
 #[derive(Clone, Copy, PartialEq, Eq)]
@@ -17,17 +19,40 @@ pub enum Operation {
     PackedRead,
     TinyRead,
     PackedWrite,
-    Lines,
-    Tally,
+    LinesOut,
+    LinesIn,
+    ScreenOut,
+    ScreenIn,
+    Tally(Part),
+    Pond(Part),
 }
 
-pub const OPERATIONS: [(Operation, &str); 6] = [
+/// The part of a screen that is counted.
+#[derive(Clone, Copy, PartialEq, Eq)]
+pub enum Part {
+    Whole,
+    Line,
+    /// 16 by 16 pixels in two groups.
+    Square,
+    /// 5 by 3 pixels in two groups.
+    Few,
+}
+
+pub const OPERATIONS: &[(Operation, &str)] = &[
     (Operation::RawRead, "raw-read"),
     (Operation::PackedRead, "packed-read"),
     (Operation::TinyRead, "tiny-read"),
     (Operation::PackedWrite, "form3-write"),
-    (Operation::Lines, "lines-out"),
-    (Operation::Tally, "tally"),
+    (Operation::LinesOut, "lines-out"),
+    (Operation::LinesIn, "lines-in"),
+    (Operation::ScreenOut, "screen-out"),
+    (Operation::ScreenIn, "screen-in"),
+    (Operation::Tally(Part::Whole), "tally"),
+    (Operation::Tally(Part::Line), "tally-line"),
+    (Operation::Tally(Part::Square), "tally-16x16"),
+    (Operation::Tally(Part::Few), "tally-5x3"),
+    (Operation::Pond(Part::Whole), "pond"),
+    (Operation::Pond(Part::Square), "pond-16x16"),
 ];
 
 #[derive(Clone, Copy, PartialEq, Eq)]
@@ -36,60 +61,182 @@ pub enum By {
     Plain,
 }
 
-/// Does the operation once.
-pub fn run(operation: Operation, by: By, subject: &mut Subject) {
-    let subject = black_box(subject);
-    match operation {
-        Operation::RawRead => read(by, KIND_DEGAS, &subject.raw_file, &mut subject.area),
-        Operation::PackedRead => read(by, KIND_DEGAS, &subject.packed_file, &mut subject.area),
-        Operation::TinyRead => read(by, KIND_TINY, &subject.tiny_file, &mut subject.area),
-        Operation::PackedWrite => write(by, subject),
-        Operation::Lines => lines(by, subject),
-        Operation::Tally => tally(by, subject),
+impl Operation {
+    /// Whether it is measured on this series: on many screens only what branches on their bytes.
+    pub fn takes(self, series: Series) -> bool {
+        let branching = [Operation::PackedRead, Operation::TinyRead, Operation::PackedWrite];
+        series.screens == 1 || branching.contains(&self)
     }
 }
 
-fn read(by: By, kind: u8, file: &[u8], area: &mut [u8]) {
-    black_box(match by {
+impl Part {
+    fn rectangle(self, shape: &Shape) -> Rectangle {
+        const MIDDLE: usize = 100;
+        match self {
+            Part::Whole => Rectangle { left: 0, top: 0, columns: shape.width, lines: shape.height },
+            Part::Line => Rectangle { left: 0, top: MIDDLE, columns: shape.width, lines: 1 },
+            Part::Square => Rectangle { left: 153, top: MIDDLE, columns: 16, lines: 16 },
+            Part::Few => Rectangle { left: 157, top: MIDDLE, columns: 5, lines: 3 },
+        }
+    }
+}
+
+/// What becomes of each call's answer and of the area that it wrote to.
+trait Sink {
+    fn take(&mut self, answer: impl Debug, area: &[u8]);
+}
+
+/// Keeps the compiler from leaving a call out.
+struct Unseen;
+
+impl Sink for Unseen {
+    fn take(&mut self, answer: impl Debug, area: &[u8]) {
+        black_box(&answer);
+        black_box(area);
+    }
+}
+
+/// Keeps all, to compare.
+#[derive(Default, PartialEq, Eq)]
+struct Record(Vec<(String, Vec<u8>)>);
+
+impl Sink for Record {
+    fn take(&mut self, answer: impl Debug, area: &[u8]) {
+        self.0.push((format!("{answer:?}"), area.to_vec()));
+    }
+}
+
+/// Does the operation once for each picture.
+pub fn run(operation: Operation, by: By, subject: &mut Subject) {
+    perform(operation, by, subject, &mut Unseen);
+}
+
+/// Whether library and plain Rust answer alike and leave the same bytes.
+pub fn agree(operation: Operation, subject: &mut Subject) -> bool {
+    const UNWRITTEN: u8 = 99;
+    let [by_library, by_plain] = [By::Library, By::Plain].map(|by| {
+        let mut record = Record::default();
+        subject.areas.fill(UNWRITTEN);
+        perform(operation, by, subject, &mut record);
+        record
+    });
+    by_library == by_plain
+}
+
+fn perform(operation: Operation, by: By, subject: &mut Subject, sink: &mut impl Sink) {
+    let Subject { shape, inputs, areas } = black_box(subject);
+    for input in inputs.iter() {
+        match operation {
+            Operation::RawRead => read(by, KIND_DEGAS, &input.raw_file, areas, sink),
+            Operation::PackedRead => read(by, KIND_DEGAS, &input.packed_file, areas, sink),
+            Operation::TinyRead => read(by, KIND_TINY, &input.tiny_file, areas, sink),
+            Operation::PackedWrite => write(by, input, areas, sink),
+            Operation::LinesOut => lines_out(by, shape, input, areas, sink),
+            Operation::LinesIn => lines_in(by, shape, input, areas, sink),
+            Operation::ScreenOut => screen_out(by, input, areas, sink),
+            Operation::ScreenIn => screen_in(by, input, areas, sink),
+            Operation::Tally(part) => tally(by, input, part.rectangle(shape), sink),
+            Operation::Pond(part) => pond(by, input, part.rectangle(shape), sink),
+        }
+    }
+}
+
+fn read(by: By, kind: u8, file: &[u8], areas: &mut Areas, sink: &mut impl Sink) {
+    let area = &mut areas.screen;
+    let answer = match by {
         By::Library => Library.read(kind, file, area),
         By::Plain => plain::read(kind, file, area),
-    });
+    };
+    sink.take(answer, area);
 }
 
-fn write(by: By, subject: &mut Subject) {
-    let Subject { picture, screen, out, .. } = subject;
-    black_box(match by {
+fn write(by: By, input: &Input, areas: &mut Areas, sink: &mut impl Sink) {
+    let Input { picture, screen, .. } = input;
+    let out = &mut areas.file;
+    let answer = match by {
         By::Library => Library.write(FORM_ELITE_PACKED, *picture, screen, out),
         By::Plain => plain::write_packed(picture, screen, out),
-    });
+    };
+    sink.take(answer, out);
 }
 
-fn lines(by: By, subject: &mut Subject) {
-    let Subject { shape, picture, screen, out, .. } = subject;
-    let registers = &mut out[..shape.width];
+/// Every line to the same place.
+fn lines_out(by: By, shape: &Shape, input: &Input, areas: &mut Areas, sink: &mut impl Sink) {
+    let Input { picture, screen, .. } = input;
+    let out = &mut areas.registers[..shape.width];
     for line in 0..shape.height {
-        black_box(match by {
-            By::Library => Library.line_out(screen, picture.resolution, line, registers),
-            By::Plain => plain::line_out(screen, picture.resolution, line, registers),
-        });
-        black_box(&*registers);
+        let answer = match by {
+            By::Library => Library.line_out(screen, picture.resolution, line, out),
+            By::Plain => plain::line_out(screen, picture.resolution, line, out),
+        };
+        sink.take(answer, out);
     }
 }
 
-fn tally(by: By, subject: &Subject) {
-    let resolution = subject.picture.resolution;
-    let area = whole_screen(resolution);
-    black_box(match by {
-        By::Library => Library.tally(&subject.screen, resolution, area),
-        By::Plain => plain::tally(&subject.screen, resolution, &area),
-    });
+fn lines_in(by: By, shape: &Shape, input: &Input, areas: &mut Areas, sink: &mut impl Sink) {
+    let resolution = input.picture.resolution;
+    let screen = &mut areas.screen;
+    for (line, registers) in input.registers.chunks_exact(shape.width).enumerate() {
+        let answer = match by {
+            By::Library => Library.line_in(screen, resolution, line, registers),
+            By::Plain => plain::line_in(screen, resolution, line, registers),
+        };
+        sink.take(answer, screen);
+    }
 }
 
-/// Copies 32,000 bytes.
+fn screen_out(by: By, input: &Input, areas: &mut Areas, sink: &mut impl Sink) {
+    let Input { picture, screen, .. } = input;
+    let out = &mut areas.registers;
+    let answer = match by {
+        By::Library => Library.screen_out(screen, picture.resolution, out),
+        By::Plain => plain::screen_out(screen, picture.resolution, out),
+    };
+    sink.take(answer, out);
+}
+
+fn screen_in(by: By, input: &Input, areas: &mut Areas, sink: &mut impl Sink) {
+    let Input { picture, registers, .. } = input;
+    let screen = &mut areas.screen;
+    let answer = match by {
+        By::Library => Library.screen_in(screen, picture.resolution, registers),
+        By::Plain => plain::screen_in(screen, picture.resolution, registers),
+    };
+    sink.take(answer, screen);
+}
+
+fn tally(by: By, input: &Input, rectangle: Rectangle, sink: &mut impl Sink) {
+    let Input { picture, screen, .. } = input;
+    match by {
+        By::Library => sink.take(Library.tally(screen, picture.resolution, rectangle), &[]),
+        By::Plain => sink.take(plain::tally(screen, picture.resolution, &rectangle), &[]),
+    }
+}
+
+/// Of four classes one, which has registers on both sides of the floor.
+fn pond(by: By, input: &Input, rectangle: Rectangle, sink: &mut impl Sink) {
+    const CLASS: u8 = 1;
+    const FLOOR: u8 = 60;
+    const LEGEND: Legend = Legend {
+        classes: [0, 1, 1, 2, 3, 0, 1, 1, 2, 3, 0, 1, 2, 3, 1, 1],
+        confidences: [90, 80, 40, 60, 100, 0, 60, 59, 75, 20, 50, 95, 30, 85, 10, 70],
+    };
+    let Input { picture, screen, .. } = input;
+    let resolution = picture.resolution;
+    let answer = match by {
+        By::Library => Library.pond(screen, resolution, rectangle, CLASS, FLOOR, LEGEND),
+        By::Plain => plain::pond(screen, resolution, &rectangle, CLASS, FLOOR, &LEGEND),
+    };
+    sink.take(answer, &[]);
+}
+
+/// Copies 32,000 bytes for each picture.
 pub fn copy(subject: &mut Subject) {
-    let Subject { screen, area, .. } = black_box(subject);
-    area[..SCREEN_BYTES].copy_from_slice(&screen[..SCREEN_BYTES]);
-    black_box(area);
+    let Subject { inputs, areas, .. } = black_box(subject);
+    for input in inputs.iter() {
+        areas.screen[..SCREEN_BYTES].copy_from_slice(&input.screen[..SCREEN_BYTES]);
+        black_box(&areas.screen);
+    }
 }
 
 /// Packs one row.
@@ -101,38 +248,12 @@ pub fn pack_row(by: By, row: &[u8], out: &mut [u8]) {
     });
 }
 
-/// Whether library and plain Rust answer alike and write the same bytes.
-pub fn agree(subject: &Subject) -> bool {
-    let resolution = subject.picture.resolution;
-    let files = [
-        (KIND_DEGAS, &subject.raw_file),
-        (KIND_DEGAS, &subject.packed_file),
-        (KIND_TINY, &subject.tiny_file),
-    ];
-    let read_alike = files.into_iter().all(|(kind, file)| {
-        let mut areas = [vec![1; SCREEN_BYTES], vec![1; SCREEN_BYTES]];
-        let by_library = Library.read(kind, file, &mut areas[0]);
-        by_library == plain::read(kind, file, &mut areas[1]) && areas[0] == areas[1]
-    });
-    let mut outs = [vec![1; subject.out.len()], vec![1; subject.out.len()]];
-    let written = Library.write(FORM_ELITE_PACKED, subject.picture, &subject.screen, &mut outs[0]);
-    let write_alike =
-        written == plain::write_packed(&subject.picture, &subject.screen, &mut outs[1]);
-    let lines_alike = (0..subject.shape.height).all(|line| {
-        let mut lines = [vec![99; subject.shape.width], vec![99; subject.shape.width]];
-        Library.line_out(&subject.screen, resolution, line, &mut lines[0])
-            == plain::line_out(&subject.screen, resolution, line, &mut lines[1])
-            && lines[0] == lines[1]
-    });
-    let area = whole_screen(resolution);
-    let tally_alike = Library.tally(&subject.screen, resolution, area)
-        == plain::tally(&subject.screen, resolution, &area);
-    let rows_alike = (1..=128).all(|width| {
+/// Whether library and plain Rust pack rows of every width alike.
+pub fn rows_agree(subject: &Subject) -> bool {
+    (1..=WIDEST_ROW).all(|width| {
         let row = subject.row(width);
-        let mut outs = [[1; 129]; 2];
-        let [by_library, by_plain] = &mut outs;
-        Library.pack_row(&row, by_library) == plain::pack_row(&row, by_plain)
+        let [mut by_library, mut by_plain] = [[1; PACK_AREA_BYTES]; 2];
+        Library.pack_row(&row, &mut by_library) == plain::pack_row(&row, &mut by_plain)
             && by_library == by_plain
-    });
-    read_alike && write_alike && outs[0] == outs[1] && lines_alike && tally_alike && rows_alike
+    })
 }

@@ -2,20 +2,23 @@
 
 use std::time::Instant;
 
-use kutimuq_tests::reference::SCREEN_BYTES;
+use kutimuq_tests::reference::PACK_AREA_BYTES;
 
 use crate::operations::{self, By, Operation, OPERATIONS};
-use crate::pictures::{Kind, Subject, KINDS, RESOLUTIONS};
+use crate::pictures::{Subject, RESOLUTIONS, SERIES};
 
 const ROUNDS: usize = 400;
+/// The least rounds, for a call over many pictures, which is long itself.
+const FEWEST_ROUNDS: usize = 50;
 /// A sample lasts about so many nanoseconds: shorter than a turn of the scheduler.
 const SAMPLE: f64 = 50_000.0;
+const ROW_WIDTHS: [usize; 12] = [1, 2, 4, 8, 16, 32, 48, 64, 80, 96, 112, 128];
 
 /// Nanoseconds of one call, the least of all samples of each of the jobs.
-fn least_times<const JOBS: usize>(mut job: impl FnMut(usize)) -> [f64; JOBS] {
+fn least_times<const JOBS: usize>(rounds: usize, mut job: impl FnMut(usize)) -> [f64; JOBS] {
     let mut least = [f64::INFINITY; JOBS];
     let mut calls = [1; JOBS];
-    for _ in 0..ROUNDS {
+    for _ in 0..rounds {
         for number in 0..JOBS {
             let start = Instant::now();
             for _ in 0..calls[number] {
@@ -29,52 +32,92 @@ fn least_times<const JOBS: usize>(mut job: impl FnMut(usize)) -> [f64; JOBS] {
     least
 }
 
-pub fn print_tables() {
-    println!("microseconds per picture; ratio: library / Rust (raw-read: library / memcpy)");
-    println!();
-    println!("| operation | screen | resolution | library | Rust | memcpy | ratio | ns/byte |");
-    println!("|---|---|---|---|---|---|---|---|");
-    for (operation, operation_name) in OPERATIONS {
-        for (kind, kind_name) in KINDS {
-            for (resolution, resolution_name) in RESOLUTIONS {
-                let mut subject = Subject::new(kind, resolution);
-                assert!(operations::agree(&subject), "library and plain Rust differ");
-                let line = line_of(operation, &mut subject);
-                println!("| {operation_name} | {kind_name} | {resolution_name} | {line} |");
-            }
-        }
-    }
-    println!();
-    print_rows();
+/// What was measured and the ratio found.
+struct Measured {
+    operation: &'static str,
+    screen: &'static str,
+    /// A resolution, or a row's width.
+    size: String,
+    ratio: f64,
 }
 
-fn line_of(operation: Operation, subject: &mut Subject) -> String {
-    let [library, plain, copy] = least_times(|number| match number {
+pub fn print_tables() {
+    let mut all = print_pictures();
+    println!();
+    all.extend(print_rows());
+    println!();
+    print_worst(&all);
+}
+
+/// Every operation at every resolution, on each series that it takes.
+fn print_pictures() -> Vec<Measured> {
+    println!("microseconds per picture; ratio: library / Rust (raw-read: library / memcpy)");
+    println!();
+    println!("| operation | screen | resolution | library | Rust | memcpy | ratio |");
+    println!("|---|---|---|---|---|---|---|");
+    let operations =
+        OPERATIONS.iter().flat_map(|operation| SERIES.map(|series| (operation, series)));
+    operations
+        .filter(|((operation, _), (series, _))| operation.takes(*series))
+        .flat_map(|(operation, series)| RESOLUTIONS.map(|size| (operation, series, size)))
+        .map(|((operation, operation_name), (series, screen), (resolution, size))| {
+            let mut subject = Subject::new(series, resolution);
+            let agreed = operations::agree(*operation, &mut subject);
+            assert!(agreed, "{operation_name}, {screen}, {size}: library and plain Rust differ");
+            let [library, plain, copy] = times_of(*operation, &mut subject);
+            let ratio = library / if *operation == Operation::RawRead { copy } else { plain };
+            let times = format!("{library:.3} | {plain:.3} | {copy:.3}");
+            println!("| {operation_name} | {screen} | {size} | {times} | {ratio:.2} |");
+            Measured { operation: operation_name, screen, size: size.to_string(), ratio }
+        })
+        .collect()
+}
+
+/// Microseconds a picture: library, plain Rust, memcpy.
+fn times_of(operation: Operation, subject: &mut Subject) -> [f64; 3] {
+    let pictures = subject.inputs.len();
+    let rounds = FEWEST_ROUNDS.max(ROUNDS / pictures);
+    let nanoseconds: [f64; 3] = least_times(rounds, |number| match number {
         0 => operations::run(operation, By::Library, subject),
         1 => operations::run(operation, By::Plain, subject),
         _ => operations::copy(subject),
     });
-    let ratio = library / if operation == Operation::RawRead { copy } else { plain };
-    let per_byte = library / SCREEN_BYTES as f64;
-    let [library, plain, copy] = [library, plain, copy].map(|time| time / 1000.0);
-    format!("{library:.2} | {plain:.2} | {copy:.2} | {ratio:.2} | {per_byte:.2}")
+    nanoseconds.map(|time| time / pictures as f64 / 1000.0)
 }
 
 /// Row pack over the row's width: the time grows with it linearly.
-fn print_rows() {
-    println!("nanoseconds per row packed, screen map");
+fn print_rows() -> Vec<Measured> {
+    let (series, screen) = SERIES[0];
+    println!("nanoseconds per row packed, screen {screen}");
     println!();
     println!("| width | library | Rust | ratio | ns/byte |");
     println!("|---|---|---|---|---|");
-    let subject = Subject::new(Kind::Map, 0);
-    for width in [1, 2, 4, 8, 16, 32, 48, 64, 80, 96, 112, 128] {
+    let subject = Subject::new(series, 0);
+    assert!(operations::rows_agree(&subject), "rows packed: library and plain Rust differ");
+    let measure = |width| {
         let row = subject.row(width);
-        let mut out = [0; 129];
-        let [library, plain] = least_times(|number| {
+        let mut out = [0; PACK_AREA_BYTES];
+        let [library, plain] = least_times(ROUNDS, |number| {
             let by = if number == 0 { By::Library } else { By::Plain };
             operations::pack_row(by, &row, &mut out);
         });
         let (ratio, per_byte) = (library / plain, library / width as f64);
         println!("| {width} | {library:.1} | {plain:.1} | {ratio:.2} | {per_byte:.2} |");
+        Measured { operation: "pack-row", screen, size: format!("width {width}"), ratio }
+    };
+    ROW_WIDTHS.map(measure).into()
+}
+
+/// The worst ratio of each operation over all screens and resolutions.
+fn print_worst(all: &[Measured]) {
+    println!("worst ratio of each operation");
+    println!();
+    println!("| operation | ratio | screen | resolution |");
+    println!("|---|---|---|---|");
+    for of_operation in all.chunk_by(|one, next| one.operation == next.operation) {
+        let worst = of_operation.iter().max_by(|one, other| one.ratio.total_cmp(&other.ratio));
+        if let Some(Measured { operation, screen, size, ratio }) = worst {
+            println!("| {operation} | {ratio:.2} | {screen} | {size} |");
+        }
     }
 }

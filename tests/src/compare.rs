@@ -11,7 +11,7 @@ use kutimuq::ffi::*;
 use std::fmt::Debug;
 
 const GUARD: usize = 64;
-const LONGEST_AREA: usize = 40_000;
+const LONGEST_AREA: usize = 256_100;
 const PATTERN_SHIFTS: usize = 251;
 
 /// A lent area between guard bytes.
@@ -92,6 +92,13 @@ impl<'a> Comparison<'a> {
         self.actual_area.fill(content, &self.pattern);
     }
 
+    /// Fills both areas with a screen and copies the input.
+    fn prepare_screen(&mut self, input: &[u8], screen: &[u8]) {
+        self.prepare(input, 0);
+        self.expected_area.fill(screen, &self.pattern);
+        self.actual_area.fill(screen, &self.pattern);
+    }
+
     /// Counts the comparison of two answers and of the areas behind them.
     fn judge<A: PartialEq + Debug>(
         &mut self,
@@ -113,13 +120,15 @@ impl<'a> Comparison<'a> {
         });
     }
 
-    pub fn unpack_row(&mut self, packed: &[u8], width: usize, out_len: usize) {
+    /// Compares, and gives back what the library answered.
+    pub fn unpack_row(&mut self, packed: &[u8], width: usize, out_len: usize) -> RowAnswer {
         self.prepare(packed, out_len);
         let expected = reference::unpack_row(packed, width, self.expected_area.lent());
         let actual = self.library.unpack_row(&self.input, width, self.actual_area.lent());
         self.judge(expected, actual, packed, || {
             format!("packed {}, width {width}, output of {out_len}", shown(packed))
         });
+        actual
     }
 
     pub fn pack_row(&mut self, row: &[u8], out_len: usize) {
@@ -141,9 +150,7 @@ impl<'a> Comparison<'a> {
 
     /// The screen is the lent area here, and has the content given.
     pub fn line_in(&mut self, screen: &[u8], resolution: u16, line: usize, registers: &[u8]) {
-        self.prepare(registers, 0);
-        self.expected_area.fill(screen, &self.pattern);
-        self.actual_area.fill(screen, &self.pattern);
+        self.prepare_screen(registers, screen);
         let lent = self.expected_area.lent();
         let expected = reference::line_in(lent, resolution, line, registers);
         let lent = self.actual_area.lent();
@@ -153,6 +160,26 @@ impl<'a> Comparison<'a> {
             format!(
                 "screen of {length}, resolution {resolution}, line {line}, registers {registers}"
             )
+        });
+    }
+
+    pub fn screen_out(&mut self, screen: &[u8], resolution: u16, out_len: usize) {
+        self.prepare(screen, out_len);
+        let expected = reference::screen_out(screen, resolution, self.expected_area.lent());
+        let actual = self.library.screen_out(&self.input, resolution, self.actual_area.lent());
+        self.judge(expected, actual, screen, || {
+            format!("screen {}, resolution {resolution}, output of {out_len}", shown(screen))
+        });
+    }
+
+    /// The screen is the lent area here, and has the content given.
+    pub fn screen_in(&mut self, screen: &[u8], resolution: u16, registers: &[u8]) {
+        self.prepare_screen(registers, screen);
+        let expected = reference::screen_in(self.expected_area.lent(), resolution, registers);
+        let actual = self.library.screen_in(self.actual_area.lent(), resolution, &self.input);
+        self.judge(expected, actual, registers, || {
+            let (length, registers) = (screen.len(), shown(registers));
+            format!("screen of {length}, resolution {resolution}, registers {registers}")
         });
     }
 
@@ -195,13 +222,15 @@ impl<'a> Comparison<'a> {
         });
     }
 
-    pub fn read(&mut self, kind: u8, file: &[u8], area_len: usize) {
+    /// Compares, and gives back what the library answered.
+    pub fn read(&mut self, kind: u8, file: &[u8], area_len: usize) -> ReadAnswer {
         self.prepare(file, area_len);
         let expected = reference::read(kind, file, self.expected_area.lent());
         let actual = self.library.read(kind, &self.input, self.actual_area.lent());
         self.judge(expected, actual, file, || {
             format!("kind {kind}, file {}, area of {area_len}", shown(file))
         });
+        actual
     }
 
     pub fn write(&mut self, form: u8, picture: Picture, screen: &[u8], out_len: usize) {

@@ -1,5 +1,7 @@
-//! Every example of document 01, as a check of its own, on one implementation; then Tiny files.
+//! Every example of document 01, as a check of its own, on one implementation; then Tiny files and
+//! rows at fault.
 
+mod row_at_fault;
 mod tiny;
 
 use crate::generate::{blank_file, screen_of_rows, shape_of};
@@ -47,6 +49,8 @@ pub fn run(operations: &dyn Operations, report: &mut Report) {
     examples.blank_file();
     examples.report.section(&format!("examples of Tiny: {}", operations.name()));
     tiny::run(&mut examples);
+    examples.report.section(&format!("examples of faults: {}", operations.name()));
+    row_at_fault::run(&mut examples);
 }
 
 impl Examples<'_> {
@@ -94,7 +98,8 @@ impl Examples<'_> {
     fn row_refused(&mut self, name: &str, packed: &[u8], number: u8, place: usize) {
         let mut out = [UNTOUCHED; 2];
         let answer = self.operations.unpack_row(packed, 2, &mut out);
-        let expected = RowAnswer { refusal: Refusal { number, place }, ..RowAnswer::default() };
+        let refusal = Refusal { number, place, ..Refusal::default() };
+        let expected = RowAnswer { refusal, ..RowAnswer::default() };
         self.equal(name, (answer, out), (expected, [UNTOUCHED; 2]));
     }
 
@@ -164,7 +169,7 @@ impl Examples<'_> {
     fn written(&mut self, name: &str, screen: &[u8], number: u8, body: usize) {
         let mut out = vec![UNTOUCHED; WRITE_AREA_BYTES];
         let answer = self.operations.write(3, Picture::default(), screen, &mut out);
-        let refusal = Refusal { number, place: 0 };
+        let refusal = Refusal { number, ..Refusal::default() };
         let mut expected = WriteAnswer { refusal, ..WriteAnswer::default() };
         if number == 0 {
             expected = WriteAnswer { length: 66 + body, body, records: 1600, ..expected };
@@ -196,7 +201,8 @@ impl Examples<'_> {
             let picture = Picture { resolution, ..Picture::default() };
             let mut out = vec![UNTOUCHED; WRITE_AREA_BYTES];
             let answer = self.operations.write(3, picture, &screen, &mut out);
-            let refusal = Refusal { number: refusal::NO_PACKED_BODY, place: 0 };
+            let number = refusal::NO_PACKED_BODY;
+            let refusal = Refusal { number, ..Refusal::default() };
             self.equal(&name, answer, WriteAnswer { refusal, ..WriteAnswer::default() });
             self.equal(&name, out.iter().all(|byte| *byte == UNTOUCHED), true);
         }
@@ -213,7 +219,7 @@ impl Examples<'_> {
     }
 
     fn degas_refused(&mut self, name: &str, file: &[u8], number: u8, place: usize) {
-        self.read_refused(name, KIND_DEGAS, file, Refusal { number, place });
+        self.read_refused(name, KIND_DEGAS, file, Refusal { number, place, ..Refusal::default() });
     }
 
     fn read_refused(&mut self, name: &str, kind: u8, file: &[u8], refusal: Refusal) {

@@ -29,19 +29,28 @@ macro_rules! describe {
     };
 }
 
+/// Describes a struct that starts with a refusal.
+macro_rules! describe_answer {
+    ($lines:ident, $name:ident { $($field:ident),* }) => {
+        describe!($lines, $name {
+            refusal.number, refusal.place, refusal.plane_row, refusal.good_bytes $(, $field)*
+        });
+    };
+}
+
 pub fn table() -> Vec<String> {
     let mut lines = Vec::new();
-    describe!(lines, Refusal { number, place });
-    describe!(lines, RowAnswer { refusal.number, refusal.place, bytes, records });
+    describe!(lines, Refusal { number, place, plane_row, good_bytes });
+    describe_answer!(lines, RowAnswer { bytes, records });
     describe!(lines, Table { words });
     describe!(lines, Picture { resolution, palette, tail_present, tail });
-    describe!(lines, ReadAnswer { refusal.number, refusal.place, picture, body, records });
-    describe!(lines, WriteAnswer { refusal.number, refusal.place, length, body, records });
+    describe_answer!(lines, ReadAnswer { picture, body, records });
+    describe_answer!(lines, WriteAnswer { length, body, records });
     describe!(lines, Rectangle { left, top, columns, lines });
-    describe!(lines, TallyAnswer { refusal.number, refusal.place, counts });
-    describe!(lines, ColourAnswer { refusal.number, refusal.place, red, green, blue });
+    describe_answer!(lines, TallyAnswer { counts });
+    describe_answer!(lines, ColourAnswer { red, green, blue });
     describe!(lines, Legend { classes, confidences });
-    describe!(lines, PondAnswer { refusal.number, refusal.place, sure, unsure, other });
+    describe_answer!(lines, PondAnswer { sure, unsure, other });
     describe!(lines, Palette { words });
     lines.push(format!("version {}", kutimuq::VERSION));
     for (name, number, meaning) in NUMBERS {

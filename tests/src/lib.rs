@@ -2,6 +2,7 @@
 
 pub mod cases;
 pub mod compare;
+pub mod completion;
 pub mod examples;
 pub mod fast;
 pub mod generate;
@@ -15,7 +16,10 @@ pub mod reference;
 pub mod report;
 pub mod rewriting;
 pub mod roundtrip;
+pub mod screens;
 pub mod selfcheck;
 
+#[cfg(test)]
+mod altered;
 #[cfg(test)]
 mod tests;

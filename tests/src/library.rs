@@ -59,6 +59,30 @@ impl Operations for Library {
         }
     }
 
+    fn screen_out(&self, screen: &[u8], resolution: u16, out: &mut [u8]) -> Refusal {
+        unsafe {
+            kutimuq_screen_out(
+                screen.as_ptr(),
+                screen.len(),
+                resolution,
+                out.as_mut_ptr(),
+                out.len(),
+            )
+        }
+    }
+
+    fn screen_in(&self, screen: &mut [u8], resolution: u16, registers: &[u8]) -> Refusal {
+        unsafe {
+            kutimuq_screen_in(
+                screen.as_mut_ptr(),
+                screen.len(),
+                resolution,
+                registers.as_ptr(),
+                registers.len(),
+            )
+        }
+    }
+
     fn tally(&self, screen: &[u8], resolution: u16, area: Rectangle) -> TallyAnswer {
         unsafe { kutimuq_tally(screen.as_ptr(), screen.len(), resolution, area) }
     }

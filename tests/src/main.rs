@@ -45,11 +45,14 @@ fn seed_from(arguments: &[String]) -> Option<u64> {
 #[cfg(feature = "library")]
 fn check_library(report: &mut Report, seed: u64) {
     use kutimuq_tests::{
-        cases, compare::Comparison, examples, library::Library, rewriting, roundtrip,
+        cases, compare::Comparison, completion, examples, library::Library, rewriting, roundtrip,
+        screens,
     };
     examples::run(&Library, report);
     roundtrip::run(&Library, report, seed + 1, 60);
     rewriting::run(&Library, report, seed + 2, 60);
+    completion::run(&Library, report, seed + 3, 30);
+    screens::run(&Library, report, seed + 4, 20);
     cases::run_all(&mut Comparison::new(&Library, report), seed);
 }
 

@@ -11,6 +11,8 @@ pub trait Operations {
     fn line_out(&self, screen: &[u8], resolution: u16, line: usize, out: &mut [u8]) -> Refusal;
     fn line_in(&self, screen: &mut [u8], resolution: u16, line: usize, registers: &[u8])
         -> Refusal;
+    fn screen_out(&self, screen: &[u8], resolution: u16, out: &mut [u8]) -> Refusal;
+    fn screen_in(&self, screen: &mut [u8], resolution: u16, registers: &[u8]) -> Refusal;
     fn tally(&self, screen: &[u8], resolution: u16, area: Rectangle) -> TallyAnswer;
     fn colour(&self, resolution: u16, palette: Palette, register: u8) -> ColourAnswer;
     fn pond(
@@ -54,6 +56,14 @@ impl Operations for Reference {
         registers: &[u8],
     ) -> Refusal {
         reference::line_in(screen, resolution, line, registers)
+    }
+
+    fn screen_out(&self, screen: &[u8], resolution: u16, out: &mut [u8]) -> Refusal {
+        reference::screen_out(screen, resolution, out)
+    }
+
+    fn screen_in(&self, screen: &mut [u8], resolution: u16, registers: &[u8]) -> Refusal {
+        reference::screen_in(screen, resolution, registers)
     }
 
     fn tally(&self, screen: &[u8], resolution: u16, area: Rectangle) -> TallyAnswer {

@@ -41,7 +41,13 @@ fn files(random: &mut Random) -> Vec<Vec<u8>> {
         }
         files.push(file);
     }
-    // Longer than any file that is allowed.
+    // Longer than any file that is allowed. The first ones by one byte: an Elite raw file and a
+    // byte behind its tail.
+    for resolution in RESOLUTIONS {
+        let mut file = raw_file(random, resolution, true);
+        file.push(0);
+        files.push(file);
+    }
     files.push(random.bytes(32_129));
     files.push(random.bytes(100_000));
     files

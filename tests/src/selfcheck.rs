@@ -4,11 +4,13 @@ use crate::generate::{row, screen, shape_of, RESOLUTIONS};
 use crate::random::Random;
 use crate::reference::{least_body, least_row_body, WIDEST_ROW};
 use crate::report::Report;
-use crate::{examples, fast, operations::Reference, roundtrip};
+use crate::{completion, examples, fast, operations::Reference, roundtrip, screens};
 
 pub fn run(report: &mut Report, seed: u64) {
     examples::run(&Reference, report);
     roundtrip::run(&Reference, report, seed, 30);
+    completion::run(&Reference, report, seed, 12);
+    screens::run(&Reference, report, seed, 4);
     fast_packer(report, seed);
 }
 

@@ -1,11 +1,12 @@
 //! The reference's own tests.
 
+use crate::altered::Altered;
 use crate::compare::Comparison;
 use crate::operations::Reference;
 use crate::random::Random;
 use crate::reference::*;
 use crate::report::Report;
-use crate::{cases, examples, fast, generate, layout, roundtrip, selfcheck};
+use crate::{cases, completion, examples, fast, generate, layout, roundtrip, screens, selfcheck};
 use kutimuq::ffi::*;
 use kutimuq::refusal::{self, Refusal};
 
@@ -102,6 +103,53 @@ fn line_in_then_line_out() {
             assert_eq!(screen[end..], before[end..]);
         }
     }
+}
+
+#[test]
+fn whole_screens_worked_out_by_hand() {
+    let mut registers = vec![0; 64_000];
+    registers[320 + 17] = 5;
+    let mut expected = vec![0; SCREEN_BYTES];
+    expected[160 + 8] = 0x40;
+    expected[160 + 12] = 0x40;
+    let mut screen = vec![0xEE; SCREEN_BYTES];
+    assert_eq!(screen_in(&mut screen, 0, &registers), Refusal::default());
+    assert!(screen == expected);
+    let mut out = vec![0xEE; 64_001];
+    assert_eq!(screen_out(&screen, 0, &mut out), Refusal::default());
+    assert!(out[..64_000] == registers);
+    assert_eq!(out[64_000], 0xEE);
+}
+
+#[test]
+fn judging_order_of_whole_screens() {
+    let number_out = |screen_len, resolution, out_len| {
+        let (screen, mut out) = (vec![0xFF; screen_len], vec![0xEE; out_len]);
+        let number = screen_out(&screen, resolution, &mut out).number;
+        assert!(number == 0 || out.iter().all(|byte| *byte == 0xEE));
+        number
+    };
+    let number_in = |screen_len, resolution, registers: &[u8]| {
+        let mut screen = vec![0xEE; screen_len];
+        let number = screen_in(&mut screen, resolution, registers).number;
+        assert!(number == 0 || screen.iter().all(|byte| *byte == 0xEE));
+        number
+    };
+    for (resolution, pixels, least) in [(0, 64_000, 16), (1, 128_000, 4), (2, 256_000, 2)] {
+        assert_eq!(number_out(31_999, resolution, pixels), 1);
+        assert_eq!(number_out(32_000, resolution, pixels - 1), 1);
+        assert_eq!(number_out(32_000, resolution, pixels), 0);
+        let mut registers = vec![least; pixels];
+        assert_eq!(number_in(31_999, resolution, &registers), 1);
+        assert_eq!(number_in(32_000, resolution, &registers[1..]), 1);
+        assert_eq!(number_in(32_000, resolution, &registers), 10);
+        registers[..pixels - 1].fill(least - 1);
+        assert_eq!(number_in(32_000, resolution, &registers), 10);
+        registers.insert(0, 0);
+        assert_eq!(number_in(32_000, resolution, &registers), 0);
+    }
+    assert_eq!((number_out(31_999, 3, 0), number_out(32_000, 3, 0)), (1, 5));
+    assert_eq!((number_in(31_999, 3, &[]), number_in(32_000, 3, &[])), (1, 5));
 }
 
 #[test]
@@ -245,4 +293,89 @@ fn layout_names_every_struct() {
 #[test]
 fn comparison_accepts_the_reference() {
     assert_all_pass(|report| cases::run_all(&mut Comparison::new(&Reference, report), 6));
+}
+
+/// Wrong plane rows and good bytes.
+const WRONG_NUMBERS: [fn(Refusal) -> Refusal; 6] = [
+    |refusal| Refusal { plane_row: 0, ..refusal },
+    |refusal| Refusal { good_bytes: 0, ..refusal },
+    // The scan line in place of the plane row, at low resolution.
+    |refusal| Refusal { plane_row: refusal.plane_row / 4, ..refusal },
+    // A row that is just full taken for the row under way.
+    |refusal| match (refusal.number, refusal.plane_row, refusal.good_bytes) {
+        (refusal::INPUT_ENDS, 1.., 0) => {
+            Refusal { plane_row: refusal.plane_row - 1, good_bytes: 40, ..refusal }
+        }
+        _ => refusal,
+    },
+    // The crossing record's bytes counted up to the row's end.
+    |refusal| match refusal.number {
+        refusal::RECORD_CROSSES => Refusal { good_bytes: 40, ..refusal },
+        _ => refusal,
+    },
+    // One byte too many, as if a do-nothing record made one.
+    |refusal| match refusal.good_bytes {
+        0 => refusal,
+        good_bytes => Refusal { good_bytes: good_bytes + 1, ..refusal },
+    },
+];
+
+/// Right but for a few answers.
+const RARELY_WRONG_NUMBERS: [fn(Refusal) -> Refusal; 4] = [
+    // A row that lacks one byte taken for a full one.
+    |refusal| match refusal.good_bytes {
+        39 => Refusal { good_bytes: 0, plane_row: refusal.plane_row + 1, ..refusal },
+        _ => refusal,
+    },
+    // Numbers in place of zeros.
+    |refusal| match refusal.number {
+        refusal::WRONG_TAIL => Refusal { plane_row: 800, ..refusal },
+        _ => refusal,
+    },
+    |refusal| match refusal.number {
+        refusal::WRONG_LENGTH => Refusal { good_bytes: 1, ..refusal },
+        _ => refusal,
+    },
+    |refusal| match refusal.number {
+        refusal::AREA_TOO_SHORT => Refusal { good_bytes: 1, ..refusal },
+        _ => refusal,
+    },
+];
+
+fn assert_found(run: impl FnOnce(&mut Report), version: usize) {
+    let mut report = Report::default();
+    run(&mut report);
+    assert!(!report.finish(), "wrong version {version} passes");
+}
+
+#[test]
+fn wrong_rows_at_fault_are_found() {
+    for (version, wrong) in WRONG_NUMBERS.into_iter().enumerate() {
+        let altered = Altered::Refusals(wrong);
+        assert_found(|report| examples::run(&altered, report), version);
+        assert_found(|report| completion::run(&altered, report, 11, 3), version);
+    }
+}
+
+#[test]
+fn rarely_wrong_rows_at_fault_are_found() {
+    for (version, wrong) in RARELY_WRONG_NUMBERS.into_iter().enumerate() {
+        let altered = Altered::Refusals(wrong);
+        let compare = |report: &mut Report| {
+            cases::run_rows_at_fault(&mut Comparison::new(&altered, report), 12);
+        };
+        assert_found(compare, version);
+    }
+}
+
+#[test]
+fn wrong_whole_screens_are_found() {
+    for (version, altered) in [Altered::LinesBottomUp, Altered::AllEntriesJudged].iter().enumerate()
+    {
+        assert_found(|report| screens::run(altered, report, 13, 1), version);
+        let compare = |report: &mut Report| {
+            cases::run_screens(&mut Comparison::new(altered, report), 14);
+        };
+        assert_found(compare, version);
+    }
 }

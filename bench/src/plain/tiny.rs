@@ -1,6 +1,6 @@
 //! Tiny files.
 
-use super::{refused, word};
+use super::{refused, refused_at, word};
 use kutimuq::ffi::*;
 use kutimuq::refusal::{self, Refusal};
 use kutimuq_tests::reference::{
@@ -68,9 +68,9 @@ fn expand(
     let mut runs = 0;
     while !controls.is_empty() {
         let place = end - controls.len();
-        let run = first_run(controls).map_err(|number| Refusal { number, place })?;
+        let run = first_run(controls).map_err(|number| refused_at(number, place))?;
         let (control_bytes, words, repeated) = run;
-        let too_long = Refusal { number: refusal::RUN_TOO_LONG, place };
+        let too_long = refused_at(refusal::RUN_TOO_LONG, place);
         let (made, room) = out.split_at_mut_checked(2 * words).ok_or(too_long)?;
         let taken = if repeated { 2 } else { 2 * words };
         let (words, rest) = data.split_at_checked(taken).ok_or(too_long)?;

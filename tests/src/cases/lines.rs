@@ -1,21 +1,17 @@
 //! Inputs for taking a scan line from a screen and putting one into it.
 
+use super::{every_resolution, SCREEN_LENGTHS};
 use crate::compare::Comparison;
-use crate::generate::{any_resolution, area_length, number_around, shape_of, size_of, RESOLUTIONS};
+use crate::generate::{
+    any_resolution, area_length, number_around, registers, shape_of, size_of, RESOLUTIONS,
+};
 use crate::random::Random;
-use crate::reference::{Shape, SCREEN_BYTES};
-
-const SCREEN_LENGTHS: [usize; 5] = [0, 1, 31_999, 32_000, 32_001];
-const ODD_RESOLUTIONS: [u16; 6] = [3, 4, 255, 256, 32_768, 65_535];
+use crate::reference::SCREEN_BYTES;
 
 /// Lines at and around the height, and at the type's end.
 fn lines_around(height: usize) -> [usize; 10] {
     let far = (usize::MAX / 160).wrapping_add(2);
     [0, 1, 199, 200, 399, 400, height - 1, height, far, usize::MAX]
-}
-
-fn every_resolution() -> impl Iterator<Item = u16> {
-    RESOLUTIONS.into_iter().chain(ODD_RESOLUTIONS)
 }
 
 pub fn out(comparison: &mut Comparison, random: &mut Random) {
@@ -59,24 +55,13 @@ fn some_line(random: &mut Random, height: usize) -> usize {
     }
 }
 
-/// Registers all allowed at the resolution; those past the width are anything.
-fn registers(random: &mut Random, resolution: u16, length: usize) -> Vec<u8> {
-    let mut registers = random.bytes(length);
-    if let Some(shape) = Shape::of(resolution) {
-        for register in registers.iter_mut().take(shape.width) {
-            *register %= shape.registers() as u8;
-        }
-    }
-    registers
-}
-
 pub fn into(comparison: &mut Comparison, random: &mut Random) {
     comparison.section("line in: every line");
     for resolution in RESOLUTIONS {
         let shape = shape_of(resolution);
         let screen = random.bytes(SCREEN_BYTES + 10);
         for line in 0..shape.height + 2 {
-            let registers = registers(random, resolution, shape.width);
+            let registers = registers(random, resolution, shape.width, shape.width);
             comparison.line_in(&screen, resolution, line, &registers);
         }
     }
@@ -89,7 +74,7 @@ pub fn into(comparison: &mut Comparison, random: &mut Random) {
             let screen = random.bytes(screen_len);
             for line in lines_around(height) {
                 for length in [0, 319, 320, 321, width - 1, width, width + 1] {
-                    let registers = registers(random, resolution, length);
+                    let registers = registers(random, resolution, width, length);
                     comparison.line_in(&screen, resolution, line, &registers);
                 }
             }
@@ -107,7 +92,7 @@ fn one_register_too_high(comparison: &mut Comparison, random: &mut Random) {
         let shape = shape_of(resolution);
         let screen = random.bytes(SCREEN_BYTES);
         for position in 0..shape.width + 3 {
-            let mut registers = registers(random, resolution, shape.width + 3);
+            let mut registers = registers(random, resolution, shape.width, shape.width + 3);
             let least = shape.registers();
             let high = random.between(least, 255);
             registers[position] = random.pick(&[least as u8, 255, high as u8]);
@@ -124,7 +109,7 @@ fn random_line_in(comparison: &mut Comparison, random: &mut Random) {
     let screen = random.bytes(screen_len);
     let line = some_line(random, height);
     let length = area_length(random, width);
-    let mut registers = registers(random, resolution, length);
+    let mut registers = registers(random, resolution, width, length);
     if length > 0 && random.once_in(6) {
         let position = random.below(length);
         registers[position] = random.byte();

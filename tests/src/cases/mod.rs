@@ -6,15 +6,26 @@ mod degas;
 mod lines;
 mod neochrome;
 mod reading;
+mod row_at_fault;
 mod rows;
+mod screens;
 mod tiny;
 mod writing;
 
 use crate::compare::Comparison;
+use crate::generate::RESOLUTIONS;
 use crate::random::Random;
 
 /// Lengths of the area lent for a file's screen.
 const FILE_AREA_LENGTHS: [usize; 5] = [0, 31_999, 32_000, 32_001, 32_100];
+/// Lengths of a screen whose registers are taken or put.
+const SCREEN_LENGTHS: [usize; 5] = [0, 1, 31_999, 32_000, 32_001];
+const ODD_RESOLUTIONS: [u16; 6] = [3, 4, 255, 256, 32_768, 65_535];
+
+/// The resolutions, and numbers that stand for none.
+fn every_resolution() -> impl Iterator<Item = u16> {
+    RESOLUTIONS.into_iter().chain(ODD_RESOLUTIONS)
+}
 
 /// Compares every operation over all its inputs.
 pub fn run_all(comparison: &mut Comparison, seed: u64) {
@@ -23,9 +34,24 @@ pub fn run_all(comparison: &mut Comparison, seed: u64) {
     rows::pack(comparison, &mut random);
     lines::out(comparison, &mut random);
     lines::into(comparison, &mut random);
+    screens::out(comparison, &mut random);
+    screens::into(comparison, &mut random);
     colours::colour(comparison, &mut random);
     counts::tally(comparison, &mut random);
     counts::pond(comparison, &mut random);
     reading::read(comparison, &mut random);
     writing::write(comparison, &mut random);
+    row_at_fault::run(comparison, &mut random);
+}
+
+/// Only the inputs for the registers of a whole screen.
+pub fn run_screens(comparison: &mut Comparison, seed: u64) {
+    let mut random = Random::seeded(seed);
+    screens::out(comparison, &mut random);
+    screens::into(comparison, &mut random);
+}
+
+/// Only the inputs for the plane row and the good bytes of a refusal.
+pub fn run_rows_at_fault(comparison: &mut Comparison, seed: u64) {
+    row_at_fault::run(comparison, &mut Random::seeded(seed));
 }

@@ -233,9 +233,9 @@ impl Examples<'_> {
 
     /// Refused; in a shorter area refused with 1 in any case.
     fn tiny_refused(&mut self, name: &str, file: &[u8], number: u8, place: usize) {
-        self.read_refused(name, KIND_TINY, file, Refusal { number, place });
+        self.read_refused(name, KIND_TINY, file, Refusal { number, place, ..Refusal::default() });
         let mut area = vec![UNTOUCHED; SCREEN_BYTES - 1];
         let answer = self.operations.read(KIND_TINY, file, &mut area);
-        self.equal(name, answer.refusal, Refusal { number: 1, place: 0 });
+        self.equal(name, answer.refusal, Refusal { number: 1, ..Refusal::default() });
     }
 }

@@ -3,6 +3,7 @@
 //! A file format has a file of its own.
 
 mod degas;
+mod faults;
 mod neochrome;
 mod pictures;
 mod rows;
@@ -12,10 +13,13 @@ mod tiny;
 pub use degas::{
     blank_file, degas_header, even_file, packed_file, padded_file, raw_file, PackedFile,
 };
+pub use faults::{recorded_file, recorded_row, Faulty, RecordedBody};
 pub use neochrome::neo_file;
 pub use pictures::picture;
 pub use rows::{put_row_body, row};
-pub use screens::{screen, screen_of_costly_rows, screen_of_rows, screen_with_body, CostlyRows};
+pub use screens::{
+    registers, screen, screen_of_costly_rows, screen_of_rows, screen_with_body, CostlyRows,
+};
 pub use tiny::{
     column_words, random_words, short_tiny_file, tiny_file, TinyFile, RESOLUTION_BYTES,
 };

@@ -67,7 +67,7 @@ pub fn put_row_body(
 }
 
 /// One literal or repeat of at most `left` row bytes; how many it makes.
-fn put_record(random: &mut Random, left: usize, body: &mut Vec<u8>) -> usize {
+pub fn put_record(random: &mut Random, left: usize, body: &mut Vec<u8>) -> usize {
     let made = if random.once_in(3) { left } else { random.between(1, left) };
     if made == 1 || random.once_in(3) {
         body.push((made - 1) as u8);

@@ -32,6 +32,17 @@ pub fn screen(random: &mut Random, resolution: u16) -> Vec<u8> {
     }
 }
 
+/// Registers whose first `judged` are allowed at the resolution; those after them are anything.
+pub fn registers(random: &mut Random, resolution: u16, judged: usize, length: usize) -> Vec<u8> {
+    let mut registers = random.bytes(length);
+    if let Some(shape) = Shape::of(resolution) {
+        for register in registers.iter_mut().take(judged) {
+            *register %= shape.registers() as u8;
+        }
+    }
+    registers
+}
+
 /// A screen whose least body has `body` bytes: the greatest there is, or less
 /// by up to three bytes per plane row, spread evenly.
 pub fn screen_with_body(random: &mut Random, resolution: u16, body: usize) -> Vec<u8> {

@@ -3,6 +3,7 @@
 use super::judging::Judged;
 use super::packbits::{least_row_body, unpack_one_row};
 use super::screen::{plane_row, put_plane_row, Shape, SCREEN_BYTES};
+use kutimuq::refusal::Refusal;
 
 /// Rows of one width, one after another, and where their records end.
 pub struct UnpackedBody {
@@ -11,11 +12,12 @@ pub struct UnpackedBody {
     pub records: usize,
 }
 
-/// Unpacks a body of `count` rows that starts at offset `start` of a file.
+/// Unpacks a body of `count` rows that starts at offset `start` of a file; a refusal names the row.
 pub fn unpack_body(file: &[u8], start: usize, width: usize, count: usize) -> Judged<UnpackedBody> {
     let mut body = UnpackedBody { rows: Vec::new(), end: start, records: 0 };
-    for _ in 0..count {
-        let unpacked = unpack_one_row(file, body.end, width)?;
+    for number in 0..count {
+        let unpacked = unpack_one_row(file, body.end, width)
+            .map_err(|refusal| Refusal { plane_row: number, ..refusal })?;
         body.rows.extend_from_slice(&unpacked.row);
         body.end = unpacked.end;
         body.records += unpacked.records;

@@ -1,5 +1,5 @@
 //! Document 01, and what has landed of document 02, written out plainly, slow where that keeps it
-//! obvious.
+//! obvious. Screen out and screen in follow document 01's line out and line in.
 //!
 //! Each public operation judges first and changes a lent area only once nothing
 //! can be refused any more. A file format has a file of its own; `files` chooses
@@ -30,7 +30,7 @@ pub use files::{
     read, write, FORM_ELITE_PACKED, FORM_ELITE_RAW, FORM_NEO, FORM_PLAIN, KIND_DEGAS, KIND_NEO,
     KIND_TINY, WRITE_AREA_BYTES,
 };
-pub use lines::{line_in, line_out};
+pub use lines::{line_in, line_out, screen_in, screen_out};
 pub use neochrome::NEO_FILE_BYTES;
 pub use packbits::{least_row_body, pack_row, unpack_row, PACK_AREA_BYTES, WIDEST_ROW};
 pub use pond::pond;

@@ -1,6 +1,6 @@
 //! Rows packed by PackBits.
 
-use super::judging::{judge_area, refuse, refuse_at, Judged};
+use super::judging::{judge_area, refuse, refuse_record, Judged};
 use kutimuq::ffi::RowAnswer;
 use kutimuq::refusal;
 
@@ -29,15 +29,15 @@ pub fn unpack_one_row(input: &[u8], start: usize, width: usize) -> Judged<Unpack
     let mut records = 0;
     while row.len() < width {
         if offset >= input.len() {
-            return refuse_at(refusal::INPUT_ENDS, input.len());
+            return refuse_record(refusal::INPUT_ENDS, input.len(), row.len());
         }
         let control = input[offset];
         let (made, taken) = record_sizes(control);
         if row.len() + made > width {
-            return refuse_at(refusal::RECORD_CROSSES, offset);
+            return refuse_record(refusal::RECORD_CROSSES, offset, row.len());
         }
         if offset + 1 + taken > input.len() {
-            return refuse_at(refusal::INPUT_ENDS, offset);
+            return refuse_record(refusal::INPUT_ENDS, offset, row.len());
         }
         let data = &input[offset + 1..offset + 1 + taken];
         match control {

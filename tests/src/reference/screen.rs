@@ -30,6 +30,10 @@ impl Shape {
         self.planes * self.row_bytes
     }
 
+    pub fn pixels(&self) -> usize {
+        self.width * self.height
+    }
+
     pub fn plane_rows(&self) -> usize {
         self.planes * self.height
     }

@@ -15,7 +15,7 @@ pub fn summary(file: &[u8]) -> String {
 
 /// The summary of a reading and of the tally of its whole screen.
 pub fn summary_text(found: &ReadAnswer, counted: &TallyAnswer) -> String {
-    let Refusal { number, place } = found.refusal;
+    let Refusal { number, place, .. } = found.refusal;
     if number != refusal::ACCEPTED {
         return format!("refused {number} at {place}\n");
     }
