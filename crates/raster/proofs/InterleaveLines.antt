@@ -20,7 +20,7 @@ most-bytes true = omega arith
 most-bytes false = omega arith
 
 -- y scan lines of `lines` are interleaved, and the next one begins at `at`
-pub record Weaving (s : List ℕ) (lines planes width line : ℕ) (area₀ area : List ℕ) (at y : ℕ) : Type 0 where
+pub record Interleaving (s : List ℕ) (lines planes width line : ℕ) (area₀ area : List ℕ) (at y : ℕ) : Type 0 where
   pub inside : lines * line ≤ length s
   pub room : lines * line ≤ length area₀
   pub kept : length area ≡ length area₀
@@ -29,21 +29,21 @@ pub record Weaving (s : List ℕ) (lines planes width line : ℕ) (area₀ area 
   pub put : area ≡ over (take at (interleavedLines s lines planes width line)) area₀
 
 module _ (s : List ℕ) (lines planes width line : ℕ) (area₀ : List ℕ) where
-  pub weaving-start : lines * line ≤ length s → lines * line ≤ length area₀
-      → Weaving s lines planes width line area₀ area₀ 0 0
-  weaving-start inside room =
+  pub interleaving-start : lines * line ≤ length s → lines * line ≤ length area₀
+      → Interleaving s lines planes width line area₀ area₀ 0 0
+  interleaving-start inside room =
       record { inside = inside; room = room; kept = refl; count = omega arith; place = sym (zero-mul line); put = refl }
 
 module _ {s : List ℕ} {lines planes width line : ℕ} {area₀ area : List ℕ} {at y : ℕ}
-    (w : Weaving s lines planes width line area₀ area at y) where
+    (w : Interleaving s lines planes width line area₀ area at y) where
   pub line-within : y < lines → at + line ≤ lines * line
   line-within h = omega (arith, w .place, mul-le-mul h (le-refl line), suc-mul y line)
 
   -- the next scan line
-  pub weaving-turn : y < lines → (last : List ℕ) → length last ≡ length (take (length area - at) (drop at area))
+  pub interleaving-turn : y < lines → (last : List ℕ) → length last ≡ length (take (length area - at) (drop at area))
       → last ≡ over (interleavedLine s at planes width line) (take (length area - at) (drop at area))
-      → Weaving s lines planes width line area₀ (putMid at (length area - at) area last) (at + line) (y + 1)
-  weaving-turn h last long e =
+      → Interleaving s lines planes width line area₀ (putMid at (length area - at) area last) (at + line) (y + 1)
+  interleaving-turn h last long e =
       let within = line-within h in
       let byte : ℕ → ℕ = λ o. getD s (o / line * line + interleaved planes width (o % line)) 0 in
       record {
@@ -68,8 +68,8 @@ module _ {s : List ℕ} {lines planes width line : ℕ} {area₀ area : List ℕ
       byte-is x b = ap (λ (i : ℕ). (i + x) % line) (w .place) ∙ digits-mod y b
 
   -- after the last one
-  pub weaving-done : lines ≤ y → area ≡ over (interleavedLines s lines planes width line) area₀
-  weaving-done h =
+  pub interleaving-done : lines ≤ y → area ≡ over (interleavedLines s lines planes width line) area₀
+  interleaving-done h =
       over-done (interleavedLines s lines planes width line) area₀ area at
       (omega (
         arith,

@@ -1,4 +1,4 @@
--- `raster::interleave_lines` meets its contract. The invariant is `Weaving`.
+-- `raster::interleave_lines` meets its contract. The invariant is `Interleaving`.
 use mathlib.Core.Path.{_≡_, refl, sym, ap, _∙_}
 use Prim.Native.Nat.{ℕ, _-_, _*_, _≤_}
 use native.Mathlib.Nat.{mul-le-mul}
@@ -7,15 +7,16 @@ use lib.ListN.{length, length-drop}
 use borrow.Author.Needs.{needs}
 use Rattle.lists.proofs.Parts.{tail-part}
 use Rattle.raster.specs.Joined.{planesOf, planeBytes}
-use Rattle.raster.proofs.InterleaveLines.{most-bytes, Weaving, weaving-start, line-within, weaving-turn}
-use Rattle.raster.proofs.InterleaveLines.{weaving-done}
+use Rattle.raster.proofs.InterleaveLines.{most-bytes, Interleaving, interleaving-start, line-within}
+use Rattle.raster.proofs.InterleaveLines.{interleaving-turn}
+use Rattle.raster.proofs.InterleaveLines.{interleaving-done}
 use Rattle.raster.proofs.interleave_lines.Statement.{statement}
 use Rattle.raster.proofs.interleave_lines.Tie as tie
 
 abbrev Inv-loop : tie.InvT-loop
 Inv-loop source lines four eights area₀ line half₀ at₀ y₀ area half at y =
     (line ≡ eights * planeBytes four) × (length half ≡ 512) × (eights ≤ 16)
-    × Weaving source lines (planesOf four) (eights * 8) (eights * planeBytes four) area₀ area at y
+    × Interleaving source lines (planesOf four) (eights * 8) (eights * planeBytes four) area₀ area at y
 
 abbrev μ-loop : tie.MeasureT-loop
 μ-loop source lines four eights area₀ line half₀ at₀ y₀ area half at y = lines - y
@@ -44,7 +45,8 @@ loop-holds c =
       ap (λ (n : ℕ). a .eights * n) (c .plane-bytes .ensures),
       refl,
       h .0 .1,
-      weaving-start (a .source .now) (a .lines) (planesOf (a .four)) (a .eights * 8) (a .eights * planeBytes (a .four))
+      interleaving-start (a .source .now) (a .lines) (planesOf (a .four)) (a .eights * 8)
+          (a .eights * planeBytes (a .four))
           (a .area .now) (h .0 .0) (h .1),
     )
 
@@ -85,7 +87,8 @@ loop-again c =
       l .inv .0,
       e .kept .1 .1 .1 .1 .0 ∙ l .inv .1,
       l .inv .2,
-      rw (l .inv .0) (weaving-turn (l .inv .3) (c .before .before .before .before .before .before .loop-test .taken) _
+      rw (l .inv .0) (interleaving-turn (l .inv .3)
+          (c .before .before .before .before .before .before .loop-test .taken) _
           (e .kept .1 .1 .1 .1 .1 .0) (e .ensures)),
     )
 
@@ -93,7 +96,7 @@ same-length : tie.Need-same-length Inv-loop μ-loop
 same-length c = c .before .loop .inv .3 .kept
 
 returns : tie.Need-returns Inv-loop μ-loop
-returns c = weaving-done (c .before .loop .inv .3) (c .loop-test .left)
+returns c = interleaving-done (c .before .loop .inv .3) (c .loop-test .left)
 
 pub interleave-lines-spec : {M : Type 1} → statement M
 interleave-lines-spec =
