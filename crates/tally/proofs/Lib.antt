@@ -1,5 +1,7 @@
 pub mod Blocks
+pub mod Bytes
 pub mod Counts
 pub mod Ones
 pub mod Rectangles
+pub mod Sums
 pub mod Totals

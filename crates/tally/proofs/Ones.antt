@@ -3,7 +3,7 @@ use mathlib.Core.Path.{_≡_, refl, sym, ap, _∙_}
 use Prim.Native.Nat.{ℕ, zero, suc, _+_, _-_, _*_, _/_, _%_, _^_, _<_}
 use native.Mathlib.Nat.{not-suc-le-zero, pow-suc, add-zero, mod-lt, zero-div, sub-zero}
 use native.Mathlib.Omega.{arith}
-use lib.Arith.{lt-one}
+use lib.Arith.{lt-one, digits-div, digits-mod}
 use lib.Bits.{bitAnd, and-shr, and-mod, and-high}
 use lib.Count.{ones, ones-step, ones-cat}
 use lib.Pow.{shr-shr, field, mod-mod-pow, pow-pos}
@@ -44,6 +44,13 @@ digit-below a m j l =
     ∙ ap (λ (i : ℕ). i % 2) (field a (m - j) j)
     ∙ ap (λ (i : ℕ). a / 2 ^ j % 2 ^ i % 2) f
     ∙ mod-mod-pow (a / 2 ^ j) (m - 1 - j) 1
+
+-- digits of a number that ends in n given digits
+pub cat-above : (n a b j : ℕ) → b < 2 ^ n → digit (a * 2 ^ n + b) (n + j) ≡ digit a j
+cat-above n a b j h = sym (digit-above (a * 2 ^ n + b) n j) ∙ ap (λ (i : ℕ). digit i j) (digits-div a h)
+
+pub cat-below : (n a b j : ℕ) → b < 2 ^ n → j < n → digit (a * 2 ^ n + b) j ≡ digit b j
+cat-below n a b j h l = sym (digit-below (a * 2 ^ n + b) n j l) ∙ ap (λ (i : ℕ). digit i j) (digits-mod a h)
 
 -- the set digits among the m above the lowest t
 pub ones-part : (a m t : ℕ) → ones (bitAnd a (2 ^ (m + t) - 2 ^ t)) ≡ sum m (λ k. digit a (t + (m - 1 - k)))

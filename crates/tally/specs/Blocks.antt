@@ -1,27 +1,43 @@
 -- Blocks: 64 pixels of a scan line, for each plane a number of 64 binary digits, the leftmost pixel the highest digit.
 -- A scan line is a run of blocks. Their registers are those of crate lines (proofs/Blocks.antt, `block-register`).
+-- The code reads each plane's eight bytes in reverse order (`reversedBlock`); as many digits are set.
 -- Only contracts of private functions cite this file.
 use Prim.Native.Nat.{ℕ, zero, suc, _+_, _*_, _-_, _/_, _%_, _^_}
 use mathlib.Core.Bool.{cond}
 use mathlib.Core.List.{List}
+use mathlib.Core.Path.{_≡_}
 use lib.Bits.{bitAnd}
 use lib.Dec.{ltb}
 use Rattle.words.specs.Word.{wordAt}
+use Rattle.lines.specs.Columns.{byteOf}
 use Rattle.tally.specs.declared.Block.{Block}
+
+-- ---- numbers of 64 binary digits
 
 -- digit j of a number
 abbrev pub digit : ℕ → ℕ → ℕ
 digit a j = a / 2 ^ j % 2
+
+-- the number of n bytes, the lowest first
+unfoldable pub fromBytes : ℕ → (ℕ → ℕ) → ℕ
+fromBytes zero r = 0
+fromBytes (suc n) r = fromBytes n (λ k. r (suc k)) * 256 + r 0
+
+-- eight bytes in reverse order
+unfoldable pub reversed : ℕ → ℕ
+reversed a = fromBytes 8 (λ k. byteOf a (7 - k))
+
+-- a word's two bytes in reverse order
+abbrev pub swapped : ℕ → ℕ
+swapped w = w % 256 * 256 + w / 256
+
+-- ---- blocks
 
 -- four words of a plane, the first at an offset, `stride` bytes apart
 unfoldable pub planeBlock : List ℕ → ℕ → ℕ → ℕ
 planeBlock s at stride =
     ((wordAt s at * 65536 + wordAt s (at + stride)) * 65536 + wordAt s (at + stride * 2)) * 65536
     + wordAt s (at + stride * 3)
-
--- a block of two planes
-abbrev pub blockOf : ℕ → ℕ → Block
-blockOf p0 p1 = record { first = p0; second = p1; third = 0; fourth = 0 }
 
 -- the block whose plane 0 begins at an offset, 0 for a plane that is not there
 abbrev pub blockAt : List ℕ → ℕ → ℕ → Block
@@ -30,6 +46,15 @@ blockAt s at planes = record {
   second = cond (ltb 1 planes) (planeBlock s (at + 2) (planes * 2)) 0;
   third = cond (ltb 2 planes) (planeBlock s (at + 4) (planes * 2)) 0;
   fourth = cond (ltb 3 planes) (planeBlock s (at + 6) (planes * 2)) 0;
+}
+
+-- a block with each plane's bytes in reverse order
+abbrev pub reversedBlock : Block → Block
+reversedBlock b = record {
+  first = reversed (b .first);
+  second = reversed (b .second);
+  third = reversed (b .third);
+  fourth = reversed (b .fourth);
 }
 
 -- the register of the pixel at digit j: plane p adds 2^p
@@ -54,3 +79,14 @@ unfoldable pub registerSet : Block → ℕ → ℕ → ℕ
 registerSet b among v =
     bitAnd (bitAnd (alike (v % 2) (b .first)) (alike (v / 2 % 2) (b .second)))
     (bitAnd (bitAnd (alike (v / 2 / 2 % 2) (b .third)) (alike (v / 2 / 2 / 2) (b .fourth))) among)
+
+-- ---- blocks apart from each other
+
+-- the blocks of the screen with the most, at high resolution
+abbrev pub mostBlocks : ℕ
+mostBlocks = 4000
+
+-- 1, 2 or 4 planes; blocks of one plane follow each other or lie one below the other
+abbrev pub Spaced : ℕ → ℕ → Type 0
+Spaced planes step =
+    (planes ≡ 1 → (step ≡ 8 → ⊥) → step ≡ 80) × ((planes ≡ 1 → ⊥) → (planes ≡ 2 → ⊥) → planes ≡ 4)

@@ -1,89 +1,89 @@
--- `tally::count_rectangle` meets its contract: the loop has counted the first j lines.
+-- `tally::count_rectangle` meets its contract: scan lines, or a run of blocks.
 use mathlib.Core.Path.{_≡_, _∙_}
 use native.Mathlib.Omega.{arith}
-use Prim.Native.Nat.{_≤_, _+_, _-_}
 use denote.Ref.{now}
 use borrow.Author.Needs.{needs}
-use lib.ListN.{length}
-use Rattle.resolution.specs.Shapes.{screenBytes, widthOf, heightOf}
-use Rattle.resolution.proofs.Shapes.{width-le, height-le}
-use Rattle.tally.proofs.Counts.{countsOf, countsOf-none, countsOf-turn, countsOf-to}
+use Rattle.resolution.specs.Shapes.{widthOf}
+use Rattle.resolution.proofs.Shapes.{width-le, planes-le}
+use Rattle.tally.proofs.Blocks.{lines-counted, lines-within, run-counted, run-within}
 use Rattle.tally.proofs.count_rectangle.Statement.{statement}
 use Rattle.tally.proofs.count_rectangle.Tie as tie
 
-abbrev Inv-loop : tie.InvT-loop
-Inv-loop screen r rectangle sums₀ j₀ sums j =
-    (rectangle .left + rectangle .columns ≤ widthOf r) × (rectangle .top + rectangle .lines ≤ heightOf r)
-    × (screenBytes ≤ length screen) × (j ≤ rectangle .lines)
-    × (sums ≡ countsOf screen r (rectangle .left) (rectangle .columns) (rectangle .top) j)
+mul-start : tie.Need-mul-start
+mul-start c =
+    let q = c .before .before .before .before .before in
+    let t = q .args .rectangle in
+    let w = lines-within (q .args .r) (t .left) (t .columns) (t .top) (t .lines) (q .pre .1) (q .pre .2) in
+    rw (c .before .before .line-bytes .ensures) (omega (arith, w .3))
 
-abbrev μ-loop : tie.MeasureT-loop
-μ-loop screen r rectangle sums₀ j₀ sums j = rectangle .lines - j
+mul-count-columns : tie.Need-mul-count-columns
+mul-count-columns c =
+    let p = c .before .before .before .before .before .planes in
+    omega (arith, p .ensures, planes-le (c .before .before .before .before .before .before .before .args .r))
 
-loop-holds : tie.Need-loop-holds Inv-loop μ-loop
-loop-holds c =
-    let a = c .before .args in
-    let t = a .rectangle in (
-      search needs,
-      search needs,
-      search needs,
-      search needs,
-      countsOf-none (now (a .screen)) (a .r) (t .left) (t .columns) (t .top),
+mul-count-columns-2 : tie.Need-mul-count-columns-2
+mul-count-columns-2 c =
+    let q = c .before .before .before .before .before .before .before .before in
+    let t = q .args .rectangle in
+    rw (c .before .before .before .before .width .ensures)
+    (omega (arith, run-within (q .args .r) (t .top) (t .lines) (q .pre .2) .0))
+
+count-columns-requires : tie.Need-count-columns-requires
+count-columns-requires c κs =
+    let w = c .before .before .before .before in
+    let q = w .before .before .before .before in
+    let r = q .args .r in
+    let t = q .args .rectangle in
+    let l = lines-within r (t .left) (t .columns) (t .top) (t .lines) (q .pre .1) (q .pre .2) in
+    let run = run-within r (t .top) (t .lines) (q .pre .2) in
+    rw (w .width .ensures, w .before .line-bytes .ensures, w .before .before .planes .ensures) (
+      (run .0, run .1, omega arith, run .2, planes-le r, l .3),
+      (run .3, q .pre .0),
     )
 
-add-count-line : tie.Need-add-count-line Inv-loop μ-loop
-add-count-line c = omega (arith, height-le (c .before .before .before .before .before .before .args .r))
-
-count-line-requires : tie.Need-count-line-requires Inv-loop μ-loop
-count-line-requires c κs =
-    let l = c .before .before .before .before .loop in
-    let i = l .inv in
-    let a = c .before .before .before .before .before .before .args in
-    let t = a .rectangle in (
-      rw (i .4)
-          (countsOf-to (now (a .screen)) (a .r) (t .left) (t .columns) (t .top) (l .j)
-          (omega (arith, width-le (a .r))) (omega (arith, height-le (a .r)))),
-      i .2,
-      i .0,
-      omega arith,
-    )
-
-add-j : tie.Need-add-j Inv-loop μ-loop
-add-j c = omega arith
-
-loop-less : tie.Need-loop-less Inv-loop μ-loop
-loop-less c = omega arith
-
-loop-again : tie.Need-loop-again Inv-loop μ-loop
-loop-again c =
-    let l = c .before .before .before .before .before .loop in
-    let i = l .inv in
-    let a = c .before .before .before .before .before .before .before .args in
-    let t = a .rectangle in (
-      i .0,
-      i .1,
-      i .2,
-      omega arith,
-      countsOf-turn (now (a .screen)) (a .r) (t .left) (t .columns) (t .top) (l .j) (l .sums) _ (i .4)
-          (c .count-line .ensures),
-    )
-
-returns : tie.Need-returns Inv-loop μ-loop
+returns : tie.Need-returns
 returns c =
-    let l = c .before .before .loop in
-    let e : l .j ≡ c .before .before .before .before .args .rectangle .lines = omega arith in
-    l .inv .4 ∙ rw e
+    let w = c .before .before .before .before .before in
+    let k = w .before .before .before in
+    let a = k .before .args in
+    let t = a .rectangle in
+    let all : t .columns ≡ widthOf (a .r) = omega (arith, w .width .ensures) in
+    let left : t .left ≡ 0 = omega arith in
+    rw (w .width .ensures, w .before .line-bytes .ensures, w .before .before .planes .ensures)
+    at (c .count-columns .ensures)
+    ∙ run-counted (now (a .screen)) (a .r) t (λ i. k .shared-slice-known .given i .fits) left all
+
+count-columns-requires-2 : tie.Need-count-columns-requires-2
+count-columns-requires-2 c κs =
+    let w = c .before .before .before in
+    let q = w .before .before .before .before in
+    let r = q .args .r in
+    let t = q .args .rectangle in
+    let l = lines-within r (t .left) (t .columns) (t .top) (t .lines) (q .pre .1) (q .pre .2) in
+    rw (w .before .line-bytes .ensures, w .before .before .planes .ensures) (
+      (l .0, l .1, omega (arith, width-le r), l .2, planes-le r, l .3),
+      (l .4, q .pre .0),
+    )
+
+returns-2 : tie.Need-returns-2
+returns-2 c =
+    let w = c .before .before .before .before in
+    let k = w .before .before .before in
+    let a = k .before .args in
+    rw (w .before .line-bytes .ensures, w .before .before .planes .ensures) at (c .count-columns2 .ensures)
+    ∙ lines-counted (now (a .screen)) (a .r) (a .rectangle) (λ i. k .shared-slice-known .given i .fits)
 
 pub count-rectangle-spec : {M : Type 1} → statement M
 count-rectangle-spec =
     tie.close
     (tie.spec
-    Inv-loop
-    μ-loop
-    loop-holds
-    add-count-line
-    count-line-requires
-    add-j
-    loop-less
-    loop-again
-    returns)
+    (λ c κs. search needs)
+    (λ c κs. search needs)
+    (λ c κs. search needs)
+    mul-start
+    mul-count-columns
+    mul-count-columns-2
+    count-columns-requires
+    returns
+    count-columns-requires-2
+    returns-2)
