@@ -1,9 +1,10 @@
 pub mod Bits
+pub mod Blocks
 pub mod Columns
 pub mod Lines
-pub mod Packed
 pub mod Pieces
 pub mod Places
 pub mod PlaneRegisters
 pub mod Registers
 pub mod Screens
+pub mod Turn

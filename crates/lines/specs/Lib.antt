@@ -1,5 +1,5 @@
+pub mod Blocks
 pub mod Columns
 pub mod Lines
-pub mod Packed
 pub mod Registers
 pub mod Screens

@@ -1,6 +1,6 @@
 // The registers of a scan line, or of all, taken from a screen or put into it. Definitions: specs/.
 ghost use mathlib.Core.Path.{_≡_};
-ghost use Prim.Native.Nat.{ℕ, _+_, _-_, _*_, _^_, _<_, _≤_};
+ghost use Prim.Native.Nat.{ℕ, _+_, _-_, _*_, _/_, _^_, _<_, _≤_};
 ghost use mathlib.Core.Bool.{true, cond};
 ghost use lib.ListN.{length, getD};
 ghost use lib.Dec.{ltb};
@@ -9,10 +9,12 @@ ghost use Rattle.lists.specs.Over.{over, overAt};
 ghost use Rattle.lists.specs.Tabulate.{tabulate};
 ghost use Rattle.outcome.specs.Outcome.{refusalOf, later};
 ghost use Rattle.resolution.specs.Shapes.{widthOf, heightOf, screenBytes};
-ghost use Rattle.lines.specs.Columns.{planeBytes, groupRegister, groupsLine, planeByte};
+ghost use Rattle.lines.specs.Blocks.{eightRegisters, joinedWord, twoGroups, fourGroups, eightGroups};
+ghost use Rattle.lines.specs.Blocks.{fourRegisters, isBlockWidth, blockWord, lineWord, exchange, turn};
+ghost use Rattle.lines.specs.Blocks.{blockByte, wordsByte};
+ghost use Rattle.lines.specs.Columns.{planeBytes, groupRegister, groupsLine};
 ghost use Rattle.lines.specs.Columns.{spread, spreadColumn, byteOf};
 ghost use Rattle.lines.specs.Lines.{registersFit, lineOutAt, lineInAt, lineOut, lineIn};
-ghost use Rattle.lines.specs.Packed.{fourRegisters, packed, packedByte, groupByte, groupsByte};
 ghost use Rattle.lines.specs.Registers.{scanLine, withLine};
 ghost use Rattle.lines.specs.Screens.{pixelsOf, screenRegisters, withLines, allFit};
 ghost use Rattle.lines.specs.Screens.{screenOutAt, screenInAt, screenOut, screenIn};
@@ -100,6 +102,14 @@ fn spread_column(table: &[u64; 256], screen: &[u8], at: usize, planes: usize) ->
     spread_planes(table, column_planes(screen, at, planes))
 }
 
+// Byte i of a number, the lowest first.
+fn byte_of(v: u64, i: usize) -> u8
+    requires { ⌜ i < 8 ⌝ }
+    ensures { λ b. ⌜ b ≡ byteOf v i ⌝ }
+{
+    ((v >> (i * 8)) % 256) as u8
+}
+
 // The eight bytes of a number, the lowest first, into out from offset x on.
 fn put_eight(v: u64, out: &mut [u8], x: usize)
     requires { ⌜ x + 8 ≤ length (now out) ⌝ }
@@ -107,7 +117,7 @@ fn put_eight(v: u64, out: &mut [u8], x: usize)
 {
     let mut i: usize = 0;
     while i < 8 {
-        out[x + i] = ((v >> (i * 8)) % 256) as u8;
+        out[x + i] = byte_of(v, i);
         i += 1;
     }
 }
@@ -225,118 +235,188 @@ fn four_registers(registers: &[u8], at: usize) -> u64
         + wide(registers[at + 3]) * 16777216
 }
 
-// Eight registers, four bits each.
+// Eight registers, a byte each, the leftmost lowest.
 fn eight_registers(registers: &[u8], at: usize) -> u64
     requires { ⌜ at + 8 ≤ length (now registers) ⌝ }
-    ensures { λ v. ⌜ (v ≡ packed (now (registers .entry)) at) × (v < 73014444032) ⌝ }
+    ensures { λ v. ⌜ v ≡ eightRegisters (now (registers .entry)) at ⌝ }
 {
-    four_registers(registers, at) * 16 + four_registers(registers, at + 4)
+    four_registers(registers, at) + four_registers(registers, at + 4) * 4294967296
 }
 
-// The lowest bit of each of eight packed registers.
-const LOW_BITS: u64 = 286331153;
-
-// 2^27 + 2^18 + 2^9 + 1: a product with it moves the two bits of byte k up by 27 - 9 * k, so that eight bits meet in
-// the byte that starts at bit 24.
-const GATHERER: u64 = 134480385;
-
-// Plane p's byte of eight packed registers.
-fn plane_byte(eight: u64, p: usize) -> u8
-    requires { ⌜ p < 4 ⌝ }
-    ensures { λ v. ⌜ v ≡ packedByte eight p ⌝ }
+// Two words in one, the first n bits up.
+fn joined(above: u64, n: usize, below: u64) -> u64
+    requires { ⌜ n < 64 ⌝ }
+    ensures { λ v. ⌜ v ≡ joinedWord above n below ⌝ }
 {
-    ((((eight >> p) & LOW_BITS) * GATHERER >> 24) % 256) as u8
+    (above << n) | below
 }
 
-// Byte i of a group, from its left and its right eight registers.
-fn group_byte(left: u64, right: u64, i: usize) -> u8
-    requires { ⌜ i < 8 ⌝ }
-    ensures { λ v. ⌜ v ≡ groupByte left right i ⌝ }
+// Eight registers of each of two groups: byte k has the two groups' registers k.
+fn two_groups(registers: &[u8], at: usize, planes: usize) -> u64
+    requires { ⌜ (at + 24 ≤ length (now registers)) × (planes ≤ 4) ⌝ }
+    ensures { λ v. ⌜ v ≡ twoGroups (now (registers .entry)) at planes ⌝ }
 {
-    if i % 2 == 0 {
-        plane_byte(left, i / 2)
-    } else {
-        plane_byte(right, i / 2)
+    joined(
+        eight_registers(registers, at + 16),
+        planes,
+        eight_registers(registers, at),
+    )
+}
+
+// The same of four groups.
+fn four_groups(registers: &[u8], at: usize, planes: usize) -> u64
+    requires { ⌜ (at + 56 ≤ length (now registers)) × (planes ≤ 2) ⌝ }
+    ensures { λ v. ⌜ v ≡ fourGroups (now (registers .entry)) at planes ⌝ }
+{
+    joined(
+        two_groups(registers, at + 32, planes),
+        planes * 2,
+        two_groups(registers, at, planes),
+    )
+}
+
+// The same of eight groups, whose registers are below 2.
+fn eight_groups(registers: &[u8], at: usize) -> u64
+    requires { ⌜ at + 120 ≤ length (now registers) ⌝ }
+    ensures { λ v. ⌜ v ≡ eightGroups (now (registers .entry)) at ⌝ }
+{
+    joined(
+        four_groups(registers, at + 64, 1),
+        4,
+        four_groups(registers, at, 1),
+    )
+}
+
+// The same of the groups of a block, whose registers are so many: 32 with four planes, 64 with two, 128 with one.
+fn block_word(registers: &[u8], at: usize, width: usize) -> u64
+    requires { ⌜ (at + width ≤ length (now registers) + 8) × isBlockWidth width ⌝ }
+    ensures { λ v. ⌜ v ≡ blockWord (now (registers .entry)) width at ⌝ }
+{
+    if width == 32 {
+        return two_groups(registers, at, 4);
+    }
+    if width == 64 {
+        return four_groups(registers, at, 2);
+    }
+    eight_groups(registers, at)
+}
+
+// The words of a line's first blocks, a left and a right one of each.
+fn fill_words(words: &mut [u64; 20], registers: &[u8], width: usize, blocks: usize)
+    requires { ⌜ (length (now words) ≡ 20) × isBlockWidth width × (blocks ≤ 10) × (blocks * width ≤ 640)
+        × (blocks * width ≤ length (now registers)) ⌝ }
+    ensures { λ _. ⌜ now (words .exit)
+        ≡ over (tabulate (blocks * 2) (lineWord (now (registers .entry)) width)) (now (words .entry)) ⌝ }
+{
+    let mut b: usize = 0;
+    while b < blocks {
+        words[b * 2] = block_word(registers, b * width, width);
+        words[b * 2 + 1] = block_word(registers, b * width + 8, width);
+        b += 1;
     }
 }
 
-// The first bytes of a group, size of them, into the screen from an offset on.
-fn put_group(left: u64, right: u64, size: usize, screen: &mut [u8], at: usize)
-    requires { ⌜ (size ≤ 8) × (at + size ≤ length (now screen)) ⌝ }
-    ensures { λ _. ⌜ now (screen .exit) ≡ overAt at (tabulate size (groupByte left right)) (now (screen .entry)) ⌝ }
+// Each bit that the mask has, exchanged with the bit s places above it.
+fn exchanged(x: u64, s: usize, mask: u64) -> u64
+    requires { ⌜ s < 64 ⌝ }
+    ensures { λ v. ⌜ v ≡ exchange s mask x ⌝ }
+{
+    let differing = (x ^ (x >> s)) & mask;
+    x ^ differing ^ (differing << s)
+}
+
+// The low four bits of each of the first four bytes.
+const FOURS: u64 = 252645135;
+
+// The low two bits of each four in bytes 0, 1, 4 and 5.
+const TWOS: u64 = 56294136361779;
+
+// The low bit of each two in bytes 0, 2, 4 and 6.
+const ONES: u64 = 23925738098196565;
+
+// A word of eight bytes turned over: bit q of byte k becomes bit 7 - k of byte 7 - q.
+fn turned(x: u64) -> u64
+    ensures { λ v. ⌜ v ≡ turn x ⌝ }
+{
+    let halves = exchanged(x, 36, FOURS);
+    let quarters = exchanged(halves, 18, TWOS);
+    exchanged(quarters, 9, ONES)
+}
+
+// Each word turned over. All are, also those of no block, so that the compiler turns two at once.
+fn turn_words(words: &mut [u64; 20])
+    requires { ⌜ length (now words) ≡ 20 ⌝ }
+    ensures { λ _. ⌜ now (words .exit) ≡ tabulate 20 (λ i. turn (getD (now (words .entry)) i 0)) ⌝ }
 {
     let mut i: usize = 0;
-    while i < size {
-        screen[at + i] = group_byte(left, right, i);
+    while i < 20 {
+        words[i] = turned(words[i]);
         i += 1;
     }
 }
 
-// The groups of size bytes that registers below 16 make, into the screen from offset start on.
-fn put_groups(screen: &mut [u8], start: usize, size: usize, groups: usize, registers: &[u8])
-    requires { ⌜ (0 < size) × (size ≤ 8) × (groups ≤ 40)
-        × (start + groups * size ≤ screenBytes) × (screenBytes ≤ length (now screen)) ⌝ }
-    requires { ⌜ (groups * 16 ≤ length (now registers))
-        × ((x : ℕ) → x < groups * 16 → getD (now registers) x 0 < 16) ⌝ }
-    ensures { λ _. ⌜ now (screen .exit)
-        ≡ overAt start (tabulate (groups * size) (groupsByte (now (registers .entry)) size)) (now (screen .entry)) ⌝ }
+// The words of a line's first blocks, turned over. All are made before a byte is written, so that the compiler works on
+// two at once.
+fn line_words(registers: &[u8], width: usize, blocks: usize) -> [u64; 20]
+    requires { ⌜ isBlockWidth width × (blocks ≤ 10) × (blocks * width ≤ 640)
+        × (blocks * width ≤ length (now registers)) ⌝ }
+    ensures { λ w. ⌜ ((i : ℕ) → i < blocks * 2 → getD w i 0 ≡ turn (lineWord (now (registers .entry)) width i)) ⌝ }
 {
-    let mut g: usize = 0;
-    while g < groups {
-        let left = eight_registers(registers, g * 16);
-        let right = eight_registers(registers, g * 16 + 8);
-        put_group(left, right, size, screen, start + g * size);
-        g += 1;
+    let mut words = [0u64; 20];
+    fill_words(&mut words, registers, width, blocks);
+    turn_words(&mut words);
+    words
+}
+
+// Byte i of a block, from its left and its right word turned over.
+fn block_byte(left: u64, right: u64, i: usize) -> u8
+    requires { ⌜ i < 16 ⌝ }
+    ensures { λ v. ⌜ v ≡ blockByte left right i ⌝ }
+{
+    if i % 2 == 0 {
+        byte_of(left, 7 - i / 2)
+    } else {
+        byte_of(right, 7 - i / 2)
     }
 }
 
-// The byte of eight registers below 2.
-fn column_byte(registers: &[u8], at: usize) -> u8
-    requires { ⌜ (at + 8 ≤ length (now registers)) × ((k : ℕ) → k < 8 → getD (now registers) (at + k) 0 < 2) ⌝ }
-    ensures { λ v. ⌜ v ≡ planeByte (now (registers .entry)) at 0 ⌝ }
+// The bytes of a block into the screen from an offset on.
+fn put_block(left: u64, right: u64, screen: &mut [u8], at: usize)
+    requires { ⌜ at + 16 ≤ length (now screen) ⌝ }
+    ensures { λ _. ⌜ now (screen .exit) ≡ overAt at (tabulate 16 (blockByte left right)) (now (screen .entry)) ⌝ }
 {
-    ((eight_registers(registers, at) * GATHERER >> 24) % 256) as u8
-}
-
-// The bytes of 64 registers below 2, from offset x on, into the screen from an offset on.
-fn put_eight_columns(screen: &mut [u8], at: usize, registers: &[u8], x: usize)
-    requires { ⌜ (at + 8 ≤ length (now screen)) × (x + 64 ≤ length (now registers))
-        × ((k : ℕ) → k < 64 → getD (now registers) (x + k) 0 < 2) ⌝ }
-    ensures { λ _. ⌜ now (screen .exit)
-        ≡ overAt at (tabulate 8 (λ k. planeByte (now (registers .entry)) (x + k * 8) 0)) (now (screen .entry)) ⌝ }
-{
-    let mut k: usize = 0;
-    while k < 8 {
-        screen[at + k] = column_byte(registers, x + k * 8);
-        k += 1;
+    let mut i: usize = 0;
+    while i < 16 {
+        screen[at + i] = block_byte(left, right, i);
+        i += 1;
     }
 }
 
-// The bytes of 640 registers below 2, into the screen from offset start on.
-fn put_columns(screen: &mut [u8], start: usize, registers: &[u8])
-    requires { ⌜ (start + 80 ≤ screenBytes) × (screenBytes ≤ length (now screen))
-        × (640 ≤ length (now registers)) × ((x : ℕ) → x < 640 → getD (now registers) x 0 < 2) ⌝ }
+// The bytes of blocks, from their words turned over, into the screen from offset start on.
+fn put_words(words: &[u64; 20], screen: &mut [u8], start: usize, blocks: usize)
+    requires { ⌜ (blocks ≤ 10) × (start + blocks * 16 ≤ screenBytes) × (screenBytes ≤ length (now screen)) ⌝ }
     ensures { λ _. ⌜ now (screen .exit)
-        ≡ overAt start (tabulate 80 (λ h. planeByte (now (registers .entry)) (h * 8) 0)) (now (screen .entry)) ⌝ }
+        ≡ overAt start (tabulate (blocks * 16) (wordsByte (now (words .entry)))) (now (screen .entry)) ⌝ }
 {
-    let mut h: usize = 0;
-    while h < 80 {
-        put_eight_columns(screen, start + h, registers, h * 8);
-        h += 8;
+    let mut b: usize = 0;
+    while b < blocks {
+        put_block(words[b * 2], words[b * 2 + 1], screen, start + b * 16);
+        b += 1;
     }
 }
 
 // The scan line that the registers make, into the screen. What the shape table says is repeated as constants of each
-// resolution, and each has a loop of its own, so that the compiler computes with constants.
+// resolution, so that the compiler computes with constants; the words are made by one call and written by another, or
+// it would join the three arms.
 fn put_line(screen: &mut [u8], r: Resolution, line: usize, registers: &[u8])
     requires { ⌜ (screenBytes ≤ length (now screen)) × (line < heightOf r) × (widthOf r ≤ length (now registers)) ⌝ }
     requires { ⌜ registersFit r (now registers) ≡ true ⌝ }
     ensures { λ _. ⌜ now (screen .exit) ≡ withLine (now (screen .entry)) r line (now (registers .entry)) ⌝ }
 {
     match r {
-        Resolution::Low => put_groups(screen, line * 160, 8, 20, registers),
-        Resolution::Medium => put_groups(screen, line * 160, 4, 40, registers),
-        Resolution::High => put_columns(screen, line * 80, registers),
+        Resolution::Low => put_words(&line_words(registers, 32, 10), screen, line * 160, 10),
+        Resolution::Medium => put_words(&line_words(registers, 64, 10), screen, line * 160, 10),
+        Resolution::High => put_words(&line_words(registers, 128, 5), screen, line * 80, 5),
     }
 }
 

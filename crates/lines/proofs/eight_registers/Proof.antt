@@ -1,12 +1,12 @@
 -- `lines::eight_registers` meets its contract: four registers above four.
 use native.Mathlib.Omega.{arith}
-use Rattle.lines.specs.Packed.{packed}
+use Rattle.lines.specs.Blocks.{eightRegisters}
 use borrow.Author.Needs.{needs}
 use Rattle.lines.proofs.eight_registers.Statement.{statement}
 use Rattle.lines.proofs.eight_registers.Tie as tie
 
 returns : tie.Need-returns
-unfolding packed
+unfolding eightRegisters
 returns c = omega arith
 
 pub eight-registers-spec : {M : Type 1} → statement M
@@ -15,7 +15,7 @@ eight-registers-spec =
     (tie.spec
     (λ c κs. search needs)
     (λ c. search needs)
-    (λ c. search needs)
     (λ c κs. search needs)
+    (λ c. search needs)
     (λ c. search needs)
     returns)

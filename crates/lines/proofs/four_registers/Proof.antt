@@ -1,6 +1,6 @@
 -- `lines::four_registers` meets its contract: four bytes put together.
 use native.Mathlib.Omega.{arith}
-use Rattle.lines.specs.Packed.{fourRegisters}
+use Rattle.lines.specs.Blocks.{fourRegisters}
 use borrow.Author.Needs.{needs}
 use Rattle.lines.proofs.four_registers.Statement.{statement}
 use Rattle.lines.proofs.four_registers.Tie as tie

@@ -1,5 +1,5 @@
 -- `lines::put_eight` meets its contract: the loop has written the first i bytes.
-use mathlib.Core.Path.{_≡_, refl, sym}
+use mathlib.Core.Path.{_≡_, refl, sym, _∙_}
 use native.Mathlib.Omega.{arith}
 use Prim.Native.Nat.{ℕ, _≤_, _+_, _-_}
 use denote.Ref.{now}
@@ -22,17 +22,11 @@ abbrev μ-loop : tie.MeasureT-loop
 
 loop-holds : tie.Need-loop-holds Inv-loop μ-loop
 loop-holds c =
-    let a = c .args in
+    let a = c .before .args in
     (omega arith, omega arith, refl, sym (take-append-drop (a .x) (now (a .out))))
 
-mul-out : tie.Need-mul-out Inv-loop μ-loop
-mul-out c = omega arith
-
-shr-out : tie.Need-shr-out Inv-loop μ-loop
-shr-out c = omega arith
-
-cast-out : tie.Need-cast-out Inv-loop μ-loop
-cast-out c = omega arith
+byte-of-requires : tie.Need-byte-of-requires Inv-loop μ-loop
+byte-of-requires c κs = omega arith
 
 add-out : tie.Need-add-out Inv-loop μ-loop
 add-out c = omega arith
@@ -47,17 +41,16 @@ loop-less : tie.Need-loop-less Inv-loop μ-loop
 loop-less c = omega arith
 
 loop-again : tie.Need-loop-again Inv-loop μ-loop
-unfolding byteOf
 loop-again c =
-    let l = c .before .loop in
-    let a = c .before .before .args in
+    let l = c .before .before .loop in
+    let a = c .before .before .before .before .args in
     let w : ℕ → ℕ = byteOf (a .v) in (
       omega arith,
       omega arith,
       simp length-set (omega arith),
-      overAt-turn (a .x) (tabulate 8 w) (now (a .out)) (l .out) (l .i) (w (l .i)) 0
+      overAt-turn (a .x) (tabulate 8 w) (now (a .out)) (l .out) (l .i) (c .byte-of .result) 0
           (omega (arith, length-tabulate 8 w)) (omega arith) (l .inv .3)
-          (sym (getD-tabulate 8 w (l .i) 0 (omega arith))),
+          (c .byte-of .ensures ∙ sym (getD-tabulate 8 w (l .i) 0 (omega arith))),
     )
 
 same-length : tie.Need-same-length Inv-loop μ-loop
@@ -66,7 +59,7 @@ same-length c = omega arith
 returns : tie.Need-returns Inv-loop μ-loop
 returns c =
     let l = c .before .loop in
-    let a = c .before .before .args in
+    let a = c .before .before .before .args in
     let w : ℕ → ℕ = byteOf (a .v) in
     overAt-done (a .x) (tabulate 8 w) (now (a .out)) (l .out) (l .i) (omega (arith, length-tabulate 8 w)) (l .inv .3)
 
@@ -77,9 +70,7 @@ put-eight-spec =
     Inv-loop
     μ-loop
     loop-holds
-    mul-out
-    shr-out
-    cast-out
+    byte-of-requires
     add-out
     slice-write-out
     add-i

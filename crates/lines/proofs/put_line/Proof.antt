@@ -1,7 +1,8 @@
 -- `lines::put_line` meets its contract: at each resolution the bytes are the scan line's.
-use mathlib.Core.Path.{_≡_, sym, ap, _∙_}
+use mathlib.Core.Path.{_≡_, refl, sym, ap, _∙_}
 use mathlib.Core.Bool.{Bool, true}
 use mathlib.Core.List.{List}
+use mathlib.Core.Logic.{inl, inr}
 use Prim.Native.Nat.{ℕ, _+_, _*_, _≤_, _<_}
 use native.Mathlib.Omega.{arith}
 use denote.Ref.{now}
@@ -18,7 +19,7 @@ use Rattle.resolution.specs.Shapes.{screenBytes, widthOf, heightOf, lineBytesOf
 use Rattle.resolution.proofs.Shapes.{height-le}
 use Rattle.lines.specs.Lines.{registersFit}
 use Rattle.lines.specs.Registers.{lineByte, scanLineBytes, withLine}
-use Rattle.lines.proofs.Packed.{groupsByte-line, planeByte-high}
+use Rattle.lines.proofs.Blocks.{words-groups, groupsByte-line}
 use Rattle.lines.proofs.Places.{line-within}
 use borrow.Author.Needs.{needs}
 use Rattle.lines.proofs.put_line.Statement.{statement}
@@ -35,93 +36,120 @@ module _ (r q : Resolution) (e : r ≡ q) where
       let passed = allFirst-each test line (widthOf r) fit x (omega (arith, ap widthOf e)) in
       omega (arith, ltb-true (getD line x 0) (registersOf r) passed, ap registersOf e)
 
-  made : (y : ℕ) (line s : List ℕ) {f : ℕ → ℕ} → ((i : ℕ) → f i ≡ lineByte q line i)
+  made : (y : ℕ) (line s : List ℕ) {f : ℕ → ℕ} → ((i : ℕ) → i < lineBytesOf q → f i ≡ lineByte q line i)
       → overAt (y * lineBytesOf q) (tabulate (lineBytesOf q) f) s ≡ withLine s r y line
   unfolding withLine scanLineBytes
   made y line s {f} is =
       ap (λ (t : List ℕ). overAt (y * lineBytesOf q) t s)
-      (tabulate-ext (lineBytesOf q) f (lineByte q line) (λ i h. is i))
+      (tabulate-ext (lineBytesOf q) f (lineByte q line) is)
       ∙ ap (λ (p : Resolution). withLine s p y line) (sym e)
 
 enum-told : tie.Need-enum-told
 enum-told c = search needs
 
-mul-put-groups : tie.Need-mul-put-groups
-mul-put-groups c = omega (arith, height-le (c .before .before .before .before .before .args .r))
+line-words-requires : tie.Need-line-words-requires
+line-words-requires c κs =
+    let a = c .before .before .before .before .args in
+    let e : a .r ≡ Low = c .enum-told .given .1 in
+    (inl refl, omega arith, omega arith, omega (arith, ap widthOf e))
 
-put-groups-requires : tie.Need-put-groups-requires
-put-groups-requires c κs =
-    let o = c .before .before .before .before .before in
-    let a = o .args in
-    let e : a .r ≡ Low = c .before .enum-told .given .1 in
-    let line = now (a .registers) in
-    let within = in-screen (a .r) Low e (a .line) (o .pre .0 .1) in
-    let fit = below (a .r) Low e line (o .pre .1) in
-    ((omega arith, omega arith, omega arith, within, omega arith), (omega (arith, ap widthOf e), fit))
+mul-put-words : tie.Need-mul-put-words
+mul-put-words c = omega (arith, height-le (c .before .before .before .before .before .before .before .args .r))
 
-mul-put-groups-2 : tie.Need-mul-put-groups-2
-mul-put-groups-2 c = omega (arith, height-le (c .before .before .before .before .before .args .r))
+put-words-requires : tie.Need-put-words-requires
+put-words-requires c κs =
+    let t = c .before .before .before in
+    let o = t .before .before .before .before in
+    let e : o .args .r ≡ Low = t .enum-told .given .1 in
+    (omega arith, in-screen (o .args .r) Low e (o .args .line) (o .pre .0 .1), omega arith)
 
-put-groups-requires-2 : tie.Need-put-groups-requires-2
-put-groups-requires-2 c κs =
-    let o = c .before .before .before .before .before in
-    let a = o .args in
-    let e : a .r ≡ Medium = c .before .enum-told2 .given .1 in
-    let line = now (a .registers) in
-    let within = in-screen (a .r) Medium e (a .line) (o .pre .0 .1) in
-    let fit = below (a .r) Medium e line (o .pre .1) in (
-      (omega arith, omega arith, omega arith, within, omega arith),
-      (omega (arith, ap widthOf e), λ x h. omega (arith, fit x h)),
-    )
+line-words-requires-2 : tie.Need-line-words-requires-2
+line-words-requires-2 c κs =
+    let a = c .before .before .before .before .args in
+    let e : a .r ≡ Medium = c .enum-told2 .given .1 in
+    (inr (inl refl), omega arith, omega arith, omega (arith, ap widthOf e))
 
-mul-put-columns : tie.Need-mul-put-columns
-mul-put-columns c = omega (arith, height-le (c .before .before .before .before .before .args .r))
+mul-put-words-2 : tie.Need-mul-put-words-2
+mul-put-words-2 c = omega (arith, height-le (c .before .before .before .before .before .before .before .args .r))
 
-put-columns-requires : tie.Need-put-columns-requires
-put-columns-requires c κs =
-    let o = c .before .before .before .before .before in
-    let a = o .args in
-    let e : a .r ≡ High = c .before .enum-told3 .given .1 in
-    let line = now (a .registers) in
-    let within = in-screen (a .r) High e (a .line) (o .pre .0 .1) in
-    let fit = below (a .r) High e line (o .pre .1) in
-    (within, omega arith, omega (arith, ap widthOf e), fit)
+put-words-requires-2 : tie.Need-put-words-requires-2
+put-words-requires-2 c κs =
+    let t = c .before .before .before in
+    let o = t .before .before .before .before in
+    let e : o .args .r ≡ Medium = t .enum-told2 .given .1 in
+    (omega arith, in-screen (o .args .r) Medium e (o .args .line) (o .pre .0 .1), omega arith)
+
+line-words-requires-3 : tie.Need-line-words-requires-3
+line-words-requires-3 c κs =
+    let a = c .before .before .before .before .args in
+    let e : a .r ≡ High = c .enum-told3 .given .1 in
+    (inr (inr refl), omega arith, omega arith, omega (arith, ap widthOf e))
+
+mul-put-words-3 : tie.Need-mul-put-words-3
+mul-put-words-3 c = omega (arith, height-le (c .before .before .before .before .before .before .before .args .r))
+
+put-words-requires-3 : tie.Need-put-words-requires-3
+put-words-requires-3 c κs =
+    let t = c .before .before .before in
+    let o = t .before .before .before .before in
+    let e : o .args .r ≡ High = t .enum-told3 .given .1 in
+    (omega arith, in-screen (o .args .r) High e (o .args .line) (o .pre .0 .1), omega arith)
 
 returns : tie.Need-returns
 returns c =
-    let a = c .before .before .before .before .before .before .before .before .args in
-    let e : a .r ≡ Low = c .before .before .before .before .enum-told .given .1 in
-    c .before .before .put-groups .ensures
-    ∙ made (a .r) Low e (a .line) (now (a .registers)) (now (a .screen)) (groupsByte-line Low (now (a .registers)))
+    let p = c .before .before in
+    let w = p .before .before .before in
+    let o = w .before .before .before .before .before in
+    let a = o .args in
+    let line = now (a .registers) in
+    let e : a .r ≡ Low = w .before .enum-told .given .1 in
+    let is = words-groups line 32 (inl refl) 10 (w .line-words .result) (w .line-words .ensures)
+    (below (a .r) Low e line (o .pre .1)) in
+    p .put-words .ensures
+    ∙ made (a .r) Low e (a .line) line (now (a .screen)) (λ i h. is i h ∙ groupsByte-line Low line i)
 
 returns-2 : tie.Need-returns-2
 returns-2 c =
-    let a = c .before .before .before .before .before .before .before .before .args in
-    let e : a .r ≡ Medium = c .before .before .before .before .enum-told2 .given .1 in
-    c .before .before .put-groups2 .ensures
-    ∙ made (a .r) Medium e (a .line) (now (a .registers)) (now (a .screen))
-    (groupsByte-line Medium (now (a .registers)))
+    let p = c .before .before in
+    let w = p .before .before .before in
+    let o = w .before .before .before .before .before in
+    let a = o .args in
+    let line = now (a .registers) in
+    let e : a .r ≡ Medium = w .before .enum-told2 .given .1 in
+    let is = words-groups line 64 (inr (inl refl)) 10 (w .line-words2 .result) (w .line-words2 .ensures)
+    (below (a .r) Medium e line (o .pre .1)) in
+    p .put-words2 .ensures
+    ∙ made (a .r) Medium e (a .line) line (now (a .screen)) (λ i h. is i h ∙ groupsByte-line Medium line i)
 
 returns-3 : tie.Need-returns-3
 returns-3 c =
-    let a = c .before .before .before .before .before .before .before .before .args in
-    let e : a .r ≡ High = c .before .before .before .before .enum-told3 .given .1 in
-    c .before .before .put-columns .ensures
-    ∙ made (a .r) High e (a .line) (now (a .registers)) (now (a .screen)) (planeByte-high (now (a .registers)))
+    let p = c .before .before in
+    let w = p .before .before .before in
+    let o = w .before .before .before .before .before in
+    let a = o .args in
+    let line = now (a .registers) in
+    let e : a .r ≡ High = w .before .enum-told3 .given .1 in
+    let is = words-groups line 128 (inr (inr refl)) 5 (w .line-words3 .result) (w .line-words3 .ensures)
+    (below (a .r) High e line (o .pre .1)) in
+    p .put-words3 .ensures
+    ∙ made (a .r) High e (a .line) line (now (a .screen)) (λ i h. is i h ∙ groupsByte-line High line i)
 
 pub put-line-spec : {M : Type 1} → statement M
 put-line-spec =
     tie.close
     (tie.spec
     enum-told
-    mul-put-groups
-    put-groups-requires
+    line-words-requires
+    mul-put-words
+    put-words-requires
     (λ c. search needs)
-    mul-put-groups-2
-    put-groups-requires-2
+    line-words-requires-2
+    mul-put-words-2
+    put-words-requires-2
     (λ c. search needs)
-    mul-put-columns
-    put-columns-requires
+    line-words-requires-3
+    mul-put-words-3
+    put-words-requires-3
     (λ c. search needs)
     returns
     (λ c. search needs)

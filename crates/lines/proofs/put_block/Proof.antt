@@ -1,4 +1,4 @@
--- `lines::put_group` meets its contract: the loop has written the first i bytes.
+-- `lines::put_block` meets its contract: the loop has written the first i bytes.
 use mathlib.Core.Path.{_≡_, refl, sym, _∙_}
 use native.Mathlib.Omega.{arith}
 use Prim.Native.Nat.{ℕ, _≤_, _+_, _-_}
@@ -8,25 +8,25 @@ use Rattle.lists.specs.Over.{overAt}
 use Rattle.lists.specs.Tabulate.{tabulate}
 use Rattle.lists.proofs.Over.{overAt-turn, overAt-done}
 use Rattle.lists.proofs.Tabulate.{length-tabulate, getD-tabulate}
-use Rattle.lines.specs.Packed.{groupByte}
-use Rattle.lines.proofs.put_group.Statement.{statement}
-use Rattle.lines.proofs.put_group.Tie as tie
+use Rattle.lines.specs.Blocks.{blockByte}
+use Rattle.lines.proofs.put_block.Statement.{statement}
+use Rattle.lines.proofs.put_block.Tie as tie
 
 abbrev Inv-loop : tie.InvT-loop
-Inv-loop left right size screen₀ at i₀ screen i =
-    (size ≤ 8) × (at + size ≤ length screen₀) × (i ≤ size) × (length screen ≡ length screen₀)
-    × (screen ≡ overAt at (take i (tabulate size (groupByte left right))) screen₀)
+Inv-loop left right screen₀ at i₀ screen i =
+    (at + 16 ≤ length screen₀) × (i ≤ 16) × (length screen ≡ length screen₀)
+    × (screen ≡ overAt at (take i (tabulate 16 (blockByte left right))) screen₀)
 
 abbrev μ-loop : tie.MeasureT-loop
-μ-loop left right size screen₀ at i₀ screen i = size - i
+μ-loop left right screen₀ at i₀ screen i = 16 - i
 
 loop-holds : tie.Need-loop-holds Inv-loop μ-loop
 loop-holds c =
     let a = c .before .args in
-    (omega arith, omega arith, omega arith, refl, sym (take-append-drop (a .at) (now (a .screen))))
+    (omega arith, omega arith, refl, sym (take-append-drop (a .at) (now (a .screen))))
 
-group-byte-requires : tie.Need-group-byte-requires Inv-loop μ-loop
-group-byte-requires c κs = omega arith
+block-byte-requires : tie.Need-block-byte-requires Inv-loop μ-loop
+block-byte-requires c κs = omega arith
 
 add-screen : tie.Need-add-screen Inv-loop μ-loop
 add-screen c = omega arith
@@ -44,14 +44,13 @@ loop-again : tie.Need-loop-again Inv-loop μ-loop
 loop-again c =
     let l = c .before .before .loop in
     let a = c .before .before .before .before .args in
-    let w : ℕ → ℕ = groupByte (a .left) (a .right) in (
-      omega arith,
+    let w : ℕ → ℕ = blockByte (a .left) (a .right) in (
       omega arith,
       omega arith,
       simp length-set (omega arith),
-      overAt-turn (a .at) (tabulate (a .size) w) (now (a .screen)) (l .screen) (l .i) (c .group-byte .result) 0
-          (omega (arith, length-tabulate (a .size) w)) (omega arith) (l .inv .4)
-          (c .group-byte .ensures ∙ sym (getD-tabulate (a .size) w (l .i) 0 (omega arith))),
+      overAt-turn (a .at) (tabulate 16 w) (now (a .screen)) (l .screen) (l .i) (c .block-byte .result) 0
+          (omega (arith, length-tabulate 16 w)) (omega arith) (l .inv .3)
+          (c .block-byte .ensures ∙ sym (getD-tabulate 16 w (l .i) 0 (omega arith))),
     )
 
 same-length : tie.Need-same-length Inv-loop μ-loop
@@ -61,18 +60,18 @@ returns : tie.Need-returns Inv-loop μ-loop
 returns c =
     let l = c .before .loop in
     let a = c .before .before .before .args in
-    let w : ℕ → ℕ = groupByte (a .left) (a .right) in
-    overAt-done (a .at) (tabulate (a .size) w) (now (a .screen)) (l .screen) (l .i)
-    (omega (arith, length-tabulate (a .size) w)) (l .inv .4)
+    let w : ℕ → ℕ = blockByte (a .left) (a .right) in
+    overAt-done (a .at) (tabulate 16 w) (now (a .screen)) (l .screen) (l .i)
+    (omega (arith, length-tabulate 16 w)) (l .inv .3)
 
-pub put-group-spec : {M : Type 1} → statement M
-put-group-spec =
+pub put-block-spec : {M : Type 1} → statement M
+put-block-spec =
     tie.close
     (tie.spec
     Inv-loop
     μ-loop
     loop-holds
-    group-byte-requires
+    block-byte-requires
     add-screen
     slice-write-screen
     add-i

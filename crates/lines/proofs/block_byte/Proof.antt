@@ -1,0 +1,22 @@
+-- `lines::block_byte` meets its contract: the test chooses as `cond` does.
+use borrow.Author.Tests.{eq-eqb, ne-eqb}
+use borrow.Author.Needs.{needs}
+use Rattle.lines.proofs.block_byte.Statement.{statement}
+use Rattle.lines.proofs.block_byte.Tie as tie
+
+returns : tie.Need-returns
+returns c = rw (eq-eqb _ _ (c .before .if1 .taken)) (c .byte-of .ensures)
+
+returns-2 : tie.Need-returns-2
+returns-2 c = rw (ne-eqb _ _ (c .before .if1 .left)) (c .byte-of2 .ensures)
+
+pub block-byte-spec : {M : Type 1} → statement M
+block-byte-spec =
+    tie.close
+    (tie.spec
+    (λ c. search needs)
+    (λ c κs. search needs)
+    (λ c. search needs)
+    (λ c κs. search needs)
+    returns
+    returns-2)

@@ -1,0 +1,136 @@
+-- `lines::fill_words` meets its contract: the loop has made the words of the first b blocks.
+use mathlib.Core.Path.{_≡_, refl, ap, _∙_}
+use native.Mathlib.Omega.{arith}
+use Prim.Native.Nat.{ℕ, _≤_, _+_, _-_, _*_}
+use denote.Ref.{now}
+use lib.ListN.{length, take, set}
+use Rattle.lists.specs.Over.{over}
+use Rattle.lists.specs.Tabulate.{tabulate}
+use Rattle.lists.proofs.Over.{tabulate-turn, over-done}
+use Rattle.lists.proofs.Tabulate.{length-tabulate}
+use Rattle.lines.specs.Blocks.{isBlockWidth, lineWord}
+use Rattle.lines.proofs.Blocks.{lineWord-left, lineWord-right}
+use Rattle.lines.proofs.Pieces.{piece-within}
+use Rattle.lines.proofs.fill_words.Statement.{statement}
+use Rattle.lines.proofs.fill_words.Tie as tie
+
+abbrev Inv-loop : tie.InvT-loop
+Inv-loop words₀ registers width blocks b₀ words b =
+    isBlockWidth width × (blocks ≤ 10) × (blocks * width ≤ 640) × (blocks * width ≤ length registers) × (b ≤ blocks)
+    × (length words₀ ≡ 20) × (words ≡ over (take (b * 2) (tabulate (blocks * 2) (lineWord registers width))) words₀)
+
+abbrev μ-loop : tie.MeasureT-loop
+μ-loop words₀ registers width blocks b₀ words b = blocks - b
+
+loop-holds : tie.Need-loop-holds Inv-loop μ-loop
+loop-holds c =
+    let p = c .before .pre in
+    (p .1, p .2, p .3, p .4, omega arith, p .0, refl)
+
+within-here : (c : tie.In-loop Inv-loop μ-loop)
+    → c .before .loop .b * c .before .before .before .args .width + c .before .before .before .args .width
+    ≤ c .before .before .before .args .blocks * c .before .before .before .args .width
+within-here c =
+    let a = c .before .before .before .args in
+    piece-within (c .before .loop .b) (a .blocks) (a .width) (omega arith)
+
+mul-block-word : tie.Need-mul-block-word Inv-loop μ-loop
+mul-block-word c = omega (arith, within-here c)
+
+block-word-requires : tie.Need-block-word-requires Inv-loop μ-loop
+block-word-requires c κs = (omega (arith, within-here c), c .before .loop .inv .0)
+
+mul-words : tie.Need-mul-words Inv-loop μ-loop
+mul-words c = omega arith
+
+mul-words-2 : tie.Need-mul-words-2 Inv-loop μ-loop
+mul-words-2 c = omega arith
+
+element-write-words : tie.Need-element-write-words Inv-loop μ-loop
+element-write-words c = omega arith
+
+mul-block-word-2 : tie.Need-mul-block-word-2 Inv-loop μ-loop
+mul-block-word-2 c = omega (arith, within-here (c .before))
+
+add-block-word : tie.Need-add-block-word Inv-loop μ-loop
+add-block-word c = omega (arith, within-here (c .before))
+
+block-word-requires-2 : tie.Need-block-word-requires-2 Inv-loop μ-loop
+block-word-requires-2 c κs = (omega (arith, within-here (c .before)), c .before .before .loop .inv .0)
+
+mul-words-3 : tie.Need-mul-words-3 Inv-loop μ-loop
+mul-words-3 c = omega arith
+
+add-words : tie.Need-add-words Inv-loop μ-loop
+add-words c = omega arith
+
+mul-words-4 : tie.Need-mul-words-4 Inv-loop μ-loop
+mul-words-4 c = omega arith
+
+element-write-words-2 : tie.Need-element-write-words-2 Inv-loop μ-loop
+element-write-words-2 c = omega arith
+
+add-b : tie.Need-add-b Inv-loop μ-loop
+add-b c = omega arith
+
+loop-less : tie.Need-loop-less Inv-loop μ-loop
+loop-less c = omega arith
+
+loop-again : tie.Need-loop-again Inv-loop μ-loop
+loop-again c =
+    let l = c .before .before .before .loop in
+    let i = l .inv in
+    let a = c .before .before .before .before .before .args in
+    let s = now (a .registers) in
+    let d = now (a .words) in
+    let n : ℕ = a .blocks * 2 in
+    let k : ℕ = l .b * 2 in
+    let f : ℕ → ℕ = lineWord s (a .width) in
+    let left = c .before .block-word in
+    let right = c .block-word2 in
+    let one = tabulate-turn n f d (l .words) k (left .result) (omega arith) (omega arith) (i .6)
+    (left .ensures ∙ lineWord-left s (a .width) (l .b)) in
+    let w = set (l .words) k (left .result) in
+    let two = tabulate-turn n f d w (k + 1) (right .result) (omega arith) (omega arith) one
+    (right .ensures ∙ lineWord-right s (a .width) (l .b)) in
+    let e : k + 1 + 1 ≡ (l .b + 1) * 2 = omega arith in (
+      i .0,
+      i .1,
+      i .2,
+      i .3,
+      omega arith,
+      i .5,
+      two ∙ ap (λ (m : ℕ). over (take m (tabulate n f)) d) e,
+    )
+
+returns : tie.Need-returns Inv-loop μ-loop
+returns c =
+    let l = c .before .loop in
+    let a = c .before .before .before .args in
+    let f : ℕ → ℕ = lineWord (now (a .registers)) (a .width) in
+    over-done (tabulate (a .blocks * 2) f) (now (a .words)) (l .words) (l .b * 2)
+    (omega (arith, length-tabulate (a .blocks * 2) f)) (l .inv .6)
+
+pub fill-words-spec : {M : Type 1} → statement M
+fill-words-spec =
+    tie.close
+    (tie.spec
+    Inv-loop
+    μ-loop
+    loop-holds
+    mul-block-word
+    block-word-requires
+    mul-words
+    mul-words-2
+    element-write-words
+    mul-block-word-2
+    add-block-word
+    block-word-requires-2
+    mul-words-3
+    add-words
+    mul-words-4
+    element-write-words-2
+    add-b
+    loop-less
+    loop-again
+    returns)
