@@ -339,9 +339,10 @@ KutimuqPondAnswer kutimuq_pond(const uint8_t *screen, size_t screen_len, uint16_
  * NEOchrome not 32,128, Tiny under 37), 4, 5, 3 (raw not 32,034 or 32,066,
  * packed above 32,065, Tiny under 41 with rotation bytes or not what its counts
  * give), 6 or 7 at the first record at fault or 11 or 12 at the first control
- * byte at fault, 8 or 13. Offsets count from the file's start. A call takes about
- * 33,000 bytes of stack, whatever the file: 32,000 of them are the screen into
- * which a packed DEGAS or a Tiny file is unpacked until all is judged.
+ * byte at fault, 8 or 13. Offsets count from the file's start. A call takes under
+ * 1,000 bytes of stack where the file is raw or the refusal is 1 to 5, else about
+ * 34,000: 32,000 of them are the screen into which a packed DEGAS or a Tiny file
+ * is unpacked until all is judged.
  */
 KUTIMUQ_MUST_USE KUTIMUQ_NONNULL
 KutimuqReadAnswer kutimuq_read(uint8_t kind, const uint8_t *file, size_t file_len,

@@ -5,7 +5,7 @@ ghost use lib.ListN.{length};
 ghost use Rattle.outcome.specs.Outcome.{accepted};
 ghost use Rattle.resolution.specs.Shapes.{screenBytes};
 ghost use Rattle.picture.specs.Reading.{rawReading, readAnswer, readArea};
-ghost use Rattle.degas.specs.Layout.{headerLength, plainLength};
+ghost use Rattle.degas.specs.Layout.{headerLength, plainLength, packedMost};
 ghost use Rattle.degas.specs.Reading.{plainPicture, elitePicture, readRaw, readPacked, readOpened};
 use super::ELITE_LENGTH;
 use super::HEADER_LENGTH;
@@ -63,15 +63,13 @@ fn read_raw(file: &[u8], r: Resolution, area: &mut [u8]) -> ReadAnswer
     picture::read_refused(outcome::refuse(WRONG_LENGTH))
 }
 
-// A packed file: its body, unpacked into plane rows of the reader's own, and then exactly 32 bytes.
-fn read_packed(file: &[u8], r: Resolution, area: &mut [u8]) -> ReadAnswer
+// The body of a packed file, unpacked into plane rows of the reader's own, and then exactly 32 bytes.
+fn read_body(file: &[u8], r: Resolution, area: &mut [u8]) -> ReadAnswer
+    requires { ⌜ length (now file) ≤ packedMost ⌝ }
     requires { ⌜ screenBytes ≤ length (now area) ⌝ }
     ensures answer { λ a. ⌜ a ≡ readAnswer (readPacked (now (file .entry)) r) ⌝ }
     ensures area { λ _. ⌜ now (area .exit) ≡ readArea (readPacked (now (file .entry)) r) (now (area .entry)) ⌝ }
 {
-    if PACKED_MOST < file.len() {
-        return picture::read_refused(outcome::refuse(WRONG_LENGTH));
-    }
     let mut rows = [0u8; SCREEN_BYTES];
     let unpacked = bodies::unpack_body(file, HEADER_LENGTH, r.raster(), &mut rows);
     if unpacked.refusal.number != 0 {
@@ -87,6 +85,22 @@ fn read_packed(file: &[u8], r: Resolution, area: &mut [u8]) -> ReadAnswer
         unpacked.body,
         unpacked.records,
     )
+}
+
+// A packed file: its length is judged before its body.
+fn read_packed(file: &[u8], r: Resolution, area: &mut [u8]) -> ReadAnswer
+    requires { ⌜ screenBytes ≤ length (now area) ⌝ }
+    ensures answer { λ a. ⌜ a ≡ readAnswer (readPacked (now (file .entry)) r) ⌝ }
+    ensures area { λ _. ⌜ now (area .exit) ≡ readArea (readPacked (now (file .entry)) r) (now (area .entry)) ⌝ }
+{
+    if PACKED_MOST < file.len() {
+        return picture::read_refused(outcome::refuse(WRONG_LENGTH));
+    }
+    // A longer area is cut to the screen; the call of itself keeps read_body's rows out of the caller's stack frame.
+    if SCREEN_BYTES < area.len() {
+        return read_packed(file, r, &mut area[..SCREEN_BYTES]);
+    }
+    read_body(file, r, area)
 }
 
 // An opened file, raw or packed.

@@ -472,6 +472,10 @@ fn read_sections(file: &[u8], area: &mut [u8]) -> ReadAnswer
     if file.len() - start != body_length(file) {
         return picture::read_refused(outcome::refuse(WRONG_LENGTH));
     }
+    // A longer area is cut to the screen; the call of itself keeps read_runs' bytes out of the caller's stack frame.
+    if SCREEN_BYTES < area.len() {
+        return read_sections(file, &mut area[..SCREEN_BYTES]);
+    }
     read_runs(file, area)
 }
 

@@ -1,0 +1,243 @@
+/* Measures the stack that calls of the library take, each on a painted stack of its
+   own. Fails where a call takes more than its limit or answers another number than
+   it should. With the argument --depths it prints every measure. */
+
+#define _XOPEN_SOURCE 700
+
+#include <stdbool.h>
+#include <stdio.h>
+#include <string.h>
+#include <ucontext.h>
+
+#include "kutimuq.h"
+
+enum {
+    STACK_BYTES = 1 << 17,
+    PAINT = 0xA5,
+    /* Limits: a raw file read, or a file refused before its body or runs are unpacked;
+       a packed or Tiny file unpacked; any other operation. */
+    NOT_UNPACKED = 1000,
+    UNPACKED = 35000,
+    NOT_READ = 3000,
+
+    LONG_AREA = KUTIMUQ_SCREEN_BYTES + 1,
+    PIXELS = 640 * 400,
+    LINE_BYTES = 160,
+    RESOLUTIONS = 3,
+    /* DEGAS: bit 15 of the first word; the body's offset; a literal of 128 bytes. */
+    PACKED = 0x80,
+    BODY = 34,
+    LONG_LITERAL = 127,
+    /* Tiny: offsets without rotation bytes; an undefined control byte; half a screen's words. */
+    COUNTS = 33,
+    CONTROLS = 37,
+    DATA = 43,
+    UNDEFINED = 128,
+    HALF = 8000,
+    DATA_BYTES = 2 + 2 * HALF
+};
+
+static uint8_t painted[STACK_BYTES];
+static ucontext_t outside, inside;
+static uint8_t *top;
+static void (*operation)(void);
+
+static uint8_t number;
+static uint8_t screen[KUTIMUQ_SCREEN_BYTES];
+static uint8_t area[LONG_AREA];
+static uint8_t file[KUTIMUQ_WRITE_AREA_BYTES];
+static uint8_t registers[PIXELS];
+static KutimuqPicture picture;
+static KutimuqLegend legend;
+static KutimuqRectangle whole;
+static uint8_t kind, form;
+static size_t file_len, area_len;
+
+static bool printing;
+static int passed, failed;
+
+/* ---- the operations */
+
+static void read_file(void)
+{
+    number = kutimuq_read(kind, file, file_len, area, area_len).refusal.number;
+}
+
+static void write_file(void)
+{
+    KutimuqWriteAnswer answer =
+        kutimuq_write(form, picture, screen, sizeof screen, file, sizeof file);
+    file_len = answer.length;
+    number = answer.refusal.number;
+}
+
+static void tally(void)
+{
+    number = kutimuq_tally(screen, sizeof screen, picture.resolution, whole).refusal.number;
+}
+
+static void pond(void)
+{
+    number = kutimuq_pond(screen, sizeof screen, picture.resolution, whole, 0, 0, legend)
+                 .refusal.number;
+}
+
+static void screen_out(void)
+{
+    number = kutimuq_screen_out(screen, sizeof screen, picture.resolution, registers,
+                                sizeof registers)
+                 .number;
+}
+
+static void screen_in(void)
+{
+    number = kutimuq_screen_in(area, sizeof area, picture.resolution, registers, sizeof registers)
+                 .number;
+}
+
+/* ---- the measure */
+
+static void start(void)
+{
+    top = __builtin_frame_address(0);
+    operation();
+}
+
+/* From the lowest byte that an operation wrote on its stack up to the frame that called it. */
+static size_t depth_of(void (*called)(void))
+{
+    memset(painted, PAINT, sizeof painted);
+    operation = called;
+    getcontext(&inside);
+    inside.uc_stack.ss_sp = painted;
+    inside.uc_stack.ss_size = sizeof painted;
+    inside.uc_link = &outside;
+    makecontext(&inside, start, 0);
+    swapcontext(&outside, &inside);
+    uint8_t *lowest = painted;
+    while (lowest < top && *lowest == PAINT) {
+        lowest++;
+    }
+    return (size_t)(top - lowest);
+}
+
+static void check(const char *what, void (*called)(void), size_t limit, uint8_t expected)
+{
+    size_t depth = depth_of(called);
+    if (printing) {
+        printf("%6zu  resolution %d, %s\n", depth, picture.resolution, what);
+    }
+    if (depth <= limit && number == expected) {
+        passed++;
+        return;
+    }
+    failed++;
+    printf("stack: failed: %s took %zu bytes, limit %zu; answered %d, expected %d\n", what, depth,
+           limit, number, expected);
+}
+
+/* Reads the file into an area of a screen's length and into a longer one. */
+static void check_reading(const char *what, uint8_t of_kind, size_t limit, uint8_t expected)
+{
+    kind = of_kind;
+    for (area_len = KUTIMUQ_SCREEN_BYTES; area_len <= LONG_AREA; area_len++) {
+        check(what, read_file, limit, expected);
+    }
+}
+
+/* Writes the file of a form. */
+static void check_writing(const char *what, uint8_t of_form)
+{
+    form = of_form;
+    check(what, write_file, NOT_READ, KUTIMUQ_ACCEPTED);
+}
+
+/* ---- the calls */
+
+static void raw_files(void)
+{
+    check_writing("DEGAS written", KUTIMUQ_FORM_PLAIN);
+    check_reading("DEGAS read", KUTIMUQ_KIND_DEGAS, NOT_UNPACKED, KUTIMUQ_ACCEPTED);
+    check_reading("unknown kind", 0, NOT_UNPACKED, KUTIMUQ_UNKNOWN_KIND);
+    check_reading("DEGAS as NEOchrome", KUTIMUQ_KIND_NEO, NOT_UNPACKED, KUTIMUQ_WRONG_LENGTH);
+    file_len--;
+    check_reading("DEGAS cut", KUTIMUQ_KIND_DEGAS, NOT_UNPACKED, KUTIMUQ_WRONG_LENGTH);
+    file[1] = RESOLUTIONS;
+    check_reading("DEGAS of no resolution", KUTIMUQ_KIND_DEGAS, NOT_UNPACKED,
+                  KUTIMUQ_UNKNOWN_RESOLUTION);
+
+    check_writing("DEGAS Elite written", KUTIMUQ_FORM_ELITE_RAW);
+    check_reading("DEGAS Elite read", KUTIMUQ_KIND_DEGAS, NOT_UNPACKED, KUTIMUQ_ACCEPTED);
+    file[0] = PACKED;
+    check_reading("packed too long", KUTIMUQ_KIND_DEGAS, NOT_UNPACKED, KUTIMUQ_WRONG_LENGTH);
+
+    check_writing("NEOchrome written", KUTIMUQ_FORM_NEO);
+    check_reading("NEOchrome read", KUTIMUQ_KIND_NEO, NOT_UNPACKED, KUTIMUQ_ACCEPTED);
+    area_len = KUTIMUQ_SCREEN_BYTES - 1;
+    check("area too short", read_file, NOT_UNPACKED, KUTIMUQ_AREA_TOO_SHORT);
+}
+
+static void packed_files(void)
+{
+    check_writing("packed written", KUTIMUQ_FORM_ELITE_PACKED);
+    check_reading("packed read", KUTIMUQ_KIND_DEGAS, UNPACKED, KUTIMUQ_ACCEPTED);
+    file_len--;
+    check_reading("packed, tail cut", KUTIMUQ_KIND_DEGAS, UNPACKED, KUTIMUQ_WRONG_TAIL);
+    file[BODY] = LONG_LITERAL;
+    check_reading("packed, record at fault", KUTIMUQ_KIND_DEGAS, UNPACKED,
+                  KUTIMUQ_RECORD_CROSSES);
+}
+
+/* One word repeated over half of the screen, then the other half's words. */
+static void tiny_files(void)
+{
+    static const uint8_t controls[] = {0, HALF >> 8, HALF & 255, 1, HALF >> 8, HALF & 255};
+    static const uint8_t counts[] = {0, sizeof controls, (HALF + 1) >> 8, (HALF + 1) & 255};
+    memset(file, 0, sizeof file);
+    file[0] = (uint8_t)picture.resolution;
+    memcpy(file + COUNTS, counts, sizeof counts);
+    memcpy(file + CONTROLS, controls, sizeof controls);
+    memcpy(file + DATA, screen, DATA_BYTES);
+    file_len = DATA + DATA_BYTES;
+    check_reading("Tiny read", KUTIMUQ_KIND_TINY, UNPACKED, KUTIMUQ_ACCEPTED);
+    file[CONTROLS] = UNDEFINED;
+    check_reading("Tiny, control byte at fault", KUTIMUQ_KIND_TINY, UNPACKED,
+                  KUTIMUQ_UNDEFINED_CONTROL);
+    file_len--;
+    check_reading("Tiny cut", KUTIMUQ_KIND_TINY, NOT_UNPACKED, KUTIMUQ_WRONG_LENGTH);
+    file[0] = 2 * RESOLUTIONS;
+    check_reading("Tiny of no resolution", KUTIMUQ_KIND_TINY, NOT_UNPACKED,
+                  KUTIMUQ_UNKNOWN_RESOLUTION);
+}
+
+static void pixels(void)
+{
+    KutimuqShape shape = kutimuq_shape(picture.resolution);
+    whole = (KutimuqRectangle){0, 0, shape.width, shape.height};
+    check("tally", tally, NOT_READ, KUTIMUQ_ACCEPTED);
+    check("pond", pond, NOT_READ, KUTIMUQ_ACCEPTED);
+    check("screen out", screen_out, NOT_READ, KUTIMUQ_ACCEPTED);
+    check("screen in", screen_in, NOT_READ, KUTIMUQ_ACCEPTED);
+}
+
+/* Every other scan line differs from byte to byte; the rest is 0. */
+static void fill_screen(void)
+{
+    for (size_t i = 0; i < sizeof screen; i++) {
+        screen[i] = i / LINE_BYTES % 2 == 0 ? (uint8_t)(i * i / 3) : 0;
+    }
+}
+
+int main(int argc, char **argv)
+{
+    printing = argc == 2 && strcmp(argv[1], "--depths") == 0;
+    fill_screen();
+    for (picture.resolution = 0; picture.resolution < RESOLUTIONS; picture.resolution++) {
+        raw_files();
+        packed_files();
+        tiny_files();
+        pixels();
+    }
+    printf("stack: %d passed, %d failed\n", passed, failed);
+    return failed != 0;
+}
