@@ -9,10 +9,10 @@ import os
 import sysconfig
 import zipfile
 
-from kutimuq import __version__, shared_object
+from kutimuq import __version__, library
 
 FOLDER = os.path.dirname(os.path.abspath(__file__))
-LICENSE = os.path.join(shared_object.REPOSITORY, "LICENSE")
+LICENSE = os.path.join(library.REPOSITORY, "LICENSE")
 NAME = f"kutimuq-{__version__}"
 TAG = "py3-none-" + sysconfig.get_platform().replace("-", "_").replace(".", "_")
 SCRIPT = """#!python
@@ -55,7 +55,7 @@ def contents():
     package = os.path.join(FOLDER, "kutimuq")
     names = [name for name in sorted(os.listdir(package)) if name.endswith((".py", ".pyi", ".html", ".typed"))]
     files = {f"kutimuq/{name}": content(package, name) for name in names}
-    files[f"kutimuq/{shared_object.NAME}"] = content(shared_object.find())
+    files[f"kutimuq/{library.SHARED_OBJECT}"] = content(library.find())
     files[f"{NAME}.data/scripts/kutimuq"] = SCRIPT.encode("ascii")
     files[f"{NAME}.data/data/share/man/man1/kutimuq.1"] = content(FOLDER, "man", "kutimuq.1")
     files[f"{NAME}.dist-info/METADATA"] = METADATA.encode("ascii") + content(FOLDER, "README.md")

@@ -11,14 +11,25 @@ from contextlib import ExitStack
 from errno import EEXIST
 from hashlib import sha256
 
-from . import kinds
 from .enumerations import Form, RefusalNumber
-from .files import ERROR, Output, complain, give_text, is_stream, shown, take
+from .files import (
+    ERROR,
+    Found,
+    Output,
+    complain,
+    decision,
+    degas_resolution,
+    find_kind,
+    give_text,
+    is_stream,
+    kind_titled,
+    shown,
+    take,
+    title_of,
+)
 from .index import tally
-from .kinds import find_kind
-from .library import library
+from .library import Refused, good_part, library, meaning_of
 from .pictures import Picture, read, write
-from .refusals import Refused, good_part, meaning_of
 
 # What a record holds, in the order of the CSV file. A record is a dict, so that it can be a line of JSON.
 COLUMNS = (
@@ -75,8 +86,8 @@ def judge(name: str, kind: int | None = None) -> dict:
     except OSError as error:
         record["error"] = error.strerror or str(error)
         return record
-    found = kinds.Found(kind, "option") if kind is not None else find_kind(data, name)
-    record.update(kind=kinds.title(found.kind), kind_by=found.by)
+    found = Found(kind, "option") if kind is not None else find_kind(data, name)
+    record.update(kind=title_of(found.kind), kind_by=found.by)
     try:
         picture = read(data, found.kind)
     except Refused as refusal:
@@ -90,7 +101,7 @@ def refused_fields(refusal: Refused, data: bytes) -> dict:
     """What a record says about a refused file."""
     return {
         # Only a packed DEGAS file of a known resolution is refused in a plane row.
-        "resolution": kinds.degas_resolution(data) if refusal.in_row else None,
+        "resolution": degas_resolution(data) if refusal.in_row else None,
         "number": refusal.number,
         "place": refusal.place,
         "meaning": refusal.meaning,
@@ -206,7 +217,7 @@ class Journal:
             return None
         same_file = (record["bytes"], record["modified"]) == (status.st_size, status.st_mtime_ns)
         same_kind = (record["kind_by"] == "option") == (kind is not None)
-        return record if same_file and same_kind and kind in (None, kinds.kind_titled(record["kind"])) else None
+        return record if same_file and same_kind and kind in (None, kind_titled(record["kind"])) else None
 
     def add(self, record: dict) -> None:
         self.file.write(json_line(record))
@@ -269,7 +280,7 @@ def line_of(record: dict) -> str:
     name = shown(record["name"])
     if record["error"] is not None:
         return f"{name}: not read: {record['error']}"
-    known = kinds.decision(record["kind"], record["kind_by"])
+    known = decision(record["kind"], record["kind_by"])
     if record["number"]:
         in_row = record["plane_row"] is not None
         facts = f"{good_part(record['plane_row'], record['good_bytes'])}; {known}" if in_row else known

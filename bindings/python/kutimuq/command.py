@@ -8,11 +8,21 @@ from __future__ import annotations
 import os
 import sys
 
-from .files import OUTPUT, Output, complain, give, give_text, put, shown, take
-from .kinds import FORM_NAMES, FORMS, KIND_NAMES, find_kind
+from .files import (
+    FORM_NAMES,
+    FORMS,
+    KIND_NAMES,
+    OUTPUT,
+    Output,
+    complain,
+    find_kind,
+    give,
+    give_text,
+    put,
+    shown,
+    take,
+)
 from .options import Command, Option, WrongUse, choice, columns, command_help, parse
-from .refusals import Refused
-from .shared_object import LibraryMissing
 
 PROGRAM = "kutimuq"
 ACCEPTED, REFUSED, WRONG, INTERRUPTED, PIPE_CLOSED, ENDED = 0, 1, 2, 130, 141, 143
@@ -74,19 +84,19 @@ def end_in_order() -> None:
 
 
 def parse_rectangle(text: str):
-    from .legend import rectangle_of
+    from .index import rectangle_of
 
     return rectangle_of(text)
 
 
 def parse_class(text: str) -> int:
-    from .legend import number_within
+    from .index import number_within
 
     return number_within(text, 255, "class")
 
 
 def parse_confidence(text: str) -> int:
-    from .legend import CONFIDENCE_MAX, number_within
+    from .index import CONFIDENCE_MAX, number_within
 
     return number_within(text, CONFIDENCE_MAX, "confidence")
 
@@ -101,7 +111,7 @@ def parse_palette(text: str) -> list[int]:
 
 
 def parse_jobs(text: str) -> int:
-    from .legend import number_within
+    from .index import number_within
 
     return max(1, number_within(text, 1024, "processes"))
 
@@ -113,7 +123,7 @@ def legend_of(options):
     """The legend that is named, or None."""
     if options.legend is None:
         return None
-    from .legend import BadText, read_legend
+    from .index import BadText, read_legend
 
     try:
         return read_legend(options.legend)
@@ -134,7 +144,7 @@ def read_named(name: str, options):
     return read(data, found.kind)
 
 
-def refuse(refusal: Refused, name: str) -> None:
+def refuse(refusal, name: str) -> None:
     """Says that a file was refused."""
     from .enumerations import RefusalNumber
 
@@ -145,6 +155,8 @@ def refuse(refusal: Refused, name: str) -> None:
 
 def each(options, work, refused=None) -> int:
     """Calls `work(name, picture)` for each file and gives the exit status; one bad file does not stop the others."""
+    from .library import LibraryMissing, Refused
+
     status = ACCEPTED
     for name in options.operands:
         try:
@@ -301,6 +313,7 @@ def convert(options) -> int:
 def encode(options) -> int:
     """`encode`: pictures from images of registers."""
     from .images import IMAGE_LIMIT, BadImage, picture_of, read_image
+    from .library import LibraryMissing, Refused
     from .pictures import open_picture, write
 
     form = FORM_NAMES[options.form]
@@ -333,7 +346,8 @@ def encode(options) -> int:
 
 def on_screen(count, picture, area, what: str, *more):
     """What is counted in a rectangle; one outside the screen is the caller's mistake."""
-    from .screens import shape
+    from .library import Refused
+    from .pictures import shape
 
     try:
         return count(picture.screen, picture.resolution, area, *more)
@@ -371,8 +385,7 @@ def pond_command(options) -> int:
 
 def ponds_command(options) -> int:
     """`ponds`: a table of many ponds of many maps."""
-    from .index import pond
-    from .legend import BadText, read_questions
+    from .index import BadText, pond, read_questions
 
     end_in_order()
     entries = legend_of(options)

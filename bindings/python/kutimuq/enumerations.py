@@ -4,24 +4,24 @@ from __future__ import annotations
 
 from enum import IntEnum
 
-from . import kinds
+from . import files
 
 
 class Kind(IntEnum):
     """A kind of file, by the number that the library reads it under."""
 
-    DEGAS = kinds.KIND_DEGAS
-    NEO = kinds.KIND_NEO
-    TINY = kinds.KIND_TINY
+    DEGAS = files.KIND_DEGAS
+    NEO = files.KIND_NEO
+    TINY = files.KIND_TINY
 
 
 class Form(IntEnum):
     """A form of file, by the number that the library writes it under."""
 
-    PLAIN = kinds.FORM_PLAIN
-    ELITE = kinds.FORM_ELITE
-    PACKED = kinds.FORM_PACKED
-    NEO = kinds.FORM_NEO
+    PLAIN = files.FORM_PLAIN
+    ELITE = files.FORM_ELITE
+    PACKED = files.FORM_PACKED
+    NEO = files.FORM_NEO
 
 
 class RefusalNumber(IntEnum):

@@ -1,12 +1,159 @@
-"""Files in, bounded; files out, whole or not at all; names and messages for people."""
+"""Files: of which kind they are, taken in bounded, put out whole or not at all; names and messages for people."""
 
 from __future__ import annotations
 
 import os
 import stat
+from collections import namedtuple
 from itertools import count
 
-from .kinds import READ_LIMIT
+# Kinds of file, by the numbers that the library reads them under; `Kind` in enumerations.py is made of them.
+KIND_DEGAS = 1
+KIND_NEO = 2
+KIND_TINY = 3
+UNKNOWN = 0  # no kind has this number: the library refuses it
+
+# Forms of file, by the numbers that the library writes them under; `Form` in enumerations.py is made of them.
+FORM_PLAIN = 1  # DEGAS
+FORM_ELITE = 2  # DEGAS Elite, raw
+FORM_PACKED = 3  # DEGAS Elite, packed
+FORM_NEO = 4  # NEOchrome
+
+# Their names at the command line.
+KIND_NAMES = {"degas": KIND_DEGAS, "neo": KIND_NEO, "tiny": KIND_TINY}
+FORM_NAMES = {"plain": FORM_PLAIN, "elite": FORM_ELITE, "packed": FORM_PACKED, "neo": FORM_NEO}
+
+RAW_EXTENSIONS = (".pi1", ".pi2", ".pi3")
+PACKED_EXTENSIONS = (".pc1", ".pc2", ".pc3")
+NEO_EXTENSIONS = (".neo", ".neo", ".neo")
+TINY_EXTENSIONS = (".tny", ".tn1", ".tn2", ".tn3", ".tn4", ".tn5", ".tn6")
+
+# Of a Tiny file: where its control bytes start, without and with rotation bytes, and the largest count of a section.
+TINY_HEADER = 37
+TINY_ROTATED_HEADER = 41
+TINY_LARGEST_COUNT = 0xFFFF
+
+# The extensions of each form, by resolution.
+FORMS: dict[int, tuple[str, ...]] = {
+    FORM_PLAIN: RAW_EXTENSIONS,
+    FORM_ELITE: RAW_EXTENSIONS,
+    FORM_PACKED: PACKED_EXTENSIONS,
+    FORM_NEO: NEO_EXTENSIONS,
+}
+
+
+def form_named(name: str, tail_present: bool) -> int:
+    """The form that an extension names; of the two raw ones the one that keeps a tail, if there is one."""
+    extension = os.path.splitext(name)[1].lower()
+    found = [form for form, extensions in FORMS.items() if extension in extensions]
+    if not found:
+        raise ValueError(f"{extension!r} names no form: give one")
+    return found[-1] if tail_present else found[0]
+
+
+def _is_degas(head: bytes, length: int) -> bool:
+    """A raw length, or a first word with bit 15 set and bits 2 to 14 clear."""
+    word = int.from_bytes(head[:2], "big")
+    packed = word & 0xFFFC == 0x8000
+    raw = length in (32_034, 32_066) and word < 0x8000
+    return packed or raw
+
+
+def degas_resolution(head: bytes) -> int:
+    """The resolution in a DEGAS file's first word."""
+    return head[1] & 3
+
+
+def _is_neo(head: bytes, length: int) -> bool:
+    """The length, the flag 0 and the size 320 x 200.
+
+    Length and flag alone are not enough: a raw low resolution DEGAS file that was padded to blocks of 128 bytes,
+    as file transfer once did, has 32,128 bytes and a first word 0, too.
+    """
+    return length == 32_128 and head[:2] == b"\0\0" and head[58:62] == b"\x01\x40\x00\xc8"
+
+
+def _is_tiny(head: bytes, length: int) -> bool:
+    """A resolution byte 0 to 5, and the length that the two counts give."""
+    if length < TINY_HEADER or head[0] > 5:
+        return False
+    start = TINY_ROTATED_HEADER if head[0] > 2 else TINY_HEADER
+    controls, words = (int.from_bytes(head[at : at + 2], "big") for at in (start - 4, start - 2))
+    return length == start + controls + 2 * words
+
+
+class Traits(namedtuple("Traits", "title extensions longest is_content")):
+    """A kind's name, its extensions, the longest file that is judged by more than its length, and whether the
+    content names it.
+
+    `is_content(head, length)` is true only where the file's first bytes and its length leave no doubt.
+    """
+
+    __slots__ = ()
+    title: str
+    extensions: tuple[str, ...]
+    longest: int
+
+
+KINDS: dict[int, Traits] = {
+    KIND_DEGAS: Traits("DEGAS", (*RAW_EXTENSIONS, *PACKED_EXTENSIONS), 32_066, _is_degas),
+    KIND_NEO: Traits("NEOchrome", NEO_EXTENSIONS, 32_128, _is_neo),
+    KIND_TINY: Traits("Tiny", TINY_EXTENSIONS, TINY_ROTATED_HEADER + 3 * TINY_LARGEST_COUNT, _is_tiny),
+}
+
+# A longer file is refused for its length whatever follows, so no more than this is ever read of one.
+READ_LIMIT = 1 + max(traits.longest for traits in KINDS.values())
+
+
+class Found(namedtuple("Found", "kind by")):
+    """A kind's number (UNKNOWN if nothing names one) and what named it: content, extension, option or nothing."""
+
+    __slots__ = ()
+    kind: int
+    by: str
+
+    def __str__(self) -> str:
+        return decision(title_of(self.kind), self.by)
+
+
+def title_of(kind: int) -> str:
+    """A kind's name."""
+    return KINDS[kind].title if kind in KINDS else "unknown"
+
+
+def decision(name: str, by: str) -> str:
+    """A kind's name and what named it, for people."""
+    return f"{name} by {by}" if by != "nothing" else "kind unknown"
+
+
+def kind_titled(name: str) -> int:
+    """The number of the kind with this name."""
+    return next((kind for kind, traits in KINDS.items() if traits.title == name), UNKNOWN)
+
+
+def find_kind(data: bytes, name: str = "") -> Found:
+    """The kind that a file's content names; where that leaves doubt, the one its extension names."""
+    for kind, traits in KINDS.items():
+        if traits.is_content(data, len(data)):
+            return Found(kind, "content")
+    extension = os.path.splitext(name)[1].lower()
+    for kind, traits in KINDS.items():
+        if extension in traits.extensions:
+            return Found(kind, "extension")
+    return Found(UNKNOWN, "nothing")
+
+
+def number_of(choice, names: dict[str, int]) -> int:
+    """A kind or form given as a member, as a number or by its name."""
+    if not isinstance(choice, str):
+        return choice
+    try:
+        return names[choice.lower()]
+    except KeyError:
+        raise ValueError(f"{choice!r} is none of {', '.join(names)}") from None
+
+
+# Files in and out.
 
 INPUT, OUTPUT, ERROR = 0, 1, 2
 

@@ -6,8 +6,7 @@ import zlib
 from collections import namedtuple
 
 from .index import colours
-from .pictures import Picture, Tail
-from .screens import resolution_of, screen_in, screen_out, shape
+from .pictures import Picture, Tail, resolution_of, screen_in, screen_out, shape
 
 IMAGE_LIMIT = 1 << 22  # no PNG or PGM of a screen is longer
 SIGNATURE = b"\x89PNG\r\n\x1a\n"

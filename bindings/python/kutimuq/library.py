@@ -1,16 +1,74 @@
-"""The proved library over ctypes: its structs, its functions, and the numbers and areas lent to them."""
+"""The proved library over ctypes: its shared object, structs and functions, what is lent to them, and its refusals."""
 
 from __future__ import annotations
 
 import ctypes
+import os
 from ctypes import Structure, c_bool, c_char_p, c_size_t, c_uint8, c_uint16, c_uint32, c_void_p
 from operator import index
 
-from .shared_object import LibraryMissing, find
+# Where the shared object is, and how it is built.
 
-BYTE_MAX = 0xFF
-WORD_MAX = 0xFFFF
-SIZE_MAX = c_size_t(-1).value
+SHARED_OBJECT = "libkutimuq.so"
+PACKAGE = os.path.dirname(os.path.realpath(__file__))
+REPOSITORY = os.path.normpath(os.path.join(PACKAGE, "..", "..", ".."))
+ARCHIVE = os.path.join(REPOSITORY, "target", "staticlib", "libcapi.a")
+BUILT = os.path.join(REPOSITORY, "target", "python", SHARED_OBJECT)
+
+
+class LibraryMissing(OSError):
+    """The library cannot be found, built or loaded."""
+
+
+def find() -> str:
+    """KUTIMUQ_SO, else the one in the package, else one built from the archive of this checkout."""
+    named = os.environ.get("KUTIMUQ_SO")
+    if named:
+        return os.path.abspath(named)
+    inside = os.path.join(PACKAGE, SHARED_OBJECT)
+    if os.path.isfile(inside):
+        return inside
+    if os.path.isfile(ARCHIVE):
+        return build(ARCHIVE, BUILT)
+    raise LibraryMissing(
+        f"no {SHARED_OBJECT}: name it in KUTIMUQ_SO, put it into {PACKAGE}, or make {ARCHIVE} with `rt staticlib capi`"
+    )
+
+
+def build(archive: str, built: str) -> str:
+    """The shared object made from this archive, anew only if the archive changed."""
+    changed = os.stat(archive).st_mtime_ns
+    if os.path.isfile(built) and os.stat(built).st_mtime_ns == changed:
+        return built
+    import tempfile
+
+    try:
+        folder = os.path.dirname(built)
+        os.makedirs(folder, exist_ok=True)
+        # Built apart and moved in whole, so that no other process loads half of it.
+        with tempfile.TemporaryDirectory(dir=folder) as apart:
+            made = os.path.join(apart, SHARED_OBJECT)
+            link(archive, made)
+            os.utime(made, ns=(changed, changed))
+            os.replace(made, built)
+    except OSError as error:
+        raise LibraryMissing(f"cannot build {built}: {error}") from error
+    return built
+
+
+def link(archive: str, made: str) -> None:
+    """Turns the archive into a shared object."""
+    import subprocess
+
+    whole = ["-Wl,--whole-archive", archive, "-Wl,--no-whole-archive"]
+    done = subprocess.run(
+        ["gcc", "-shared", "-o", made, *whole],
+        stdin=subprocess.DEVNULL,
+        capture_output=True,
+        text=True,
+    )
+    if done.returncode:
+        raise OSError(f"gcc: {done.stderr.strip()}")
 
 
 # The structs of include/kutimuq.h.
@@ -91,7 +149,6 @@ FUNCTIONS = {
     "kutimuq_write": (WriteAnswer, (c_uint8, Picture, *INPUT, *OUTPUT)),
 }
 
-
 _library: ctypes.CDLL | None = None
 
 
@@ -119,6 +176,10 @@ def load(path: str) -> ctypes.CDLL:
 # Python numbers fitted to the widths of the library's numbers. ctypes would cut upper bits off: kind 257 would pass
 # for kind 1. The largest number of each width is out of range for all but a class, so the library refuses it.
 # 255 is a class: index.pond sees to classes out of range.
+
+BYTE_MAX = 0xFF
+WORD_MAX = 0xFFFF
+SIZE_MAX = c_size_t(-1).value
 
 
 def _fitted(number: int, largest: int) -> int:
@@ -162,3 +223,56 @@ def lent(data) -> bytes:
 def room(length: int):
     """A buffer of zero bytes."""
     return (ctypes.c_char * length)()
+
+
+# Refusals.
+
+
+def meaning_of(number: int) -> str:
+    """What a number means, also one that only a later library knows."""
+    from .enumerations import RefusalNumber
+
+    try:
+        return RefusalNumber(number).meaning  # type: ignore[call-arg]
+    except ValueError:
+        return "unknown refusal"
+
+
+def good_part(plane_row: int, good_bytes: int) -> str:
+    """How far the rows are good, in words."""
+    return f"plane row {plane_row}, {good_bytes} bytes good"
+
+
+class Refused(Exception):
+    """The input was judged and refused; nothing was made from it.
+
+    For numbers 6 and 7, plane_row is the row with the record at fault, from 0, and good_bytes are the bytes that it had
+    before that record; a row that is unpacked by itself is row 0. Both are 0 for every other number.
+    """
+
+    def __init__(self, number: int, place: int = 0, plane_row: int = 0, good_bytes: int = 0):
+        super().__init__(number, place, plane_row, good_bytes)
+        self.number = number
+        self.place = place
+        self.plane_row = plane_row
+        self.good_bytes = good_bytes
+        self.meaning = meaning_of(number)
+
+    @property
+    def in_row(self) -> bool:
+        """Whether a record of a packed row is at fault, so that the plane row and its good bytes are given."""
+        from .enumerations import RefusalNumber
+
+        return self.number in (RefusalNumber.INPUT_ENDS, RefusalNumber.RECORD_CROSSES)
+
+    def __str__(self) -> str:
+        good = f" ({good_part(self.plane_row, self.good_bytes)})" if self.in_row else ""
+        return f"refused {self.number} at {self.place}: {self.meaning}{good}"
+
+
+def accepted(answer):
+    """The library's answer, or the exception if it is a refusal: the one place where answers become exceptions."""
+    refusal = getattr(answer, "refusal", answer)
+    if refusal.number:
+        raise Refused(refusal.number, refusal.place, refusal.plane_row, refusal.good_bytes)
+    return answer

@@ -10,14 +10,13 @@ from hashlib import sha256
 from html import escape
 from importlib.resources import files as package_files
 
-from . import __version__, kinds
+from . import __version__
 from .box import Check, least_rewriting, spread_over
-from .files import shown, take
+from .files import kind_titled, shown, take
 from .images import png_of
 from .index import colours
-from .pictures import read
-from .refusals import Refused, good_part
-from .screens import shape
+from .library import Refused, good_part
+from .pictures import read, shape
 
 TITLES = ("low", "medium", "high")
 GOOD_NOTE = (
@@ -132,7 +131,7 @@ def figures(records: list[dict], copies: dict[str, list[str]], jobs: int) -> str
 def image_of(name: str, kind: str, digest: str) -> str:
     """A picture as base64 of an indexed PNG; empty if the file is not what was judged."""
     try:
-        picture = read(take(name), kinds.kind_titled(kind))
+        picture = read(take(name), kind_titled(kind))
     except (OSError, Refused):
         return ""
     if sha256(least_rewriting(picture)[1]).hexdigest() != digest:

@@ -13,7 +13,7 @@ from pathlib import Path
 
 import kutimuq
 from kutimuq import images
-from kutimuq.legend import Entry
+from kutimuq.index import Entry
 
 from .support import SAMPLES, SHAPES, TAIL, Case, expected_registers, noise
 

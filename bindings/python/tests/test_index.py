@@ -4,8 +4,7 @@ import tempfile
 from pathlib import Path
 
 import kutimuq
-from kutimuq.index import levels
-from kutimuq.legend import BadText, Entry, read_legend, read_questions
+from kutimuq.index import BadText, Entry, levels, read_legend, read_questions
 
 from .support import SHAPES, Case, expected_registers, noise
 

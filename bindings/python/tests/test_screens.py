@@ -6,7 +6,7 @@ import unittest
 from unittest import mock
 
 import kutimuq
-from kutimuq import screens
+from kutimuq import pictures
 
 from .support import PALETTE, SHAPES, TAIL, Case, blocks, expected_registers, noise
 
@@ -78,20 +78,20 @@ class Screens(Case):
         for resolution in (0, 1, 2):
             screen = noise(resolution)
             pixels = b"".join(expected_registers(screen, resolution))
-            self.assertEqual(screens.screen_out(screen + b"past", resolution), pixels)
-            self.assertEqual(screens.screen_in(pixels, resolution), screen)
-            self.assertEqual(screens.screen_in(pixels + b"\xff", resolution), screen)
+            self.assertEqual(pictures.screen_out(screen + b"past", resolution), pixels)
+            self.assertEqual(pictures.screen_in(pixels, resolution), screen)
+            self.assertEqual(pictures.screen_in(pixels + b"\xff", resolution), screen)
 
     def test_refusals_of_a_whole_screen(self):
-        self.assertRefused(1, 0, screens.screen_out, bytes(31_999), 3)
-        self.assertRefused(5, 0, screens.screen_out, bytes(32_000), 3)
-        self.assertRefused(5, 0, screens.screen_in, b"", 3)
+        self.assertRefused(1, 0, pictures.screen_out, bytes(31_999), 3)
+        self.assertRefused(5, 0, pictures.screen_out, bytes(32_000), 3)
+        self.assertRefused(5, 0, pictures.screen_in, b"", 3)
         for resolution, (width, height, planes) in enumerate(SHAPES):
             too_large = bytes((1 << planes,))
             few = too_large + bytes(width * height - 2)
-            self.assertRefused(1, 0, screens.screen_in, few, resolution)
+            self.assertRefused(1, 0, pictures.screen_in, few, resolution)
             for pixels in (few + b"\0", few[1:] + b"\0" + too_large):
-                self.assertRefused(10, 0, screens.screen_in, pixels, resolution)
+                self.assertRefused(10, 0, pictures.screen_in, pixels, resolution)
 
 
 class Lines(Case):

@@ -5,7 +5,7 @@ import unittest
 from pathlib import Path
 
 import kutimuq
-from kutimuq import kinds
+from kutimuq import files
 
 from .support import command
 
@@ -61,9 +61,9 @@ class Tiny(unittest.TestCase):
 
     def test_found_by_content_then_by_extension(self):
         file, _ = tiny(columns())
-        self.assertEqual(kinds.find_kind(file), (kutimuq.Kind.TINY, "content"))
-        self.assertEqual(kinds.find_kind(file[:-1]), (kinds.UNKNOWN, "nothing"))
-        self.assertEqual(kinds.find_kind(file[:-1], "a.TNY"), (kutimuq.Kind.TINY, "extension"))
+        self.assertEqual(files.find_kind(file), (kutimuq.Kind.TINY, "content"))
+        self.assertEqual(files.find_kind(file[:-1]), (files.UNKNOWN, "nothing"))
+        self.assertEqual(files.find_kind(file[:-1], "a.TNY"), (kutimuq.Kind.TINY, "extension"))
 
     def test_commands(self):
         file, _ = tiny(columns())

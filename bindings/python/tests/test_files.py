@@ -4,7 +4,7 @@ import unittest
 
 import kutimuq
 from kutimuq import Form, Kind
-from kutimuq.kinds import FORM_NAMES, FORMS, KIND_NAMES, KINDS, READ_LIMIT, UNKNOWN, find_kind
+from kutimuq.files import FORM_NAMES, FORMS, KIND_NAMES, KINDS, READ_LIMIT, UNKNOWN, find_kind
 
 from .support import BLANK, PALETTE, Case, noise
 
