@@ -4,15 +4,16 @@ use mathlib.Core.Path.{_≡_, ap, _∙_}
 use mathlib.Core.Logic.{_↔_}
 use mathlib.Core.Bool.{false}
 use mathlib.Core.List.{List, []}
-use Prim.Native.Nat.{ℕ, _+_, _-_, _*_, _/_, _%_, _≤_, _<_}
+use Prim.Native.Nat.{ℕ, _+_, _*_, _/_, _%_, _≤_, _<_}
 use native.Mathlib.Nat.{mul-assoc}
 use native.Mathlib.Omega.{arith}
 use lib.ListN.{length, getD}
 use lib.Arith.{digits-mod}
+use borrow.Author.Tests.{le-leb, lt-leb}
 use Rattle.lists.specs.Bytes.{Bytes}
 use Rattle.lists.specs.Tabulate.{tabulate}
 use Rattle.lists.proofs.Tabulate.{length-tabulate, getD-tabulate, tabulate-ext, tabulate-le}
-use Rattle.outcome.specs.Outcome.{refuse}
+use Rattle.outcome.specs.Outcome.{accepted, refuse}
 use Rattle.outcome.specs.Refusal.{noPackedBody}
 use Rattle.packbits.specs.Row.{widthOutOfRange}
 use Rattle.packbits.proofs.Row.{in-range}
@@ -25,10 +26,10 @@ use Rattle.raster.specs.Shape.{rowBytes, rows, bytes}
 use Rattle.raster.specs.PlaneRows.{rowOffset, planeRow, planeRows}
 use Rattle.raster.proofs.Places.{row-within}
 use Rattle.raster.proofs.PlaneRows.{length-planeRows, getD-planeRows, wide-planeRows}
-use Rattle.bodies.specs.Packing.{leastBody, leastBodyRecords, alternating, packBody}
-use Rattle.bodies.specs.Unpacks.{UnpacksImage, ShortestBody}
+use Rattle.bodies.specs.Packing.{leastBody, leastBodyRecords, alternating, belowLimit}
+use Rattle.bodies.specs.Unpacks.{UnpacksImage, ShortestBody, LeastBelow}
 use Rattle.bodies.proofs.Exact.{body-bytes}
-use Rattle.bodies.proofs.Packing.{refused-long, accepted-below}
+use Rattle.bodies.proofs.Packing.{packed, limit-long, limit-below}
 
 -- ---- row by row the least, and as a whole a shortest
 
@@ -47,23 +48,36 @@ module _ (r : Raster) (area : List ℕ) (range : widthOutOfRange (rowBytes r) �
       }
 
   -- refused, with 9, exactly when no byte string below the limit unpacks to the area
-  pub refused-exactly : (limit room : ℕ) → bytes r ≤ length area → limit - 1 ≤ room → Bytes area
-      → (packBody r area limit room ≡ refuse noPackedBody)
+  pub refused-exactly : (limit : ℕ) → Bytes area
+      → (belowLimit r area limit ≡ refuse noPackedBody)
       ↔ ((body : List ℕ) (n : ℕ) → Bytes body → UnpacksImage r body area n → length body < limit → ⊥)
-  refused-exactly limit room full space b = (never, must)
+  refused-exactly limit b = (never, must)
     where
-      never : packBody r area limit room ≡ refuse noPackedBody
+      never : belowLimit r area limit ≡ refuse noPackedBody
           → (body : List ℕ) (n : ℕ) → Bytes body → UnpacksImage r body area n → length body < limit → ⊥
       never e body n k u l =
-          let a = accepted-below r area limit room range full space (omega (arith, least-shortest .shortest u)) in
+          let below : length (leastBody r area) < limit = omega (arith, least-shortest .shortest u) in
+          let a = limit-below r area limit (lt-leb limit (length (leastBody r area)) below) in
           let z : _≡_ {A = ℕ} 0 1 = cc in omega arith
 
       must : ((body : List ℕ) (n : ℕ) → Bytes body → UnpacksImage r body area n → length body < limit → ⊥)
-          → packBody r area limit room ≡ refuse noPackedBody
+          → belowLimit r area limit ≡ refuse noPackedBody
       must none =
           let u = least-shortest .unpacks in
           let long : length (leastBody r area) < limit → ⊥ = none (leastBody r area) _ (body-bytes r area b u) u in
-          refused-long r area limit room range full space (omega arith)
+          limit-long r area limit (le-leb limit (length (leastBody r area)) (omega arith))
+
+  -- otherwise it is the least body, below the limit
+  pub least-below : (limit : ℕ) → (belowLimit r area limit ≡ refuse noPackedBody → ⊥)
+      → (belowLimit r area limit ≡ accepted (packed r area limit))
+      × LeastBelow r area limit (leastBody r area) (leastBodyRecords r area)
+  least-below limit h =
+      let long : limit ≤ length (leastBody r area) → ⊥ =
+      λ l. h (limit-long r area limit (le-leb limit (length (leastBody r area)) l)) in
+      let below : length (leastBody r area) < limit = omega arith in (
+        limit-below r area limit (lt-leb limit (length (leastBody r area)) below),
+        record { rows = least-rows; least = least-shortest; below = below },
+      )
 
 -- ---- how long it can be: one byte more for each row than its width
 

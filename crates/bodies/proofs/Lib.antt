@@ -1,9 +1,14 @@
+pub mod Answers
 pub mod Buffer
+pub mod Damage
+pub mod Differences
 pub mod Exact
+pub mod Fits
 pub mod JudgeRaster
 pub mod Least
 pub mod LeastRows
 pub mod Packing
 pub mod PlaneRow
+pub mod Reading
 pub mod RoundTrip
 pub mod Unpacking

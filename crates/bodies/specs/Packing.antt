@@ -1,9 +1,9 @@
 -- The least body of an area at a raster, below a limit (document 01, "Packed rows").
-use Prim.Native.Nat.{ℕ, _-_, _%_}
+use Prim.Native.Nat.{ℕ, _+_, _-_, _%_}
 use mathlib.Core.List.{List}
 use lib.ListN.{length}
 use lib.Dec.{ltb, leb}
-use Rattle.lists.specs.Over.{over}
+use Rattle.lists.specs.Over.{overAt}
 use Rattle.lists.specs.Tabulate.{tabulate}
 use Rattle.outcome.specs.Outcome.{Outcome, accepted, refuseIf, later}
 use Rattle.outcome.specs.Refusal.{areaTooShort, noPackedBody}
@@ -29,8 +29,8 @@ leastBody r area = leastRows (planeRows area r)
 abbrev pub leastBodyRecords : Raster → List ℕ → ℕ
 leastBodyRecords r area = leastRowsRecords (planeRows area r)
 
--- The area whose bytes are 0 and 1 in turn. No area of the raster has a longer least body (proofs/Least.antt,
--- `most-attained`).
+-- The area whose bytes are 0 and 1 in turn. Where a plane row has a byte or more, no area of the raster has a longer
+-- least body (proofs/Least.antt, `least-most` and `most-attained`).
 unfoldable pub alternating : Raster → List ℕ
 alternating r = tabulate (bytes r) (λ o. o % 2)
 
@@ -52,16 +52,16 @@ belowLimit r area limit =
       bytes = leastBody r area;
     }))
 
--- the same into an output of `room` bytes, which must have room for every body below the limit
-unfoldable pub packBody : Raster → List ℕ → ℕ → ℕ → Outcome PackedBody
-packBody r area limit room =
+-- the same into an output of `room` bytes from an offset on, where it must have room for every body below the limit
+unfoldable pub packBody : Raster → List ℕ → ℕ → ℕ → ℕ → Outcome PackedBody
+packBody r area limit at room =
     judgeRaster r (length area)
-    (refuseIf (ltb room (limit - 1)) areaTooShort
+    (refuseIf (ltb room (at + (limit - 1))) areaTooShort
     (belowLimit r area limit))
 
 abbrev pub packedAnswer : Outcome PackedBody → BodyAnswer
 packedAnswer o = bodyAnswer (λ b. b .body) (λ b. b .records) o
 
--- the output's later content: the body over its front; after a refusal as it was
-abbrev pub packedOutput : Outcome PackedBody → List ℕ → List ℕ
-packedOutput o out = later o (λ b. over (b .bytes) out) out
+-- the output's later content: the body over it from that offset on; after a refusal as it was
+abbrev pub packedOutput : Outcome PackedBody → ℕ → List ℕ → List ℕ
+packedOutput o at out = later o (λ b. overAt at (b .bytes) out) out

@@ -1,15 +1,15 @@
 -- The packed body of a raster, unpacked from an offset of a file (document 01, "Packed rows").
 use Prim.Native.Nat.{ℕ}
 use mathlib.Core.Path.{_≡_}
-use mathlib.Core.List.{List, flatten}
-use Rattle.outcome.specs.Outcome.{Outcome, map}
+use mathlib.Core.List.{List}
+use Rattle.outcome.specs.Outcome.{Outcome, accepted, map}
 use Rattle.packbits.specs.Rows.{Rows, unpackRowsAt}
-use Rattle.unpack.specs.Rows.{wholeRows, Begins}
 use Rattle.raster.specs.declared.Raster.{Raster}
 use Rattle.raster.specs.Shape.{rowBytes, rows}
 use Rattle.raster.specs.PlaneRows.{imageOf}
+use Rattle.raster.specs.Joined.{joinedImage}
 use Rattle.bodies.specs.declared.BodyAnswer.{BodyAnswer}
-use Rattle.bodies.specs.Body.{rasterRefusal, bodyAnswer}
+use Rattle.bodies.specs.Body.{bodyAnswer}
 
 -- a body that was unpacked
 pub record UnpackedBody : Type 0 where
@@ -32,9 +32,7 @@ unpackBody file at r = map (bodyOf r) (unpackRowsAt file at (rowBytes r) (rows r
 abbrev pub unpackedAnswer : Outcome UnpackedBody → BodyAnswer
 unpackedAnswer o = bodyAnswer (λ u. u .body) (λ u. u .records) o
 
--- The buffer's later content, where neither the raster nor the buffer, of `room` bytes, is refused: it begins with the
--- plane rows that are whole, one behind the other, also with those before a record at fault. Those of an accepted body
--- make its image (proofs/Unpacking.antt, `body-image`).
-abbrev pub RowsUnpacked : List ℕ → ℕ → Raster → ℕ → List ℕ → Type 0
-RowsUnpacked file at r room later =
-    rasterRefusal r room .number ≡ 0 → Begins (flatten (wholeRows file at (rows r) (rowBytes r))) later
+-- the later content of the buffer into which a body is unpacked: of an accepted one the plane rows stand at its front,
+-- one behind the other
+abbrev pub RowsUnpacked : List ℕ → ℕ → Raster → List ℕ → Type 0
+RowsUnpacked file at r later = (u : UnpackedBody) → unpackBody file at r ≡ accepted u → joinedImage r later ≡ u .image

@@ -1,27 +1,31 @@
-// The packed body of a raster: unpacked from an offset of a file, and the least one below a limit packed. Definitions:
-// specs/.
+// The packed body of a raster: read from a file, and the least one below a limit packed. Definitions: specs/.
 ghost use mathlib.Core.Path.{_≡_};
-ghost use Prim.Native.Nat.{_-_, _≤_, _<_};
+ghost use Prim.Native.Nat.{_+_, _-_, _≤_, _<_};
 ghost use lib.ListN.{length};
-ghost use lib.Dec.{leb};
+ghost use lib.Dec.{ltb, leb, eqb};
 ghost use Rattle.lists.specs.Over.{over};
+ghost use Rattle.outcome.specs.Outcome.{later};
 ghost use Rattle.packbits.specs.Row.{rowAnswer};
+ghost use Rattle.unpack.specs.Rows.{RowsFit};
 ghost use Rattle.pack.specs.Least.{least};
-ghost use Rattle.raster.specs.Shape.{rows, bytes};
+ghost use Rattle.raster.specs.Shape.{rowBytes, rows, bytes};
 ghost use Rattle.raster.specs.PlaneRows.{planeRow};
-ghost use Rattle.bodies.specs.Body.{judgeRaster, rasterRefusal, bodyDone, bodyRefused, RowRoom};
+ghost use Rattle.bodies.specs.Body.{rasterRefusal, bodyDone, bodyRefused, RowRoom};
 ghost use Rattle.bodies.specs.Packing.{packedRow, leastBody, leastBodyRecords};
 ghost use Rattle.bodies.specs.Packing.{belowLimit, packBody, packedAnswer, packedOutput};
+ghost use Rattle.bodies.specs.Reading.{readInto, bodyArea};
 ghost use Rattle.bodies.specs.Unpacking.{unpackBody, unpackedAnswer, RowsUnpacked};
 use outcome::AREA_TOO_SHORT;
 use outcome::NO_PACKED_BODY;
 use outcome::OUT_OF_RANGE;
 use outcome::Refusal;
+use outcome::WRONG_TAIL;
 use packbits::MAX_WIDTH;
 use packbits::RowAnswer;
 use raster::Raster;
 
 // The answer of a body packed or unpacked: its packed bytes and its records; both 0 of a refusal.
+#[repr(C)]
 pub struct BodyAnswer {
     pub refusal: Refusal,
     pub body: usize,
@@ -53,24 +57,65 @@ fn raster_refusal(r: Raster, room: usize) -> Refusal
 }
 
 // Unpacks the plane rows of the body that starts at an offset of a file, each behind the one before it, to the front of
-// a buffer that holds the raster. After a record at fault the buffer holds the rows before it, and what stands behind
-// the rows may change too: `raster::put_rows` puts the rows of an accepted body into an area.
-pub fn unpack_body(file: &[u8], at: usize, r: Raster, rows: &mut [u8]) -> BodyAnswer
-    ensures answer { λ a. ⌜ a
-        ≡ unpackedAnswer (judgeRaster r (length (now (rows .entry))) (unpackBody (now (file .entry)) at r)) ⌝ }
-    ensures rows { λ _. ⌜ RowsUnpacked (now (file .entry)) at r (length (now (rows .entry))) (now (rows .exit)) ⌝ }
+// a buffer. What stands behind the rows may change too.
+fn unpack_body(file: &[u8], at: usize, r: Raster, buffer: &mut [u8]) -> BodyAnswer
+    requires { ⌜ RowsFit (rows r) (rowBytes r) (length (now buffer)) ⌝ }
+    ensures answer { λ a. ⌜ a ≡ unpackedAnswer (unpackBody (now (file .entry)) at r) ⌝ }
+    ensures buffer { λ _. ⌜ RowsUnpacked (now (file .entry)) at r (now (buffer .exit)) ⌝ }
 {
-    let refusal = raster_refusal(r, rows.len());
+    let unpacked = unpack::unpack_rows(file, at, r.rows(), r.row_bytes(), buffer);
+    let why = unpacked.refusal;
+    BodyAnswer {
+        refusal: why,
+        body: unpacked.bytes,
+        records: unpacked.records,
+    }
+}
+
+// Whether a file of len bytes has exactly `after` bytes behind the offset `end`.
+fn ends_after(len: usize, end: usize, after: usize) -> bool
+    ensures { λ b. ⌜ b ≡ eqb len (end + after) ⌝ }
+{
+    if len < end {
+        return false;
+    }
+    len - end == after
+}
+
+// Reads the body that stands in a file after a header of `at` bytes and before exactly `after` bytes into the front of
+// an area. The rows are unpacked into a buffer that holds the raster; all is judged before the area changes.
+pub fn read_body(
+    file: &[u8],
+    at: usize,
+    after: usize,
+    r: Raster,
+    buffer: &mut [u8],
+    area: &mut [u8],
+) -> BodyAnswer
+    ensures answer { λ a. ⌜ a
+        ≡ unpackedAnswer (readInto (now (file .entry)) at after r (length (now (buffer .entry)))
+        (length (now (area .entry)))) ⌝ }
+    ensures area { λ _. ⌜ now (area .exit)
+        ≡ bodyArea (readInto (now (file .entry)) at after r (length (now (buffer .entry))) (length (now (area .entry))))
+        (now (area .entry)) ⌝ }
+{
+    let refusal = raster_refusal(r, buffer.len());
     if refusal.number != 0 {
         return body_refused(refusal);
     }
-    let answer = unpack::unpack_rows(file, at, r.rows(), r.row_bytes(), rows);
-    let why = answer.refusal;
-    BodyAnswer {
-        refusal: why,
-        body: answer.bytes,
-        records: answer.records,
+    if area.len() < r.bytes() {
+        return body_refused(outcome::refuse(AREA_TOO_SHORT));
     }
+    let unpacked = unpack_body(file, at, r, buffer);
+    if unpacked.refusal.number != 0 {
+        return unpacked;
+    }
+    let end = at + unpacked.body;
+    if !ends_after(file.len(), end, after) {
+        return body_refused(outcome::refuse_at(WRONG_TAIL, end));
+    }
+    raster::put_rows(area, r, buffer);
+    unpacked
 }
 
 // The length of plane row n's least body; the row is taken into a buffer of its width.
@@ -144,7 +189,9 @@ fn pack_below(area: &[u8], r: Raster, limit: usize, row: &mut [u8], out: &mut [u
     requires { ⌜ RowRoom r (now area) (now row) ⌝ }
     requires { ⌜ limit - 1 ≤ length (now out) ⌝ }
     ensures answer { λ a. ⌜ a ≡ packedAnswer (belowLimit r (now (area .entry)) limit) ⌝ }
-    ensures out { λ _. ⌜ now (out .exit) ≡ packedOutput (belowLimit r (now (area .entry)) limit) (now (out .entry)) ⌝ }
+    ensures out { λ _. ⌜ now (out .exit)
+        ≡ later (belowLimit r (now (area .entry)) limit) (λ b. over (b .bytes) (now (out .entry)))
+        (now (out .entry)) ⌝ }
 {
     if body_too_long(area, r, limit, row) {
         return body_refused(outcome::refuse(NO_PACKED_BODY));
@@ -162,21 +209,31 @@ fn longest_below(limit: usize) -> usize
     limit - 1
 }
 
-// Packs an area to its least body below a limit, to the front of out, which must have room for every body below the
-// limit. All is judged and decided before the first byte is written.
-pub fn pack_body(area: &[u8], r: Raster, limit: usize, out: &mut [u8]) -> BodyAnswer
-    ensures answer { λ a. ⌜ a ≡ packedAnswer (packBody r (now (area .entry)) limit (length (now (out .entry)))) ⌝ }
+// Whether an output of room bytes is too short, from an offset on, for the longest body below a limit.
+fn out_too_short(room: usize, at: usize, limit: usize) -> bool
+    ensures { λ b. ⌜ b ≡ ltb room (at + (limit - 1)) ⌝ }
+{
+    if room < at {
+        return true;
+    }
+    room - at < longest_below(limit)
+}
+
+// Packs an area to its least body below a limit, into out from an offset on, where out must have room for every body
+// below the limit. All is judged and decided before the first byte is written.
+pub fn pack_body(area: &[u8], r: Raster, limit: usize, at: usize, out: &mut [u8]) -> BodyAnswer
+    ensures answer { λ a. ⌜ a ≡ packedAnswer (packBody r (now (area .entry)) limit at (length (now (out .entry)))) ⌝ }
     ensures out { λ _. ⌜ now (out .exit)
-        ≡ packedOutput (packBody r (now (area .entry)) limit (length (now (out .entry)))) (now (out .entry)) ⌝ }
+        ≡ packedOutput (packBody r (now (area .entry)) limit at (length (now (out .entry)))) at (now (out .entry)) ⌝ }
 {
     let refusal = raster_refusal(r, area.len());
     if refusal.number != 0 {
         return body_refused(refusal);
     }
-    if out.len() < longest_below(limit) {
+    if out_too_short(out.len(), at, limit) {
         return body_refused(outcome::refuse(AREA_TOO_SHORT));
     }
     let width = r.row_bytes();
     let mut row = [0u8; MAX_WIDTH];
-    pack_below(area, r, limit, &mut row[..width], out)
+    pack_below(area, r, limit, &mut row[..width], &mut out[at..])
 }

@@ -15,6 +15,11 @@ ghost use Rattle.picture.specs.Reading.{readAnswer, readArea};
 ghost use Rattle.picture.specs.Writing.{writeAnswer, writeOutput};
 ghost use Rattle.reader.specs.Reading.{readFile};
 ghost use Rattle.writer.specs.Writing.{writeFile};
+ghost use Rattle.bodies.specs.Reading.{bodyArea};
+ghost use Rattle.bodies.specs.Unpacking.{unpackedAnswer};
+ghost use Rattle.macpaint.specs.Reading.{readPlate};
+ghost use Rattle.macpaint.specs.Writing.{writePlate};
+use bodies::BodyAnswer;
 use colour::ColourAnswer;
 use outcome::Refusal;
 use packbits::RowAnswer;
@@ -164,4 +169,24 @@ pub extern "C" fn kutimuq_write(
         ≡ writeOutput (writeFile form picture (now (screen .entry)) (length (now (out .entry)))) (now (out .entry)) ⌝ }
 {
     writer::write(form, picture, screen, out)
+}
+
+// Read a MacPaint plate.
+#[no_mangle]
+pub extern "C" fn kutimuq_read_plate(file: &[u8], plate: &mut [u8]) -> BodyAnswer
+    ensures answer { λ a. ⌜ a ≡ unpackedAnswer (readPlate (now (file .entry)) (length (now (plate .entry)))) ⌝ }
+    ensures plate { λ _. ⌜ now (plate .exit)
+        ≡ bodyArea (readPlate (now (file .entry)) (length (now (plate .entry)))) (now (plate .entry)) ⌝ }
+{
+    macpaint::read(file, plate)
+}
+
+// Write a MacPaint plate.
+#[no_mangle]
+pub extern "C" fn kutimuq_write_plate(plate: &[u8], out: &mut [u8]) -> WriteAnswer
+    ensures answer { λ a. ⌜ a ≡ writeAnswer (writePlate (now (plate .entry)) (length (now (out .entry)))) ⌝ }
+    ensures output { λ _. ⌜ now (out .exit)
+        ≡ writeOutput (writePlate (now (plate .entry)) (length (now (out .entry)))) (now (out .entry)) ⌝ }
+{
+    macpaint::write(plate, out)
 }

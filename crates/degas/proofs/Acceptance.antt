@@ -1,135 +1,71 @@
 -- Demand 2 of DEGAS files: one is accepted exactly when it fits, and then gives what its parts are.
-use mathlib.Core.Path.{_≡_, refl, sym, ap, ap₂, _∙_}
+use mathlib.Core.Path.{_≡_, refl, sym, ap, _∙_}
 use mathlib.Core.Logic.{_↔_}
 use mathlib.Core.Bool.{Bool, true, false, cond}
-use mathlib.Core.List.{List, [], _++_, append-assoc}
-use Prim.Native.Nat.{ℕ, _+_, _≤_}
+use mathlib.Core.List.{List}
+use Prim.Native.Nat.{ℕ, _≤_}
 use native.Mathlib.Omega.{arith}
-use lib.ListN.{length, take, drop, length-append, length-drop, take-append-drop}
-use lib.Seq.{take-at, drop-at, length-take-le, take-all}
+use lib.ListN.{length, take, drop}
 use Rattle.lists.specs.Bytes.{Bytes}
 use Rattle.lists.proofs.Cond.{cond-ltb, cond-eqb}
-use Rattle.outcome.specs.Outcome.{Outcome, accepted, later, Judged}
-use Rattle.outcome.proofs.Outcome.{judged-known, judged-value, judged-map, judged-bind}
-use Rattle.raster.specs.Shape.{bytes}
+use Rattle.outcome.specs.Outcome.{Outcome, accepted, map, Judged}
+use Rattle.outcome.proofs.Outcome.{judged-known, judged-value, judged-map}
 use Rattle.resolution.specs.declared.Resolution.{Resolution}
 use Rattle.resolution.specs.Shapes.{screenBytes, rasterOf}
-use Rattle.resolution.proofs.Rasters.{raster-bytes}
-use Rattle.bodies.specs.Unpacking.{UnpackedBody, unpackBody}
+use Rattle.bodies.specs.Unpacking.{UnpackedBody}
 use Rattle.bodies.specs.Unpacks.{UnpacksImage}
-use Rattle.bodies.proofs.Exact.{body-complete, body-exact}
-use Rattle.bodies.proofs.Unpacking.{BodyBounded, body-bounded}
+use Rattle.bodies.specs.Reading.{readBody, bodyGiven}
+use Rattle.bodies.proofs.Fits.{fits-length, fits-complete, fits-exactly, fits-counts}
+use Rattle.bodies.proofs.Reading.{ReadBounded, read-bounded}
 use Rattle.picture.specs.Reading.{Reading}
-use Rattle.degas.specs.Layout.{headerLength, plainLength, eliteLength, packedLength, packedMost}
+use Rattle.degas.specs.Layout.{headerLength, tailLength, bodyLimit, plainLength, eliteLength, packedLength}
 use Rattle.degas.specs.Opening.{isPacked}
-use Rattle.degas.specs.Reading.{readRaw, judgeTail, readPacked, readOpened, readDegas}
+use Rattle.degas.specs.Reading.{readRaw, packedReading, readPacked, readOpened, readDegas}
 use Rattle.degas.specs.Accepts.{PackedFits, Fits, plain, elite, packed, AcceptsDegas}
 use Rattle.degas.specs.Accepts.{packedGiven, fitsGiven, degasGiven}
 use Rattle.degas.proofs.Opening.{headerOf, opening-known, opening-elim}
-use Rattle.degas.proofs.ReadDegas.{raw-plain, raw-elite, packed-fits, read-fits}
+use Rattle.degas.proofs.ReadDegas.{raw-plain, raw-elite, packed-short, packed-judged, read-fits}
 
 module _ (file : List ℕ) (r : Resolution) where
-  -- ---- a packed file that fits
+  -- ---- a packed file that fits is accepted, with what its parts give
 
-  module _ (p : PackedFits file r) where
-    pub packed-length : length file ≡ packedLength (length (p .body))
-    packed-length =
-        omega (
-          arith,
-          ap length (p .parts),
-          length-append (p .header ++ p .body) (p .tail),
-          length-append (p .header) (p .body),
-          p .before,
-          p .behind,
-        )
-
-    in-order : file ≡ p .header ++ (p .body ++ p .tail)
-    in-order = p .parts ∙ append-assoc (p .header) (p .body) (p .tail)
-
-    body-at : take (length (p .body)) (drop headerLength file) ≡ p .body
-    body-at =
-        ap (λ (s : List ℕ). take (length (p .body)) (drop headerLength s)) in-order
-        ∙ ap (take (length (p .body))) (drop-at (p .header) (p .body ++ p .tail) headerLength (p .before))
-        ∙ take-at (p .body) (p .tail) (length (p .body)) refl
-
-    -- is accepted, with what its parts give
-    pub packed-complete : readPacked file r ≡ accepted (packedGiven p)
-    packed-complete =
-        let full : bytes (rasterOf r) ≡ length (p .screen) = raster-bytes r ∙ sym (p .size) in
-        let runs = body-complete (rasterOf r) (p .screen) (omega (arith, full)) (p .runs) (p .header) (p .tail) in
-        let whole : take (bytes (rasterOf r)) (p .screen) ≡ p .screen =
-        take-all (bytes (rasterOf r)) (p .screen) (omega (arith, full)) in
-        packed-fits file r (omega (arith, packed-length, p .below)) _
-        (ap₂ (λ (s : List ℕ) (at : ℕ). unpackBody s at (rasterOf r)) in-order (sym (p .before))
-        ∙ runs
-        ∙ ap (λ (s : List ℕ). accepted (record { body = length (p .body); records = p .records; image = s })) whole)
-        packed-length
-
-  -- it fits in one way only
-  pub packed-unique : (p o : PackedFits file r)
-      → (p .body ≡ o .body) × (p .screen ≡ o .screen) × (p .records ≡ o .records)
-  packed-unique p o =
-      let same : accepted (packedGiven p) ≡ accepted (packedGiven o) = sym (packed-complete p) ∙ packed-complete o in
-      let long : length (p .body) ≡ length (o .body) = ap (λ (a : Outcome Reading). later a (λ q. q .body) 0) same in (
-        sym (body-at p) ∙ ap (λ (n : ℕ). take n (drop headerLength file)) long ∙ body-at o,
-        ap (λ (a : Outcome Reading). later a (λ q. q .screen) []) same,
-        ap (λ (a : Outcome Reading). later a (λ q. q .records) 0) same,
-      )
+  pub packed-complete : (p : PackedFits file r) → readPacked file r ≡ accepted (packedGiven r p)
+  packed-complete p =
+      packed-short file r (omega (arith, fits-length file headerLength tailLength bodyLimit (rasterOf r) p, p .below))
+      ∙ ap (map (packedReading file r)) (fits-complete file headerLength tailLength bodyLimit (rasterOf r) p)
 
   -- ---- a packed file that is accepted
 
   abbrev PackedGiven : Reading → Type 0
-  PackedGiven q = (p : PackedFits file r) × (q ≡ packedGiven p)
+  PackedGiven q = (p : PackedFits file r) × (q ≡ packedGiven r p)
 
   module _ (all : Bytes file) where
-    abbrev unpacked : Outcome UnpackedBody
-    unpacked = unpackBody file headerLength (rasterOf r)
+    abbrev body : Outcome UnpackedBody
+    body = readBody file headerLength tailLength (rasterOf r)
 
-    tail-judged : length file ≤ packedMost → (u : UnpackedBody) → unpacked ≡ accepted u
-        → Judged PackedGiven (judgeTail file r u)
-    tail-judged short u is =
-        cond-eqb (Judged PackedGiven) (length file) (packedLength (u .body))
-        (λ e.
-        let input : List ℕ = drop headerLength file in
-        let s = body-exact (rasterOf r) file headerLength u all .0 is in
-        let there : u .body ≤ length input = omega (arith, s .1, length-drop headerLength file) in
-        let size : length (take (u .body) input) ≡ u .body = length-take-le (u .body) input there in (
-          record {
-            header = take headerLength file;
-            body = take (u .body) input;
-            tail = drop (u .body) input;
-            screen = u .image;
-            records = u .records;
-            parts = sym
-                (append-assoc (take headerLength file) (take (u .body) input) (drop (u .body) input)
-                ∙ ap (λ (l : List ℕ). take headerLength file ++ l) (take-append-drop (u .body) input)
-                ∙ take-append-drop headerLength file);
-            before = length-take-le headerLength file (omega arith);
-            below = omega arith;
-            behind = omega (arith, length-drop (u .body) input, length-drop headerLength file);
-            size = s .0 ∙ raster-bytes r;
-            runs = s .2;
-          },
-          rw size,
-        ))
-        (λ _ n. omega arith)
-
-    packed-judged : Judged PackedGiven (readPacked file r)
-    unfolding readPacked
-    packed-judged =
-        cond-ltb (Judged PackedGiven) packedMost (length file) (λ _ n. omega arith) (λ short.
-        judged-bind _ PackedGiven unpacked (judgeTail file r)
-        (judged-known (BodyBounded file headerLength (rasterOf r)) unpacked
-        (body-bounded file headerLength (rasterOf r)))
-        (λ u known. tail-judged short u (known .0)))
+    packed-given : Judged PackedGiven (readPacked file r)
+    packed-given =
+        let Known : UnpackedBody → Type 0 = ReadBounded file headerLength tailLength (rasterOf r) in
+        packed-judged file r (λ u. (body ≡ accepted u) × Known u) PackedGiven
+        (judged-known Known body (read-bounded file headerLength tailLength (rasterOf r)))
+        (λ u short known.
+        let g =
+        fits-exactly file headerLength tailLength bodyLimit (rasterOf r) all (omega arith) u
+        .0 (known .0) in
+        (g .0, ap (packedReading file r) (g .1)))
 
     -- the counts of an accepted packed file are those of the body that unpacks to its screen
     pub packed-counts : (q : Reading) → readPacked file r ≡ accepted q
         → (length file ≡ packedLength (q .body))
         × UnpacksImage (rasterOf r) (take (q .body) (drop headerLength file)) (q .screen) (q .records)
     packed-counts q e =
-        let g = judged-value PackedGiven (readPacked file r) q packed-judged e in
-        rw (g .1, body-at (g .0)) (packed-length (g .0), g .0 .runs)
+        let g = judged-value PackedGiven (readPacked file r) q packed-given e in
+        let p : PackedFits file r = g .0 in
+        let long = fits-length file headerLength tailLength bodyLimit (rasterOf r) p in
+        rw (g .1)
+        (fits-counts file headerLength tailLength bodyLimit (rasterOf r) all (omega (arith, long, p .below))
+        (bodyGiven p)
+        (fits-complete file headerLength tailLength bodyLimit (rasterOf r) p))
 
   -- ---- a file of a known resolution
 
@@ -147,7 +83,7 @@ module _ (file : List ℕ) (r : Resolution) where
     where
       go : (b : Bool) → isPacked file ≡ b → Judged FitsGiven (cond b (readPacked file r) (readRaw file r))
       go true is =
-          judged-map PackedGiven FitsGiven (readPacked file r) (packed-judged bytes) (λ q g. (packed is (g .0), g .1))
+          judged-map PackedGiven FitsGiven (readPacked file r) (packed-given bytes) (λ q g. (packed is (g .0), g .1))
       go false is = raw-judged is
 
   opened-complete : (f : Fits file r) → readOpened file (headerOf file r) ≡ accepted (fitsGiven f)
@@ -158,7 +94,7 @@ module _ (file : List ℕ) (r : Resolution) where
   fits-header : Fits file r → headerLength ≤ length file
   fits-header (plain is size) = omega arith
   fits-header (elite is size) = omega arith
-  fits-header (packed is p) = omega (arith, packed-length p)
+  fits-header (packed is p) = omega (arith, fits-length file headerLength tailLength bodyLimit (rasterOf r) p)
 
 -- ---- every file
 

@@ -3,23 +3,23 @@
 use mathlib.Core.Path.{_≡_, refl, sym, ap, _∙_}
 use mathlib.Core.Logic.{_↔_}
 use mathlib.Core.List.{List}
-use Prim.Native.Nat.{ℕ, _+_, _-_, _*_, _≤_, _<_}
+use Prim.Native.Nat.{ℕ, _+_, _*_, _≤_, _<_}
 use native.Mathlib.Omega.{arith}
 use lib.ListN.{length}
 use Rattle.lists.specs.Bytes.{Bytes}
 use Rattle.outcome.specs.Outcome.{Outcome, accepted, refused, refuse, map}
 use Rattle.outcome.specs.Refusal.{noPackedBody}
-use Rattle.raster.specs.Shape.{rowBytes, rows, bytes}
+use Rattle.raster.specs.Shape.{rowBytes, rows}
 use Rattle.resolution.specs.declared.Chosen.the-variants.{Known}
 use Rattle.resolution.specs.declared.Resolution.{Resolution}
 use Rattle.resolution.specs.declared.Resolution.the-variants.{Low, Medium, High}
 use Rattle.resolution.specs.Shapes.{screenBytes, rasterOf}
 use Rattle.resolution.specs.Choice.{chosen}
-use Rattle.resolution.proofs.Rasters.{raster-bytes, raster-within}
-use Rattle.bodies.specs.Packing.{leastBody, PackedBody, packBody, alternating}
+use Rattle.resolution.proofs.Rasters.{raster-bytes}
+use Rattle.bodies.specs.Packing.{leastBody, PackedBody, belowLimit, alternating}
 use Rattle.bodies.specs.Unpacks.{UnpacksImage, ShortestBody}
-use Rattle.bodies.proofs.Packing.{packed, refused-long, accepted-below}
-use Rattle.bodies.proofs.Least.{least-rows, least-shortest, refused-exactly, shortest-most, shortest-attained}
+use Rattle.bodies.proofs.Packing.{packed}
+use Rattle.bodies.proofs.Least.{refused-exactly, least-below, shortest-most, shortest-attained}
 use Rattle.bodies.proofs.Least.{length-alternating, alternating-bytes}
 use Rattle.picture.specs.declared.Picture.{Picture}
 use Rattle.picture.specs.Whole.{WholePicture}
@@ -29,7 +29,7 @@ use Rattle.degas.specs.Layout.{bodyLimit}
 use Rattle.degas.specs.Writing.{packedWriting, writePacked, writeDegas}
 use Rattle.degas.specs.LeastBody.{WritesPacked, mostBytes}
 use Rattle.degas.proofs.FileLayout.{length-packedFile}
-use Rattle.degas.proofs.ScreenRaster.{in-range, screen-packed}
+use Rattle.degas.proofs.ScreenRaster.{in-range}
 use Rattle.degas.proofs.WriteDegas.{write-passed}
 
 -- ---- how long a least body can be
@@ -60,39 +60,26 @@ bound-attained r = (
 
 module _ (r : Resolution) (p : Picture) (screen : List ℕ) (out : ℕ) (known : chosen (p .resolution) ≡ Known r)
     (full : screenBytes ≤ length screen) (room : fileBytes ≤ out) where
-  -- the body into as much room as a body below the limit needs
-  abbrev packedBody : Outcome PackedBody
-  packedBody = packBody (rasterOf r) screen bodyLimit (bodyLimit - 1)
+  abbrev least : Outcome PackedBody
+  least = belowLimit (rasterOf r) screen bodyLimit
 
-  written : writeDegas Packed p screen out ≡ map (packedWriting p) packedBody
+  written : writeDegas Packed p screen out ≡ map (packedWriting p) least
   unfolding writePacked
-  written =
-      write-passed Packed p screen out (record { screen-fits = full; output-fits = room; known = known })
-      ∙ ap (map (packedWriting p)) (sym (screen-packed r screen bodyLimit (bodyLimit - 1) full (omega arith)))
+  written = write-passed Packed p screen out (record { screen-fits = full; output-fits = room; known = known })
 
   refused-body : (o : Outcome PackedBody) → map (packedWriting p) o ≡ refuse noPackedBody → o ≡ refuse noPackedBody
   refused-body (accepted b) e = let z : _≡_ {A = ℕ} 0 1 = cc in absurd (omega arith)
   refused-body (refused why) e = cc
-
-  in-area : bytes (rasterOf r) ≤ length screen
-  in-area = raster-within r (length screen) full
 
   -- "the packed writer refuses, with 9, exactly when no byte string under 32,000 bytes unpacks to that screen at that
   -- resolution"
   pub packed-refused-exactly : Bytes screen → (writeDegas Packed p screen out ≡ refuse noPackedBody)
       ↔ ((body : List ℕ) (n : ℕ) → Bytes body → UnpacksImage (rasterOf r) body screen n → length body < bodyLimit → ⊥)
   packed-refused-exactly all =
-      let exactly =
-      refused-exactly (rasterOf r) screen (in-range r) bodyLimit (bodyLimit - 1) in-area (omega arith) all in (
-        λ e. exactly .0 (refused-body packedBody (sym written ∙ e)),
+      let exactly = refused-exactly (rasterOf r) screen (in-range r) bodyLimit all in (
+        λ e. exactly .0 (refused-body least (sym written ∙ e)),
         λ none. written ∙ ap (map (packedWriting p)) (exactly .1 none),
       )
-
-  refused-by : bodyLimit ≤ length (leastBody (rasterOf r) screen) → writeDegas Packed p screen out ≡ refuse noPackedBody
-  refused-by l =
-      written
-      ∙ ap (map (packedWriting p))
-      (refused-long (rasterOf r) screen bodyLimit (bodyLimit - 1) (in-range r) in-area (omega arith) l)
 
   -- "Otherwise it writes the picture's form 3 as document 01 fixes it, row by row; the body unpacks to that screen, and
   -- every other byte string that does has at least as many bytes. It reports that body's length and number of records,
@@ -101,19 +88,15 @@ module _ (r : Resolution) (p : Picture) (screen : List ℕ) (out : ℕ) (known :
       → (w : Writing) × (writeDegas Packed p screen out ≡ accepted w) × WritesPacked r p screen w
   packed-otherwise whole h =
       let body : List ℕ = leastBody (rasterOf r) screen in
-      let long : bodyLimit ≤ length body → ⊥ = λ l. h (refused-by l) in
-      let below : length body < bodyLimit = omega arith in (
+      let some =
+      least-below (rasterOf r) screen (in-range r) bodyLimit (λ e. h (written ∙ ap (map (packedWriting p)) e)) in (
         packedWriting p (packed (rasterOf r) screen bodyLimit),
-        written
-            ∙ ap (map (packedWriting p))
-            (accepted-below (rasterOf r) screen bodyLimit (bodyLimit - 1) (in-range r) in-area (omega arith) below),
+        written ∙ ap (map (packedWriting p)) (some .0),
         record {
           packed = body;
           form = refl;
-          rows = least-rows (rasterOf r) screen (in-range r);
-          least = least-shortest (rasterOf r) screen (in-range r);
+          least = some .1;
           size = refl;
-          below = below;
           all = omega (arith, length-packedFile p whole body);
         },
       )

@@ -1,30 +1,28 @@
 -- Laws of reading a DEGAS file: what each test that the code makes comes to.
-use mathlib.Core.Path.{_≡_, refl, sym, ap, ap₂, _∙_}
+use mathlib.Core.Path.{_≡_, refl, ap, _∙_}
 use mathlib.Core.List.{List}
 use Prim.Native.Nat.{ℕ, _+_, _-_, _≤_, _<_}
 use native.Mathlib.Omega.{arith}
 use lib.ListN.{length}
-use borrow.Author.Tests.{lt-ltb, le-ltb, le-leb, eq-eqb, ne-eqb}
-use Rattle.lists.specs.Over.{over}
-use Rattle.outcome.specs.Outcome.{Outcome, accepted, refused, refusal, refuse, none, bind, Judged}
-use Rattle.outcome.specs.Refusal.{areaTooShort, wrongLength, wrongTail}
-use Rattle.raster.specs.Shape.{bytes}
-use Rattle.raster.specs.Joined.{joinedImage, putJoined}
+use borrow.Author.Tests.{lt-ltb, le-ltb, eq-eqb, ne-eqb}
+use Rattle.lists.proofs.Cond.{cond-ltb}
+use Rattle.outcome.specs.Outcome.{Outcome, accepted, refused, refuse, none, map, bind, Judged}
+use Rattle.outcome.specs.Refusal.{areaTooShort, wrongLength}
 use Rattle.resolution.specs.declared.Resolution.{Resolution}
 use Rattle.resolution.specs.Shapes.{screenBytes, rasterOf}
-use Rattle.resolution.proofs.Rasters.{raster-bytes}
 use Rattle.bodies.specs.declared.BodyAnswer.{BodyAnswer}
-use Rattle.bodies.specs.Body.{judgeRaster}
-use Rattle.bodies.specs.Unpacking.{UnpackedBody, unpackBody, unpackedAnswer, RowsUnpacked}
-use Rattle.bodies.proofs.Unpacking.{BodyBounded, body-bounded, body-image}
+use Rattle.bodies.specs.Unpacking.{UnpackedBody, unpackedAnswer}
+use Rattle.bodies.specs.Reading.{readBody, readInto, bodyArea}
+use Rattle.bodies.proofs.Answers.{Answered, answer-refused, answer-accepted}
+use Rattle.bodies.proofs.Reading.{ReadBounded, read-bounded}
 use Rattle.picture.specs.declared.ReadAnswer.{ReadAnswer}
 use Rattle.picture.specs.Reading.{Reading, rawReading, readAnswer, readArea}
 use Rattle.picture.proofs.Reading.{area-short, area-fits}
-use Rattle.degas.specs.Layout.{headerLength, plainLength, eliteLength, packedLength, packedMost}
+use Rattle.degas.specs.Layout.{headerLength, tailLength, plainLength, eliteLength, packedMost}
 use Rattle.degas.specs.Opening.{opening}
-use Rattle.degas.specs.Reading.{plainPicture, elitePicture, readRaw, packedReading, judgeTail, readPacked}
+use Rattle.degas.specs.Reading.{plainPicture, elitePicture, readRaw, packedReading, readPacked}
 use Rattle.degas.specs.Reading.{readOpened, readDegas}
-use Rattle.degas.proofs.ScreenRaster.{screen-judged}
+use Rattle.degas.proofs.ScreenRaster.{screen-read}
 
 -- ---- raw
 
@@ -47,106 +45,87 @@ module _ (file : List ℕ) (r : Resolution) where
 -- ---- packed
 
 module _ (file : List ℕ) (r : Resolution) where
-  abbrev unpacked : Outcome UnpackedBody
-  unpacked = unpackBody file headerLength (rasterOf r)
-
   pub packed-long : packedMost < length file → readPacked file r ≡ refuse wrongLength
   unfolding readPacked
   packed-long h = simp (lt-ltb packedMost (length file) h)
 
-  packed-short : length file ≤ packedMost → readPacked file r ≡ bind unpacked (judgeTail file r)
+  pub packed-short : length file ≤ packedMost
+      → readPacked file r ≡ map (packedReading file r) (readBody file headerLength tailLength (rasterOf r))
   unfolding readPacked
   packed-short h = rw (le-ltb packedMost (length file) h)
 
-  -- the body is accepted
-  module _ (short : length file ≤ packedMost) (u : UnpackedBody) (is : unpacked ≡ accepted u) where
-    unpacked-judged : readPacked file r ≡ judgeTail file r u
-    unpacked-judged = packed-short short ∙ ap (λ (o : Outcome UnpackedBody). bind o (judgeTail file r)) is
+  -- what follows of an accepted body's reading holds of an accepted file's
+  pub packed-judged : (P : UnpackedBody → Type 0) (Q : Reading → Type 0)
+      → Judged P (readBody file headerLength tailLength (rasterOf r))
+      → ((u : UnpackedBody) → length file ≤ packedMost → P u → Q (packedReading file r u))
+      → Judged Q (readPacked file r)
+  unfolding readPacked
+  packed-judged P Q p f =
+      cond-ltb (Judged Q) packedMost (length file) (λ _ n. omega arith) (λ short.
+      go short (readBody file headerLength tailLength (rasterOf r)) p)
+    where
+      go : length file ≤ packedMost → (o : Outcome UnpackedBody) → Judged P o → Judged Q (map (packedReading file r) o)
+      go short (accepted u) p = f u short p
+      go short (refused why) p = p
 
-    packed-wrong : (length file ≡ packedLength (u .body) → ⊥)
-        → readPacked file r ≡ refused (refusal wrongTail (headerLength + u .body))
-    packed-wrong h = unpacked-judged ∙ simp (ne-eqb (length file) (packedLength (u .body)) h)
-
-    pub packed-fits : length file ≡ packedLength (u .body) → readPacked file r ≡ accepted (packedReading file r u)
-    packed-fits h = unpacked-judged ∙ simp (eq-eqb (length file) (packedLength (u .body)) h)
-
--- a file that is not too long, and what `unpack_body` answered of its body and left in the rows that were lent
-pub record BodyUnpacked (file : List ℕ) (r : Resolution) (rows : List ℕ) (a : BodyAnswer) : Type 0 where
+-- a file that is not too long, and what `read_body` answered of its body and left of the area, by a buffer of so many
+-- bytes
+pub record BodyRead (file : List ℕ) (r : Resolution) (area after : List ℕ) (a : BodyAnswer) : Type 0 where
   pub short : length file ≤ packedMost
-  pub lent : List ℕ
-  pub full : length lent ≡ screenBytes
-  pub kept : length rows ≡ length lent
-  pub answer : a ≡ unpackedAnswer (judgeRaster (rasterOf r) (length lent) (unpacked file r))
-  pub made : RowsUnpacked file headerLength (rasterOf r) (length lent) rows
+  pub full : screenBytes ≤ length area
+  pub buffer : ℕ
+  pub room : screenBytes ≤ buffer
+  pub answer : a ≡ unpackedAnswer (readInto file headerLength tailLength (rasterOf r) buffer (length area))
+  pub made : after ≡ bodyArea (readInto file headerLength tailLength (rasterOf r) buffer (length area)) area
 
-module _ {file : List ℕ} {r : Resolution} {rows : List ℕ} {a : BodyAnswer} (b : BodyUnpacked file r rows a) where
-  judged : judgeRaster (rasterOf r) (length (b .lent)) (unpacked file r) ≡ unpacked file r
-  judged = screen-judged r (length (b .lent)) (unpacked file r) (omega (arith, b .full))
+module _ {file : List ℕ} {r : Resolution} {area after : List ℕ} {a : BodyAnswer}
+    (b : BodyRead file r area after a) where
+  abbrev body : Outcome UnpackedBody
+  body = readBody file headerLength tailLength (rasterOf r)
 
-  answered : a ≡ unpackedAnswer (unpacked file r)
+  judged : readInto file headerLength tailLength (rasterOf r) (b .buffer) (length area) ≡ body
+  judged = screen-read r file headerLength tailLength (b .buffer) (length area) (b .room) (b .full)
+
+  answered : a ≡ unpackedAnswer body
   answered = b .answer ∙ ap unpackedAnswer judged
 
-  pub packed-fault : (a .refusal .number ≡ 0 → ⊥) → readPacked file r ≡ refused (a .refusal)
-  packed-fault e = packed-short file r (b .short) ∙ go (unpacked file r) answered
-    where
-      go : (o : Outcome UnpackedBody) → a ≡ unpackedAnswer o → bind o (judgeTail file r) ≡ refused (a .refusal)
-      go (accepted u) is = absurd (e (ap (λ (x : BodyAnswer). x .refusal .number) is))
-      go (refused why) is = ap (λ (x : BodyAnswer). refused (x .refusal)) (sym is)
+  left : after ≡ bodyArea body area
+  left = b .made ∙ ap (λ (o : Outcome UnpackedBody). bodyArea o area) judged
+
+  -- what the reading must answer, and leave of the area
+  abbrev Reads : ReadAnswer → Outcome Reading → Type 0
+  Reads q o = (q ≡ readAnswer o) × (after ≡ readArea o area)
+
+  pub packed-fault : (a .refusal .number ≡ 0 → ⊥) → Reads (readAnswer (refused (a .refusal))) (readPacked file r)
+  packed-fault e =
+      let is = answer-refused _ _ body answered e in
+      let all = packed-short file r (b .short) ∙ ap (map (packedReading file r)) is in
+      rw all (refl, left ∙ ap (λ (o : Outcome UnpackedBody). bodyArea o area) is)
 
   module _ (ok : a .refusal .number ≡ 0) where
-    -- what is known of the body
-    record Unpacked : Type 0 where
-      value : UnpackedBody
-      is : unpacked file r ≡ accepted value
-      bounds : BodyBounded file headerLength (rasterOf r) value
-      body : a .body ≡ value .body
-      records : a .records ≡ value .records
-
-    known : Unpacked
-    known = go (unpacked file r) refl answered (body-bounded file headerLength (rasterOf r))
-      where
-        go : (o : Outcome UnpackedBody) → unpacked file r ≡ o → a ≡ unpackedAnswer o
-            → Judged (BodyBounded file headerLength (rasterOf r)) o → Unpacked
-        go (accepted u) is same bounds = record {
-          value = u;
-          is = is;
-          bounds = bounds;
-          body = ap (λ (x : BodyAnswer). x .body) same;
-          records = ap (λ (x : BodyAnswer). x .records) same;
-        }
-        go (refused why) is same number =
-            absurd (number (sym (ap (λ (x : BodyAnswer). x .refusal .number) same) ∙ ok))
+    known : Answered (λ (u : UnpackedBody). u .body) (λ (u : UnpackedBody). u .records)
+        (ReadBounded file headerLength tailLength (rasterOf r)) body a
+    known = answer-accepted _ _ _ body (read-bounded file headerLength tailLength (rasterOf r)) answered ok
 
     -- its bytes are there
     pub packed-bytes : a .body ≤ length file - headerLength
-    packed-bytes = omega (arith, known .body, known .bounds .1)
-
-    pub packed-tail : (length file ≡ packedLength (a .body) → ⊥)
-        → readPacked file r ≡ refused (refusal wrongTail (headerLength + a .body))
-    packed-tail h =
-        packed-wrong file r (b .short) (known .value) (known .is) (λ e. h (e ∙ ap packedLength (sym (known .body))))
-        ∙ ap (λ (n : ℕ). refused (refusal wrongTail (headerLength + n))) (sym (known .body))
+    packed-bytes = omega (arith, ap (λ (x : BodyAnswer). x .body) (known .same), known .holds .1 .1)
 
     -- what the code answers with these counts
-    abbrev answerOf : ℕ → ℕ → ReadAnswer
-    answerOf body records =
-        record { refusal = none; picture = elitePicture file r (headerLength + body); body = body; records = records }
+    abbrev answerOf : BodyAnswer → ReadAnswer
+    answerOf x = record {
+      refusal = none;
+      picture = elitePicture file r (headerLength + x .body);
+      body = x .body;
+      records = x .records;
+    }
 
-    pub packed-done : length file ≡ packedLength (a .body) → (area : List ℕ) → screenBytes ≤ length area
-        → (answerOf (a .body) (a .records) ≡ readAnswer (readPacked file r))
-        × (putJoined (rasterOf r) rows area ≡ readArea (readPacked file r) area)
-    packed-done h area room =
-        let u : UnpackedBody = known .value in
-        let image : joinedImage (rasterOf r) rows ≡ u .image =
-        body-image file headerLength (rasterOf r) (length (b .lent)) rows u (judged ∙ known .is) (b .made) in
-        let put : putJoined (rasterOf r) rows area ≡ over (joinedImage (rasterOf r) rows) area =
-        rw (
-          le-leb (bytes (rasterOf r)) (length area) (omega (arith, raster-bytes r)),
-          le-leb (bytes (rasterOf r)) (length rows) (omega (arith, raster-bytes r, b .full, b .kept)),
-        ) refl in
-        let fits = packed-fits file r (b .short) u (known .is) (h ∙ ap packedLength (known .body)) in (
-          ap₂ answerOf (known .body) (known .records) ∙ sym (ap readAnswer fits),
-          put ∙ ap (λ (s : List ℕ). over s area) image ∙ sym (ap (λ (o : Outcome Reading). readArea o area) fits),
+    pub packed-done : Reads (answerOf a) (readPacked file r)
+    packed-done =
+        let all = packed-short file r (b .short) ∙ ap (map (packedReading file r)) (known .is) in
+        rw all (
+          ap answerOf (known .same),
+          left ∙ ap (λ (o : Outcome UnpackedBody). bodyArea o area) (known .is),
         )
 
 -- ---- the area

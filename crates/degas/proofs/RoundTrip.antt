@@ -1,5 +1,5 @@
 -- Demand 2 of DEGAS files: what is written is read back, in every form.
-use mathlib.Core.Path.{_≡_, refl, sym, ap, _∙_}
+use mathlib.Core.Path.{_≡_, refl, ap, _∙_}
 use mathlib.Core.List.{List, _++_}
 use Prim.Native.Nat.{ℕ, _+_, _/_, _%_, _^_, _≤_, _<_}
 use native.Mathlib.Omega.{arith}
@@ -9,7 +9,6 @@ use borrow.Author.Tests.{ne-eqb}
 use Rattle.lists.proofs.Cond.{cond-leb}
 use Rattle.outcome.specs.Outcome.{Outcome, accepted, map, bind, Judged}
 use Rattle.words.specs.Word.{wordAt}
-use Rattle.raster.specs.Shape.{bytes}
 use Rattle.resolution.specs.declared.Chosen.the-variants.{Known}
 use Rattle.resolution.specs.declared.Resolution.{Resolution}
 use Rattle.resolution.specs.Shapes.{screenBytes, rasterOf}
@@ -17,26 +16,25 @@ use Rattle.resolution.specs.Choice.{chosen}
 use Rattle.resolution.proofs.Choice.{number-chosen, known-le}
 use Rattle.resolution.proofs.Rasters.{raster-bytes, raster-within}
 use Rattle.bodies.specs.Packing.{leastBody, PackedBody}
-use Rattle.bodies.specs.Unpacking.{unpackBody}
 use Rattle.bodies.proofs.Packing.{packed}
-use Rattle.bodies.proofs.Exact.{body-complete}
-use Rattle.bodies.proofs.Least.{least-shortest}
+use Rattle.bodies.proofs.RoundTrip.{body-back}
 use Rattle.picture.specs.declared.Picture.{Picture}
 use Rattle.picture.specs.Tables.{tailBytes}
 use Rattle.picture.specs.Whole.{WholePicture}
 use Rattle.picture.specs.Writing.{Writing}
+use Rattle.picture.proofs.Whole.{length-tail}
 use Rattle.picture.proofs.Writing.{judge-elim}
 use Rattle.degas.specs.declared.Form.{Form}
 use Rattle.degas.specs.declared.Form.the-variants.{Plain, Elite, Packed}
-use Rattle.degas.specs.Layout.{headerLength, bodyLimit, plainLength, eliteLength, packedLength, packedBit}
-use Rattle.degas.specs.Layout.{header, plainFile, eliteFile, packedFile}
+use Rattle.degas.specs.Layout.{headerLength, tailLength, bodyLimit, plainLength, eliteLength, packedLength}
+use Rattle.degas.specs.Layout.{packedBit, header, plainFile, eliteFile, packedFile}
 use Rattle.degas.specs.Opening.{resolutionNumber}
-use Rattle.degas.specs.Reading.{readRaw, readPacked, readOpened, readDegas}
+use Rattle.degas.specs.Reading.{readRaw, packedReading, readPacked, readOpened, readDegas}
 use Rattle.degas.specs.Writing.{packedWriting, writePacked, writeForm, writeDegas, degasBack}
 use Rattle.degas.proofs.FileLayout.{length-header, header-word, header-palette, header-rest}
 use Rattle.degas.proofs.FileLayout.{length-elite, elite-tail}
 use Rattle.degas.proofs.Opening.{headerOf, opening-known}
-use Rattle.degas.proofs.ReadDegas.{raw-plain, raw-elite, packed-fits, read-fits}
+use Rattle.degas.proofs.ReadDegas.{raw-plain, raw-elite, packed-short, read-fits}
 use Rattle.degas.proofs.ScreenRaster.{in-range}
 
 module _ (p : Picture) (whole : WholePicture p) (screen : List ℕ) (area : ℕ) (room : screenBytes ≤ area) where
@@ -115,12 +113,11 @@ module _ (p : Picture) (whole : WholePicture p) (screen : List ℕ) (area : ℕ)
         let file : List ℕ = header first p ++ rest in
         let long : length file ≡ packedLength (length body) = length-elite p whole first body in
         let held = raster-within r (length screen) full in
-        let u = least-shortest (rasterOf r) screen (in-range r) .unpacks in
-        let runs : unpackBody file headerLength (rasterOf r) ≡ accepted _ =
-        ap (λ (at : ℕ). unpackBody file at (rasterOf r)) (sym (length-header p whole first))
-        ∙ body-complete (rasterOf r) screen held u (header first p) (tailBytes (p .tail)) in
         back-packed file (omega arith) (header-word p whole first rest)
-        ∙ packed-fits file r (omega arith) _ runs long
+        ∙ packed-short file r (omega arith)
+        ∙ ap (map (packedReading file r))
+        (body-back (rasterOf r) screen (in-range r) held (header first p) (tailBytes (p .tail)) headerLength tailLength
+        (length-header p whole first) (length-tail p whole))
         ∙ rw (
           number-chosen (p .resolution) r known,
           header-palette p whole first rest,

@@ -3,26 +3,24 @@ use mathlib.Core.Path.{_≡_, _∙_}
 use mathlib.Core.List.{List}
 use Prim.Native.Nat.{ℕ, _+_, _≤_}
 use native.Mathlib.Omega.{arith}
-use lib.Dec.{eqb}
 use lib.ListN.{length, take, drop, length-drop}
 use lib.Seq.{length-take-le}
 use Rattle.lists.proofs.Cond.{cond-elim, cond-ltb, cond-eqb}
 use Rattle.outcome.specs.Outcome.{Outcome, Judged}
-use Rattle.outcome.proofs.Outcome.{judged-bind}
 use Rattle.resolution.specs.declared.Resolution.{Resolution}
 use Rattle.resolution.specs.Shapes.{screenBytes, rasterOf}
 use Rattle.resolution.specs.Choice.{numberOf}
 use Rattle.resolution.proofs.Choice.{chosen-number}
 use Rattle.resolution.proofs.Rasters.{raster-bytes}
-use Rattle.bodies.specs.Unpacking.{unpackBody}
-use Rattle.bodies.proofs.Unpacking.{BodyBounded, body-bounded}
+use Rattle.bodies.proofs.Reading.{ReadBounded, read-bounded}
 use Rattle.picture.specs.Reading.{Reading}
 use Rattle.picture.specs.Whole.{WholeReading}
 use Rattle.picture.proofs.Whole.{whole-with-tail, whole-without-tail}
-use Rattle.degas.specs.Layout.{paletteStart, headerLength, plainLength, eliteLength, packedLength, packedMost}
+use Rattle.degas.specs.Layout.{paletteStart, headerLength, tailLength, plainLength, eliteLength}
 use Rattle.degas.specs.Opening.{isPacked}
-use Rattle.degas.specs.Reading.{readRaw, judgeTail, readPacked, readOpened, readDegas}
+use Rattle.degas.specs.Reading.{readRaw, readPacked, readOpened, readDegas}
 use Rattle.degas.proofs.Opening.{headerOf, opening-elim}
+use Rattle.degas.proofs.ReadDegas.{packed-judged}
 
 abbrev JudgedWhole : Outcome Reading → Type 0
 JudgedWhole o = Judged WholeReading o
@@ -52,22 +50,15 @@ module _ (file : List ℕ) (r : Resolution) where
       (λ _ n. omega arith))
 
   packed-whole : JudgedWhole (readPacked file r)
-  unfolding readPacked
   packed-whole =
-      cond-ltb JudgedWhole packedMost (length file) (λ _ n. omega arith) (λ _.
-      judged-bind (BodyBounded file headerLength (rasterOf r)) WholeReading
-      (unpackBody file headerLength (rasterOf r))
-      (judgeTail file r)
-      (body-bounded file headerLength (rasterOf r))
-      (λ u b.
-      cond-elim JudgedWhole (eqb (length file) (packedLength (u .body)))
-      (λ _. record {
+      packed-judged file r (ReadBounded file headerLength tailLength (rasterOf r)) WholeReading
+      (read-bounded file headerLength tailLength (rasterOf r))
+      (λ u _ b. record {
         whole = whole-with-tail file (numberOf r) paletteStart (headerLength + u .body);
         resolution = r;
         known = chosen-number r;
-        size = b .0 ∙ raster-bytes r;
+        size = b .1 .0 ∙ raster-bytes r;
       })
-      (λ _ n. omega arith)))
 
   opened-whole : JudgedWhole (readOpened file (headerOf file r))
   opened-whole = cond-elim JudgedWhole (isPacked file) (λ _. packed-whole) (λ _. raw-whole)

@@ -1,15 +1,13 @@
 -- What a packed writing makes, and how long a screen's least body can be (document 00, demand 3; document 01, "Packed
 -- rows").
-use Prim.Native.Nat.{ℕ, _+_, _<_}
+use Prim.Native.Nat.{ℕ, _+_}
 use mathlib.Core.Path.{_≡_}
 use mathlib.Core.List.{List}
 use lib.ListN.{length}
-use Rattle.pack.specs.LeastRows.{LeastRowsOf}
-use Rattle.raster.specs.PlaneRows.{planeRows}
 use Rattle.resolution.specs.declared.Resolution.{Resolution}
 use Rattle.resolution.specs.declared.Resolution.the-variants.{Low, Medium, High}
 use Rattle.resolution.specs.Shapes.{rasterOf}
-use Rattle.bodies.specs.Unpacks.{ShortestBody}
+use Rattle.bodies.specs.Unpacks.{LeastBelow}
 use Rattle.picture.specs.declared.Picture.{Picture}
 use Rattle.picture.specs.Writing.{Writing}
 use Rattle.degas.specs.Layout.{headerLength, tailLength, bodyLimit, packedFile}
@@ -20,10 +18,8 @@ use Rattle.degas.specs.Layout.{headerLength, tailLength, bodyLimit, pack
 pub record WritesPacked (r : Resolution) (p : Picture) (screen : List ℕ) (w : Writing) : Type 0 where
   pub packed : List ℕ
   pub form : w .file ≡ packedFile p packed
-  pub rows : LeastRowsOf packed (planeRows screen (rasterOf r)) (w .records)
-  pub least : ShortestBody (rasterOf r) screen packed (w .records)
+  pub least : LeastBelow (rasterOf r) screen bodyLimit packed (w .records)
   pub size : w .body ≡ length packed
-  pub below : w .body < bodyLimit
   pub all : length (w .file) ≡ w .body + (headerLength + tailLength)
 
 -- the most bytes of a least body

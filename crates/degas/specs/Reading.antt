@@ -5,8 +5,8 @@ use mathlib.Core.Bool.{cond}
 use mathlib.Core.List.{List}
 use lib.ListN.{length}
 use lib.Dec.{ltb, eqb}
-use Rattle.outcome.specs.Outcome.{Outcome, accepted, refused, refusal, refuse, refuseIf, bind}
-use Rattle.outcome.specs.Refusal.{wrongLength, wrongTail}
+use Rattle.outcome.specs.Outcome.{Outcome, accepted, refuse, refuseIf, map, bind}
+use Rattle.outcome.specs.Refusal.{wrongLength}
 use Rattle.words.specs.Word.{wordsAt}
 use Rattle.resolution.specs.declared.Resolution.{Resolution}
 use Rattle.resolution.specs.Shapes.{rasterOf}
@@ -14,9 +14,10 @@ use Rattle.resolution.specs.Choice.{numberOf}
 use Rattle.picture.specs.declared.Picture.{Picture}
 use Rattle.picture.specs.Tables.{tailAt, withoutTail, withTail}
 use Rattle.picture.specs.Reading.{Reading, rawReading, judgeArea}
-use Rattle.bodies.specs.Unpacking.{UnpackedBody, unpackBody}
+use Rattle.bodies.specs.Unpacking.{UnpackedBody}
+use Rattle.bodies.specs.Reading.{readBody}
 use Rattle.degas.specs.declared.Header.{Header}
-use Rattle.degas.specs.Layout.{paletteStart, headerLength, plainLength, eliteLength, packedLength, packedMost}
+use Rattle.degas.specs.Layout.{paletteStart, headerLength, tailLength, plainLength, eliteLength, packedMost}
 use Rattle.degas.specs.Opening.{opening}
 
 -- the picture of a plain file, and of one with a tail at an offset
@@ -33,7 +34,7 @@ readRaw file r =
     (cond (eqb (length file) eliteLength) (accepted (rawReading (elitePicture file r plainLength) file headerLength))
     (refuse wrongLength))
 
--- a packed file whose body is unpacked
+-- a packed file whose body is read
 abbrev pub packedReading : List ℕ → Resolution → UnpackedBody → Reading
 packedReading file r b = record {
   picture = elitePicture file r (headerLength + b .body);
@@ -42,17 +43,11 @@ packedReading file r b = record {
   screen = b .image;
 }
 
--- after the body exactly 32 bytes
-abbrev pub judgeTail : List ℕ → Resolution → UnpackedBody → Outcome Reading
-judgeTail file r b =
-    cond (eqb (length file) (packedLength (b .body))) (accepted (packedReading file r b))
-    (refused (refusal wrongTail (headerLength + b .body)))
-
--- packed: at most the longest file; the input of the rows is the whole file
+-- packed: at most the longest file; then the body, and after it exactly 32 bytes
 unfoldable pub readPacked : List ℕ → Resolution → Outcome Reading
 readPacked file r =
     refuseIf (ltb packedMost (length file)) wrongLength
-    (bind (unpackBody file headerLength (rasterOf r)) (judgeTail file r))
+    (map (packedReading file r) (readBody file headerLength tailLength (rasterOf r)))
 
 -- an opened file
 abbrev pub readOpened : List ℕ → Header → Outcome Reading

@@ -15,7 +15,6 @@ use super::PALETTE_START;
 use super::PLAIN_LENGTH;
 use super::TAIL_LENGTH;
 use outcome::WRONG_LENGTH;
-use outcome::WRONG_TAIL;
 use picture::Picture;
 use picture::ReadAnswer;
 use resolution::Resolution;
@@ -63,23 +62,27 @@ fn read_raw(file: &[u8], r: Resolution, area: &mut [u8]) -> ReadAnswer
     picture::read_refused(outcome::refuse(WRONG_LENGTH))
 }
 
-// The body of a packed file, unpacked into plane rows of the reader's own, and then exactly 32 bytes.
-fn read_body(file: &[u8], r: Resolution, area: &mut [u8]) -> ReadAnswer
+// The body of a packed file that is not too long, and then exactly 32 bytes. The rows are unpacked into a buffer of the
+// reader's own.
+fn read_by_buffer(file: &[u8], r: Resolution, area: &mut [u8]) -> ReadAnswer
     requires { ⌜ length (now file) ≤ packedMost ⌝ }
     requires { ⌜ screenBytes ≤ length (now area) ⌝ }
     ensures answer { λ a. ⌜ a ≡ readAnswer (readPacked (now (file .entry)) r) ⌝ }
     ensures area { λ _. ⌜ now (area .exit) ≡ readArea (readPacked (now (file .entry)) r) (now (area .entry)) ⌝ }
 {
-    let mut rows = [0u8; SCREEN_BYTES];
-    let unpacked = bodies::unpack_body(file, HEADER_LENGTH, r.raster(), &mut rows);
+    let mut buffer = [0u8; SCREEN_BYTES];
+    let unpacked = bodies::read_body(
+        file,
+        HEADER_LENGTH,
+        TAIL_LENGTH,
+        r.raster(),
+        &mut buffer,
+        area,
+    );
     if unpacked.refusal.number != 0 {
         return picture::read_refused(unpacked.refusal);
     }
     let end = HEADER_LENGTH + unpacked.body;
-    if file.len() != end + TAIL_LENGTH {
-        return picture::read_refused(outcome::refuse_at(WRONG_TAIL, end));
-    }
-    raster::put_rows(area, r.raster(), &rows);
     picture::read_done(
         elite_picture(file, r, end as u32),
         unpacked.body,
@@ -87,7 +90,7 @@ fn read_body(file: &[u8], r: Resolution, area: &mut [u8]) -> ReadAnswer
     )
 }
 
-// A packed file: its length is judged before its body.
+// A packed file.
 fn read_packed(file: &[u8], r: Resolution, area: &mut [u8]) -> ReadAnswer
     requires { ⌜ screenBytes ≤ length (now area) ⌝ }
     ensures answer { λ a. ⌜ a ≡ readAnswer (readPacked (now (file .entry)) r) ⌝ }
@@ -96,11 +99,12 @@ fn read_packed(file: &[u8], r: Resolution, area: &mut [u8]) -> ReadAnswer
     if PACKED_MOST < file.len() {
         return picture::read_refused(outcome::refuse(WRONG_LENGTH));
     }
-    // A longer area is cut to the screen; the call of itself keeps read_body's rows out of the caller's stack frame.
+    // A longer area is cut to the screen; the call of itself keeps read_by_buffer's buffer out of the caller's stack
+    // frame.
     if SCREEN_BYTES < area.len() {
         return read_packed(file, r, &mut area[..SCREEN_BYTES]);
     }
-    read_body(file, r, area)
+    read_by_buffer(file, r, area)
 }
 
 // An opened file, raw or packed.

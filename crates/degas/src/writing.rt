@@ -85,7 +85,7 @@ fn write_packed(r: Resolution, picture: Picture, screen: &[u8], out: &mut [u8]) 
     ensures output { λ _. ⌜ now (out .exit)
         ≡ writeOutput (writePacked r picture (now (screen .entry))) (now (out .entry)) ⌝ }
 {
-    let packed = bodies::pack_body(screen, r.raster(), BODY_LIMIT, &mut out[HEADER_LENGTH..]);
+    let packed = bodies::pack_body(screen, r.raster(), BODY_LIMIT, HEADER_LENGTH, out);
     if packed.refusal.number != 0 {
         return picture::write_refused(packed.refusal);
     }

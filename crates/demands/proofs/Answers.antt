@@ -6,6 +6,7 @@ use Prim.Native.Nat.{ℕ}
 use Rattle.outcome.specs.declared.Refusal.{Refusal}
 use Rattle.outcome.specs.Outcome.{Outcome, accepted, refused, refusalOf}
 use Rattle.packbits.specs.Row.{Row, rowAnswer}
+use Rattle.bodies.specs.Unpacking.{UnpackedBody, unpackedAnswer}
 use Rattle.tally.specs.Counts.{tallyAnswer}
 use Rattle.colour.specs.Palette.{Rgb}
 use Rattle.colour.specs.Shown.{colourAnswer}
@@ -17,6 +18,10 @@ use Rattle.picture.specs.Writing.{Writing, writeAnswer}
 pub read-answer : (o : Outcome Reading) → readAnswer o .refusal ≡ refusalOf o
 read-answer (accepted q) = refl
 read-answer (refused why) = refl
+
+pub body-answer : (o : Outcome UnpackedBody) → unpackedAnswer o .refusal ≡ refusalOf o
+body-answer (accepted u) = refl
+body-answer (refused why) = refl
 
 pub write-answer : (o : Outcome Writing) → writeAnswer o .refusal ≡ refusalOf o
 write-answer (accepted w) = refl

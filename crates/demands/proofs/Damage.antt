@@ -2,123 +2,117 @@
 -- what every completion of the file has.
 use mathlib.Core.Path.{_≡_, refl, sym, ap, ap₂, _∙_, subst}
 use mathlib.Core.Logic.{_↔_, inl, inr}
-use mathlib.Core.Bool.{true, false, _||_}
-use mathlib.Core.List.{List, _++_, flatten, append-assoc}
-use Prim.Native.Nat.{ℕ, _+_, _-_, _*_, _/_, _%_, _^_, _≤_, _<_}
+use mathlib.Core.Bool.{true, false, not, _||_}
+use mathlib.Core.List.{List}
+use Prim.Native.Nat.{ℕ, _+_, _*_, _/_, _%_, _^_, _≤_, _<_}
 use native.Mathlib.Omega.{arith}
-use lib.ListN.{length, getD, take, drop}
-use lib.Seq.{getD-take, length-take-le, take-add, drop-at}
+use lib.ListN.{length, getD}
+use lib.Seq.{getD-take}
 use lib.Dec.{eqb}
-use borrow.Author.Tests.{le-ltb, eqb-false}
+use borrow.Author.Tests.{le-ltb, eqb-false, not-false}
 use Rattle.lists.specs.Bytes.{Bytes}
-use Rattle.lists.proofs.Bytes.{bytes-drop}
 use Rattle.lists.proofs.Cond.{cond-elim, cond-ltb, or-false}
 use Rattle.outcome.specs.declared.Refusal.{Refusal}
-use Rattle.outcome.specs.Outcome.{Outcome, accepted, refused, refusal, placedAt, map, bind, placed, refusalOf}
+use Rattle.outcome.specs.Outcome.{Outcome, accepted, refused, refusal, map, bind, refusalOf}
 use Rattle.outcome.proofs.Outcome.{judged-value}
-use Rattle.outcome.specs.Refusal.{areaTooShort, wrongLength, unknownResolution, wrongTail, inputEnds, recordCrosses}
+use Rattle.outcome.specs.Refusal.{areaTooShort, wrongLength, unknownResolution, inputEnds, recordCrosses}
+use Rattle.outcome.specs.Refusal.{wrongVersion}
 use Rattle.packbits.specs.Row.{Row, widthOutOfRange, rowAnswer}
 use Rattle.packbits.specs.Unpack.{unpack, unpackRow}
-use Rattle.packbits.specs.Rows.{Rows, doneRows, unpackRows}
-use Rattle.packbits.specs.Stops.{Faulty, ended, crosses, truncated, Stops, BeginsWith}
-use Rattle.packbits.proofs.RowsExact.{complete-rows}
-use Rattle.packbits.proofs.Stops.{stops-complete, stops-exactly, row-stops-exactly}
-use Rattle.packbits.proofs.Completion.{completion, good-bytes}
-use Rattle.raster.specs.Shape.{rowBytes, rows}
-use Rattle.raster.specs.PlaneRows.{planeRow, planeRows}
-use Rattle.raster.proofs.PlaneRows.{length-planeRows, wide-planeRows, getD-planeRows}
+use Rattle.packbits.specs.Stops.{AtRecord, Stops}
+use Rattle.packbits.proofs.Stops.{faulty-number, row-stops-exactly}
 use Rattle.resolution.specs.declared.Resolution.{Resolution}
-use Rattle.resolution.specs.declared.Resolution.the-variants.{Low, Medium, High}
 use Rattle.resolution.specs.declared.Chosen.the-variants.{Known}
 use Rattle.resolution.specs.Choice.{chosen, numberOf}
-use Rattle.resolution.specs.Shapes.{screenBytes, rowBytesOf, planeRowsOf, rasterOf}
+use Rattle.resolution.specs.Shapes.{screenBytes, rasterOf}
 use Rattle.resolution.proofs.Choice.{withResolution-elim}
-use Rattle.resolution.proofs.Rasters.{raster-rowBytes, raster-rows}
+use Rattle.resolution.proofs.Rasters.{raster-bytes}
 use Rattle.words.specs.Word.{wordAt}
-use Rattle.bodies.specs.Unpacking.{bodyOf}
+use Rattle.bodies.specs.Damage.{goodRows, goodRow, goodPart, goodCount}
+use Rattle.bodies.specs.Reading.{readBody}
+use Rattle.bodies.specs.Unpacking.{UnpackedBody, unpackedAnswer}
+use Rattle.bodies.proofs.Damage as bodies
+use Rattle.bodies.proofs.Damage.{stops-refused, stops-number, refused-stops, stops-place, good-below}
 use Rattle.picture.specs.Reading.{Reading, readAnswer}
 use Rattle.degas.specs.declared.Header.{Header}
-use Rattle.degas.specs.Layout.{headerLength, plainLength, eliteLength, packedLength, packedMost}
+use Rattle.degas.specs.Layout.{headerLength, tailLength, plainLength, eliteLength, packedMost}
 use Rattle.degas.specs.Opening.{resolutionNumber, isPacked, opening}
-use Rattle.degas.specs.Reading.{readRaw, judgeTail, readPacked, readOpened, readDegas}
+use Rattle.degas.specs.Reading.{readRaw, packedReading, readPacked, readOpened, readDegas}
 use Rattle.degas.specs.Accepts.{PackedFits, Fits, plain, elite, packed, packedGiven, fitsGiven}
 use Rattle.degas.proofs.Opening.{headerOf, opening-known}
-use Rattle.degas.proofs.ReadDegas.{read-fits}
-use Rattle.degas.proofs.Acceptance.{packed-length, Given, degas-judged}
+use Rattle.degas.proofs.ReadDegas.{packed-short, read-fits}
+use Rattle.degas.proofs.Acceptance.{Given, degas-judged}
+use Rattle.macpaint.specs.Layout as macpaint
+use Rattle.macpaint.specs.Plate.{plateRaster, plateBytes}
+use Rattle.macpaint.specs.Reading.{versionAllowed, readPlate}
+use Rattle.macpaint.specs.Accepts.{AcceptsPlate, plateGiven}
+use Rattle.macpaint.proofs.Acceptance as macpaint-acceptance
+use Rattle.macpaint.proofs.Acceptance.{plate-judged, version-sound, version-complete}
+use Rattle.macpaint.proofs.ReadPlate.{header-none, judge-passed, read-judged}
 use Rattle.reader.specs.Reading.{kindDegas, readFile}
 use Rattle.reader.proofs.Choice.{file-degas}
-use Rattle.demands.specs.RefusalRows.{AtRecord}
-use Rattle.demands.specs.Damage.{Damaged, Completion, goodRows, goodRow, goodPart, goodCount, GoodBefore}
-use Rattle.demands.proofs.Answers.{read-answer, row-answer, refused-by}
+use Rattle.demands.specs.Damage.{Damaged, Completion, GoodBefore, DamagedPlate, PlateCompletion, PlateGoodBefore}
+use Rattle.demands.proofs.Answers.{read-answer, body-answer, row-answer, refused-by}
 
 -- ---- refused at a record, exactly where the body stops
 
-module _ (file : List ℕ) (why : Refusal) where
-  -- a refusal at a record comes from a body that stops
-  abbrev Broken : Outcome Reading → Type 0
-  Broken o = o ≡ refused why → AtRecord (why .number) → Damaged file why
+-- an outcome whose refusal at a record comes from damage
+module _ {A : Type 0} (why : Refusal) (Damage : Type 0) where
+  abbrev BrokenBy : Outcome A → Type 0
+  BrokenBy o = o ≡ refused why → AtRecord (why .number) → Damage
 
-  broken-accepted : (q : Reading) → Broken (accepted q)
-  broken-accepted q e at = let z : _≡_ {A = ℕ} 0 1 = cc in absurd (omega arith)
+  broken-accepted : (a : A) → BrokenBy (accepted a)
+  broken-accepted a e at = let z : _≡_ {A = ℕ} 0 1 = cc in absurd (omega arith)
 
   -- another number is not that of a record
   broken-other : (number place : ℕ) → (eqb number inputEnds || eqb number recordCrosses) ≡ false
-      → Broken (refused (refusal number place))
+      → BrokenBy (refused (refusal number place))
   broken-other number place neither e at = absurd (go at)
     where
       not-one : (eqb number inputEnds ≡ false) × (eqb number recordCrosses ≡ false)
       not-one = or-false (eqb number inputEnds) (eqb number recordCrosses) neither
 
       same : number ≡ why .number
-      same = ap (λ (o : Outcome Reading). refusalOf o .number) e
+      same = ap (λ (o : Outcome A). refusalOf o .number) e
 
       go : AtRecord (why .number) → ⊥
       go (inl six) = eqb-false number inputEnds (not-one .0) (same ∙ six)
       go (inr seven) = eqb-false number recordCrosses (not-one .1) (same ∙ seven)
 
+module _ (file : List ℕ) (why : Refusal) where
+  abbrev Broken : Outcome Reading → Type 0
+  Broken o = BrokenBy why (Damaged file why) o
+
   module _ (all : Bytes file) (least : headerLength ≤ length file) (r : Resolution)
       (known : chosen (resolutionNumber file) ≡ Known r) where
-    abbrev body : Outcome Rows
-    body = unpackRows (rows (rasterOf r)) (rowBytes (rasterOf r)) (drop headerLength file)
-
-    body-damaged : isPacked file ≡ true → length file ≤ packedMost → (w : Refusal) → body ≡ refused w
-        → Damaged file (placedAt headerLength w)
-    body-damaged is most w e =
-        let input : List ℕ = drop headerLength file in
-        let s : Stops (rows (rasterOf r)) (rowBytes (rasterOf r)) input w =
-        stops-exactly (rows (rasterOf r)) (rowBytes (rasterOf r)) input w (bytes-drop headerLength file all) .0 e in
+    body-broken : isPacked file ≡ true → length file ≤ packedMost → (o : Outcome UnpackedBody)
+        → readBody file headerLength tailLength (rasterOf r) ≡ o → Broken (map (packedReading file r) o)
+    body-broken is most (accepted u) e = broken-accepted why (Damaged file why) _
+    body-broken is most (refused w) e = λ same at.
         record {
           resolution = r;
           allowed = known;
           packed = is;
           least = least;
           most = most;
-          inside = w;
-          from = refl;
-          stops = rw (raster-rows r, raster-rowBytes r) at s;
+          stops =
+              refused-stops file headerLength (rasterOf r) tailLength why all
+              (e ∙ ap refused (ap (λ (o : Outcome Reading). refusalOf o) same)) at;
         }
-
-    body-broken : isPacked file ≡ true → length file ≤ packedMost → (o : Outcome Rows) → body ≡ o
-        → Broken (bind (map (bodyOf (rasterOf r)) (placed headerLength o)) (judgeTail file r))
-    body-broken is most (accepted q) e =
-        cond-elim Broken (eqb (length file) (packedLength (q .bytes))) (λ _. broken-accepted _)
-        (λ _. broken-other wrongTail (headerLength + q .bytes) refl)
-    body-broken is most (refused w) e = λ same at.
-        subst (Damaged file) (ap (λ (o : Outcome Reading). refusalOf o) same) (body-damaged is most w e)
 
     packed-broken : isPacked file ≡ true → Broken (readPacked file r)
     unfolding readPacked
     packed-broken is =
         cond-ltb Broken packedMost (length file)
-        (λ _. broken-other wrongLength 0 refl)
-        (λ most. body-broken is most body refl)
+        (λ _. broken-other why (Damaged file why) wrongLength 0 refl)
+        (λ most. body-broken is most (readBody file headerLength tailLength (rasterOf r)) refl)
 
     raw-broken : Broken (readRaw file r)
     unfolding readRaw
     raw-broken =
-        cond-elim Broken (eqb (length file) plainLength) (λ _. broken-accepted _) (λ _.
-        cond-elim Broken (eqb (length file) eliteLength) (λ _. broken-accepted _) (λ _.
-        broken-other wrongLength 0 refl))
+        cond-elim Broken (eqb (length file) plainLength) (λ _. broken-accepted why (Damaged file why) _) (λ _.
+        cond-elim Broken (eqb (length file) eliteLength) (λ _. broken-accepted why (Damaged file why) _) (λ _.
+        broken-other why (Damaged file why) wrongLength 0 refl))
 
     opened-broken : Broken (readOpened file (headerOf file r))
     opened-broken = cond-elim Broken (isPacked file) packed-broken (λ _. raw-broken)
@@ -128,11 +122,11 @@ module _ (file : List ℕ) (why : Refusal) where
   read-broken all area =
       let Opened : Outcome Header → Type 0 = λ o. Broken (bind o (readOpened file)) in
       cond-ltb Broken area screenBytes
-      (λ _. broken-other areaTooShort 0 refl) (λ _.
+      (λ _. broken-other why (Damaged file why) areaTooShort 0 refl) (λ _.
       cond-ltb Opened (length file) headerLength
-      (λ _. broken-other wrongLength 0 refl) (λ least.
+      (λ _. broken-other why (Damaged file why) wrongLength 0 refl) (λ least.
       withResolution-elim Opened (resolutionNumber file) (λ r. accepted (headerOf file r))
-      (broken-other unknownResolution 0 refl)
+      (broken-other why (Damaged file why) unknownResolution 0 refl)
       (λ r known. opened-broken all least r known)))
 
 -- the width and the output are as they should be
@@ -141,28 +135,14 @@ row-judged : (bytes : List ℕ) (width room : ℕ) → widthOutOfRange width ≡
 unfolding unpackRow
 row-judged bytes width room range fits = rw (range, le-ltb room width fits)
 
-faulty-number : {input : List ℕ} {room number : ℕ} → Faulty input room number → AtRecord number
-faulty-number ended = inl refl
-faulty-number (crosses h) = inr refl
-faulty-number (truncated h k) = inl refl
-
-packed-stops : (file : List ℕ) (r : Resolution) (inside : Refusal) → length file ≤ packedMost
-    → unpackRows (rows (rasterOf r)) (rowBytes (rasterOf r)) (drop headerLength file) ≡ refused inside
-    → readPacked file r ≡ refused (placedAt headerLength inside)
-unfolding readPacked
-packed-stops file r inside most e = rw (le-ltb packedMost (length file) most, e)
-
 damaged-read : (file : List ℕ) (area : ℕ) (why : Refusal) → screenBytes ≤ area → Damaged file why
     → readDegas file area ≡ refused why
 damaged-read file area why room d =
     let r : Resolution = d .resolution in
-    let s : Stops (rows (rasterOf r)) (rowBytes (rasterOf r)) (drop headerLength file) (d .inside) =
-    rw (raster-rows r, raster-rowBytes r) (d .stops) in
     read-fits file area room
     ∙ rw (opening-known file (d .least) r (d .allowed), d .packed)
-    (packed-stops file r (d .inside) (d .most)
-    (stops-complete (rows (rasterOf r)) (rowBytes (rasterOf r)) (drop headerLength file) (d .inside) s))
-    ∙ ap refused (sym (d .from))
+    (packed-short file r (d .most)
+    ∙ ap (map (packedReading file r)) (stops-refused file headerLength (rasterOf r) tailLength (d .stops)))
 
 -- an answer with such a number is a refusal
 at-record-refused : {A : Type 0} (o : Outcome A) (why : Refusal) → refusalOf o ≡ why → AtRecord (why .number)
@@ -186,7 +166,7 @@ damage-exactly file area why room all = (
   λ d. (
     ap (λ (o : Outcome Reading). readAnswer o .refusal)
         (file-degas kindDegas file area refl ∙ damaged-read file area why room d),
-    subst (λ (w : Refusal). AtRecord (w .number)) (sym (d .from)) (faulty-number (d .stops .faulty)),
+    stops-number file headerLength (rasterOf (d .resolution)) (d .stops),
   ),
 )
 
@@ -203,26 +183,7 @@ row-damage-exactly bytes width room why range fits all =
       λ s. (ap (λ (r : Outcome Row). rowAnswer r .refusal) (is ∙ exactly .1 s), faulty-number (s .faulty)),
     )
 
--- ---- the file's refusal has the body's numbers, and the body's place behind the header
-
-module _ {file : List ℕ} {why : Refusal} (d : Damaged file why) where
-  place : why .place ≡ headerLength + d .inside .place
-  place = ap (λ (w : Refusal). w .place) (d .from)
-
-  plane-row : why .«plane_row» ≡ length (d .stops .rows)
-  plane-row = ap (λ (w : Refusal). w .«plane_row») (d .from) ∙ d .stops .planeRow
-
-  row-bytes : why .«good_bytes» ≡ length (d .stops .begun)
-  row-bytes = ap (λ (w : Refusal). w .«good_bytes») (d .from) ∙ d .stops .goodBytes
-
 -- ---- a completion
-
-same-behind : (k m : ℕ) (s t : List ℕ) → k ≤ length s → k ≤ length t → take (k + m) s ≡ take (k + m) t
-    → take m (drop k s) ≡ take m (drop k t)
-same-behind k m s t h g e = sym (behind s h) ∙ ap (drop k) e ∙ behind t g
-  where
-    behind : (l : List ℕ) → k ≤ length l → drop k (take (k + m) l) ≡ take m (drop k l)
-    behind l h = ap (drop k) (take-add k m l) ∙ drop-at (take k l) (take m (drop k l)) k (length-take-le k l h)
 
 module _ {file : List ℕ} {why : Refusal} (d : Damaged file why) {other : List ℕ} {q : Reading}
     (c : Completion file why other q) where
@@ -232,9 +193,9 @@ module _ {file : List ℕ} {why : Refusal} (d : Damaged file why) {other : List 
   -- its first word is the file's
   same-byte : (i : ℕ) → i < headerLength → getD other i 0 ≡ getD file i 0
   same-byte i h =
-      sym (getD-take (why .place) other i 0 (omega (arith, place d)))
+      sym (getD-take (why .place) other i 0 (omega (arith, stops-place (d .stops))))
       ∙ ap (λ (l : List ℕ). getD l i 0) (c .same)
-      ∙ getD-take (why .place) file i 0 (omega (arith, place d))
+      ∙ getD-take (why .place) file i 0 (omega (arith, stops-place (d .stops)))
 
   same-word : wordAt other 0 ≡ wordAt file 0
   unfolding wordAt
@@ -248,13 +209,13 @@ module _ {file : List ℕ} {why : Refusal} (d : Damaged file why) {other : List 
   not-raw is = let t : isPacked other ≡ true = same-packed in let z : _≡_ {A = ℕ} 0 1 = cc in omega arith
 
   fits-packed : (r : Resolution) → r ≡ res → (f : Fits other r) → q ≡ fitsGiven f
-      → (p : PackedFits other res) × (q ≡ packedGiven p)
+      → (p : PackedFits other res) × (q ≡ packedGiven res p)
   fits-packed r e (plain is size) g = absurd (not-raw is)
   fits-packed r e (elite is size) g = absurd (not-raw is)
   fits-packed r e (packed is p) g =
-      subst (λ (s : Resolution). (p : PackedFits other s) × (q ≡ packedGiven p)) e (p, g)
+      subst (λ (s : Resolution). (p : PackedFits other s) × (q ≡ packedGiven s p)) e (p, g)
 
-  completed : (p : PackedFits other res) × (q ≡ packedGiven p)
+  completed : (p : PackedFits other res) × (q ≡ packedGiven res p)
   completed =
       let g =
       judged-value (Given other (c .area)) (readDegas other (c .area)) q (degas-judged other (c .area) (c .bytes))
@@ -268,60 +229,24 @@ module _ {file : List ℕ} {why : Refusal} (d : Damaged file why) {other : List 
   same-resolution : q .picture .resolution ≡ numberOf res
   same-resolution = ap (λ (x : Reading). x .picture .resolution) (completed .1)
 
-  -- its body
-  same-body : take (d .inside .place) (drop headerLength other) ≡ take (d .inside .place) (drop headerLength file)
-  same-body =
-      same-behind headerLength (d .inside .place) other file
-      (omega (arith, packed-length other res (completed .0))) (d .least)
-      (rw (place d) at (c .same))
-
-  body-rows : (p : PackedFits other res)
-      → unpackRows (planeRowsOf res) (rowBytesOf res) (drop headerLength other)
-      ≡ doneRows (length (p .body)) (p .records) (planeRows (p .screen) (rasterOf res))
-  body-rows p =
-      let list : List (List ℕ) = planeRows (p .screen) (rasterOf res) in
-      let all : planeRowsOf res ≡ length list = sym (length-planeRows (p .screen) (rasterOf res) ∙ raster-rows res) in
-      let behind : drop headerLength other ≡ p .body ++ p .tail =
-      ap (drop headerLength) (p .parts ∙ append-assoc (p .header) (p .body) (p .tail))
-      ∙ drop-at (p .header) (p .body ++ p .tail) headerLength (p .before) in
-      ap₂ (λ (n width : ℕ). unpackRows n width (drop headerLength other)) all (sym (raster-rowBytes res))
-      ∙ ap (unpackRows (length list) (rowBytes (rasterOf res))) behind
-      ∙ complete-rows (rowBytes (rasterOf res)) (wide-planeRows (p .screen) (rasterOf res)) (p .runs) (p .tail)
-
-  begins : BeginsWith (d .stops .rows) (d .stops .begun) (planeRows (q .screen) (rasterOf res))
-  begins =
-      subst (λ (s : List ℕ). BeginsWith (d .stops .rows) (d .stops .begun) (planeRows s (rasterOf res)))
-      (sym (ap (λ (x : Reading). x .screen) (completed .1)))
-      (completion (planeRowsOf res) (rowBytesOf res) (d .stops) (drop headerLength other) same-body _
-      (body-rows (completed .0)))
+  same-screen : q .screen ≡ completed .0 .image
+  same-screen = ap (λ (x : Reading). x .screen) (completed .1)
 
   -- what the refusal calls good of its screen is what the records before the one at fault make
-  pub good-rows : goodRows res why (q .screen) ≡ d .stops .rows
+  pub good-rows : goodRows (rasterOf res) why (q .screen) ≡ d .stops .stops .rows
   good-rows =
-      ap (λ (k : ℕ). take k (planeRows (q .screen) (rasterOf res))) (plane-row d) ∙ begins .whole
+      ap (goodRows (rasterOf res) why) same-screen ∙ bodies.good-rows (d .stops) (d .least) (completed .0) (c .same)
 
-  pub good-row : goodRow res why (q .screen) ≡ d .stops .begun
+  pub good-row : goodRow (rasterOf res) why (q .screen) ≡ d .stops .stops .begun
   good-row =
-      let inside : length (d .stops .rows) < rows (rasterOf res) = omega (arith, d .stops .more, raster-rows res) in
-      ap₂ (λ (k n : ℕ). take k (planeRow (q .screen) (rasterOf res) n)) (row-bytes d) (plane-row d)
-      ∙ ap (take (length (d .stops .begun)))
-      (sym (getD-planeRows (q .screen) (rasterOf res) (length (d .stops .rows)) inside))
-      ∙ begins .next
+      ap (goodRow (rasterOf res) why) same-screen ∙ bodies.good-row (d .stops) (d .least) (completed .0) (c .same)
 
-  good-count : length (goodPart res why (q .screen)) ≡ goodCount res why
+  good-count : length (goodPart (rasterOf res) why (q .screen)) ≡ goodCount (rasterOf res) why
   good-count =
-      ap₂ (λ (a : List (List ℕ)) (b : List ℕ). length (flatten a ++ b)) good-rows good-row
-      ∙ sym (good-bytes (planeRowsOf res) (rowBytesOf res) (d .stops))
-      ∙ ap (goodCount res) (sym (d .from))
+      ap (λ (s : List ℕ). length (goodPart (rasterOf res) why s)) same-screen
+      ∙ bodies.good-count (d .stops) (d .least) (completed .0) (c .same)
 
 -- ---- how far the map is good
-
--- less than the whole screen
-below-screen : (r : Resolution) (n bytes : ℕ) → n < planeRowsOf r → bytes < rowBytesOf r
-    → n * rowBytesOf r + bytes < screenBytes
-below-screen Low n bytes h k = omega arith
-below-screen Medium n bytes h k = omega arith
-below-screen High n bytes h k = omega arith
 
 -- "wants to know how far the map is good"
 pub good-before : (file : List ℕ) (area : ℕ) (why : Refusal) → Bytes file
@@ -335,7 +260,89 @@ good-before file area why all e at =
       rows = λ c k. good-rows d c ∙ sym (good-rows d k);
       row = λ c k. good-row d c ∙ sym (good-row d k);
       count = λ c. good-count d c;
-      below =
-          below-screen (d .resolution) (why .«plane_row») (why .«good_bytes»)
-          (omega (arith, plane-row d, d .stops .more)) (omega (arith, row-bytes d, d .stops .under));
+      below = omega (arith, good-below (d .stops), raster-bytes (d .resolution));
+    }
+
+-- ---- MacPaint plates
+
+module _ (file : List ℕ) (why : Refusal) where
+  abbrev PlateBroken : Outcome UnpackedBody → Type 0
+  PlateBroken o = BrokenBy why (DamagedPlate file why) o
+
+  plate-broken : Bytes file → (area : ℕ) → PlateBroken (readPlate file area)
+  unfolding readPlate
+  plate-broken all area =
+      cond-ltb PlateBroken area plateBytes
+      (λ _. broken-other why (DamagedPlate file why) areaTooShort 0 refl) (λ _.
+      cond-ltb PlateBroken (length file) macpaint.headerLength
+      (λ _. broken-other why (DamagedPlate file why) wrongLength 0 refl) (λ least.
+      cond-ltb PlateBroken macpaint.longestFile (length file)
+      (λ _. broken-other why (DamagedPlate file why) wrongLength 0 refl) (λ most.
+      cond-elim PlateBroken (not (versionAllowed file))
+      (λ _. broken-other why (DamagedPlate file why) wrongVersion 0 refl) (λ good e at.
+      record {
+        allowed = version-sound file (not-false _ good);
+        least = least;
+        most = most;
+        stops = refused-stops file macpaint.headerLength plateRaster macpaint.afterBody why all e at;
+      }))))
+
+  plate-damaged : (area : ℕ) → plateBytes ≤ area → DamagedPlate file why → readPlate file area ≡ refused why
+  plate-damaged area room d =
+      let none = header-none file (d .least) (d .most) (version-complete file (d .allowed)) in
+      read-judged file area room
+      ∙ judge-passed file _ (ap (λ (w : Refusal). w .number) none)
+      ∙ stops-refused file macpaint.headerLength plateRaster macpaint.afterBody (d .stops)
+
+  plate-answer-broken : (area : ℕ) → Bytes file → unpackedAnswer (readPlate file area) .refusal ≡ why
+      → AtRecord (why .number) → DamagedPlate file why
+  plate-answer-broken area all e at =
+      let o : Outcome UnpackedBody = readPlate file area in
+      plate-broken all area (at-record-refused o why (sym (body-answer o) ∙ e) at) at
+
+  -- the reader answers with 6 and 7 exactly where the body stops, and with the body's numbers
+  pub plate-damage-exactly : (area : ℕ) → plateBytes ≤ area → Bytes file
+      → ((unpackedAnswer (readPlate file area) .refusal ≡ why) × AtRecord (why .number)) ↔ DamagedPlate file why
+  plate-damage-exactly area room all = (
+    λ h. plate-answer-broken area all (h .0) (h .1),
+    λ d. (
+      ap (λ (o : Outcome UnpackedBody). unpackedAnswer o .refusal) (plate-damaged area room d),
+      stops-number file macpaint.headerLength plateRaster (d .stops),
+    ),
+  )
+
+module _ {file : List ℕ} {why : Refusal} (d : DamagedPlate file why) {other : List ℕ} {u : UnpackedBody}
+    (c : PlateCompletion file why other u) where
+  plate-completed : (a : AcceptsPlate other) × (u ≡ plateGiven a)
+  plate-completed =
+      judged-value (macpaint-acceptance.Given other (c .area)) (readPlate other (c .area)) u
+      (plate-judged other (c .area) (c .bytes)) (c .accepts)
+
+  same-plate : u .image ≡ plate-completed .0 .fits .image
+  same-plate = ap (λ (v : UnpackedBody). v .image) (plate-completed .1)
+
+  plate-good-rows : goodRows plateRaster why (u .image) ≡ d .stops .stops .rows
+  plate-good-rows =
+      ap (goodRows plateRaster why) same-plate
+      ∙ bodies.good-rows (d .stops) (d .least) (plate-completed .0 .fits) (sym (c .same))
+
+  plate-good-row : goodRow plateRaster why (u .image) ≡ d .stops .stops .begun
+  plate-good-row =
+      ap (goodRow plateRaster why) same-plate
+      ∙ bodies.good-row (d .stops) (d .least) (plate-completed .0 .fits) (sym (c .same))
+
+  plate-good-count : length (goodPart plateRaster why (u .image)) ≡ goodCount plateRaster why
+  plate-good-count =
+      ap (λ (s : List ℕ). length (goodPart plateRaster why s)) same-plate
+      ∙ bodies.good-count (d .stops) (d .least) (plate-completed .0 .fits) (sym (c .same))
+
+pub plate-good-before : (file : List ℕ) (area : ℕ) (why : Refusal) → Bytes file
+    → unpackedAnswer (readPlate file area) .refusal ≡ why → AtRecord (why .number) → PlateGoodBefore file why
+plate-good-before file area why all e at =
+    let d : DamagedPlate file why = plate-answer-broken file why area all e at in
+    record {
+      rows = λ c k. plate-good-rows d c ∙ sym (plate-good-rows d k);
+      row = λ c k. plate-good-row d c ∙ sym (plate-good-row d k);
+      count = λ c. plate-good-count d c;
+      below = good-below (d .stops);
     }

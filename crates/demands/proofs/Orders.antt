@@ -13,6 +13,7 @@ use Rattle.lists.specs.All.{allFirst}
 use Rattle.lists.proofs.Cond.{cond-elim, cond-eqb, and-true}
 use Rattle.outcome.specs.Outcome.{Outcome, accepted, refused, refusal, refuse, refuseIf, map, bind, placed, refusalOf}
 use Rattle.outcome.specs.Refusal.{areaTooShort, wrongLength, wrongFlag, unknownResolution, wrongTail, noPackedBody}
+use Rattle.outcome.specs.Refusal.{wrongVersion}
 use Rattle.outcome.specs.Refusal.{outOfRange, undefinedControl, runTooLong, sizeMismatch}
 use Rattle.words.specs.Word.{wordAt}
 use Rattle.packbits.specs.declared.Record.{Record}
@@ -22,6 +23,7 @@ use Rattle.packbits.specs.Row.{Row, rowAnswer, widthOutOfRange}
 use Rattle.packbits.specs.Unpack.{Progress, step, progressWithin, progress, unpackRow, outcomeOf}
 use Rattle.packbits.specs.Rows.{RowsProgress, rowStep, rowsFrom, rowsProgress, rowsOutcome}
 use Rattle.pack.specs.Pack.{maxBody, packRow, packWithin}
+use Rattle.raster.specs.declared.Raster.{Raster}
 use Rattle.raster.specs.Shape.{rows, rowBytes}
 use Rattle.resolution.specs.declared.Chosen.{Chosen}
 use Rattle.resolution.specs.declared.Resolution.{Resolution}
@@ -33,7 +35,8 @@ use Rattle.lines.specs.Lines.{judgeLineAt, lineOutAt, lineInAt, registersFit, l
 use Rattle.tally.specs.declared.Rectangle.{Rectangle}
 use Rattle.tally.specs.Rectangles.{judgeRectangleAt, judgeRectangle}
 use Rattle.tally.specs.Counts.{counts, tallied, tallyAnswer}
-use Rattle.bodies.specs.Unpacking.{bodyOf}
+use Rattle.bodies.specs.Unpacking.{UnpackedBody, bodyOf, unpackedAnswer}
+use Rattle.bodies.specs.Reading.{judgeEnd, readBody}
 use Rattle.bodies.specs.Packing.{leastBody, PackedBody}
 use Rattle.colour.specs.Palette.{Rgb}
 use Rattle.colour.specs.Shown.{judgeRegister, shown, colourAnswer}
@@ -46,9 +49,9 @@ use Rattle.picture.specs.Reading.{Reading, readAnswer}
 use Rattle.picture.specs.Writing.{Writing, rawWriting, fileBytes, judgeWriting, writeAnswer}
 use Rattle.degas.specs.declared.Header.{Header}
 use Rattle.degas.specs.declared.Form.the-variants.{Plain, Elite, Packed}
-use Rattle.degas.specs.Layout.{headerLength, bodyLimit, plainLength, eliteLength, packedLength, packedMost}
+use Rattle.degas.specs.Layout.{headerLength, tailLength, bodyLimit, plainLength, eliteLength, packedMost}
 use Rattle.degas.specs.Opening as degas-opening
-use Rattle.degas.specs.Reading.{readRaw, judgeTail, readPacked, readOpened, readDegas}
+use Rattle.degas.specs.Reading.{readRaw, packedReading, readPacked, readOpened, readDegas}
 use Rattle.degas.specs.Writing.{packedWriting, writePacked, writeForm, writeDegas}
 use Rattle.degas.proofs.Opening.{headerOf}
 use Rattle.neochrome.specs.Layout.{fileLength, neochromeFile}
@@ -61,6 +64,10 @@ use Rattle.tiny.specs.Layout.{controlStart, bodyLength, controlSection, dataSec
 use Rattle.tiny.specs.Runs.{defined, faulty, longRun, runOf, fitted, runAt}
 use Rattle.tiny.specs.Expansion.{screenWords, Expansion, runStep, expandWithin, expand}
 use Rattle.tiny.specs.Reading.{expanded, readRuns, readSections, readTiny}
+use Rattle.macpaint.specs.Layout as macpaint
+use Rattle.macpaint.specs.Plate.{plateRaster, plateBytes}
+use Rattle.macpaint.specs.Reading.{versionAllowed, readPlate}
+use Rattle.macpaint.specs.Writing.{plateWriting, writePlate}
 use Rattle.reader.specs.Reading.{readFile}
 use Rattle.writer.specs.Writing.{writeFile}
 use Rattle.demands.specs.Orders.{Test, firstRefusal, width, height, registers, rowPackOrder, recordMakes}
@@ -70,7 +77,8 @@ use Rattle.demands.specs.Orders.{runTakes, runOrder, degasResolution, de
 use Rattle.demands.specs.Orders.{packedTests, degasTests, neochromeTests, rotated, tinyHeader, controlBytes}
 use Rattle.demands.specs.Orders.{dataWords, sectionTests, tinyTests, readOrder, rasterAt, writeOrder, oneOf}
 use Rattle.demands.specs.Orders.{rowPackNumbers, rowUnpackNumbers, colourNumbers, screenNumbers, readNumbers}
-use Rattle.demands.specs.Orders.{writeNumbers}
+use Rattle.demands.specs.Orders.{writeNumbers, readPlateOrder, writePlateOrder, readPlateNumbers}
+use Rattle.demands.specs.Orders.{writePlateNumbers}
 
 -- ---- an outcome judged by tests, in order
 
@@ -312,6 +320,33 @@ module _ (screen : List ℕ) (number : ℕ) (a : Rectangle) (class floor : ℕ) 
 abbrev readNumber : Outcome Reading → ℕ
 readNumber o = readAnswer o .refusal .number
 
+abbrev bodyNumber : Outcome UnpackedBody → ℕ
+bodyNumber o = unpackedAnswer o .refusal .number
+
+module _ (file : List ℕ) (at after : ℕ) (r : Raster) where
+  -- the tests after the rows' progress
+  end-tests : (p : RowsProgress) → RecordFault (p .fault)
+      → bodyNumber (bind (map (bodyOf r) (placed at (rowsOutcome p))) (judgeEnd file at after))
+      ≡ firstRefusal (recordFaults (p .fault) ((not (eqb (length file) (at + p .bytes + after)), 8) ∷ []))
+  unfolding rowsOutcome
+  end-tests p (inr (inl e)) = rw e
+  end-tests p (inr (inr e)) = rw e
+  end-tests p (inl e) = rw e (go (eqb (length file) (at + p .bytes + after)) _ _)
+    where
+      go : (t : Bool) (u : UnpackedBody) (place : ℕ)
+          → bodyNumber (cond t (accepted u) (refused (refusal wrongTail place))) ≡ cond (not t) 8 0
+      go true u place = refl
+      go false u place = refl
+
+  -- a body's rows, and then its end
+  abbrev inBody : RowsProgress
+  inBody = rowsProgress (rows r) (rowBytes r) (drop at file)
+
+  body-tests : bodyNumber (readBody file at after r)
+      ≡ firstRefusal (recordFaults (inBody .fault) ((not (eqb (length file) (at + inBody .bytes + after)), 8) ∷ []))
+  unfolding readBody
+  body-tests = end-tests inBody (rows-fault (rows r) (rowBytes r) [] (drop at file))
+
 module _ (file : List ℕ) where
   raw-tests : (r : Resolution) → readNumber (readRaw file r) ≡ firstRefusal (rawTests file)
   unfolding readRaw
@@ -323,27 +358,18 @@ module _ (file : List ℕ) where
       go false true a b = refl
       go false false a b = refl
 
-  -- the tests after the rows' progress
-  body-tests : (r : Resolution) (p : RowsProgress) → RecordFault (p .fault)
-      → readNumber (bind (map (bodyOf (rasterOf r)) (placed headerLength (rowsOutcome p))) (judgeTail file r))
-      ≡ firstRefusal (recordFaults (p .fault) ((not (eqb (length file) (34 + p .bytes + 32)), 8) ∷ []))
-  unfolding rowsOutcome
-  body-tests r p (inr (inl e)) = rw e
-  body-tests r p (inr (inr e)) = rw e
-  body-tests r p (inl e) = rw e (go (eqb (length file) (packedLength (p .bytes))) _ _)
-    where
-      go : (t : Bool) (q : Reading) (place : ℕ)
-          → readNumber (cond t (accepted q) (refused (refusal wrongTail place))) ≡ cond (not t) 8 0
-      go true q place = refl
-      go false q place = refl
+  -- the number of a reading is that of its body
+  map-number : (f : UnpackedBody → Reading) (o : Outcome UnpackedBody) → readNumber (map f o) ≡ bodyNumber o
+  map-number f (accepted u) = refl
+  map-number f (refused why) = refl
 
   packed-tests : (r : Resolution) → readNumber (readPacked file r)
       ≡ firstRefusal (packedTests file (rowsProgress (rows (rasterOf r)) (rowBytes (rasterOf r)) (drop 34 file)))
   unfolding readPacked
   packed-tests r =
       first-test readNumber (λ n. refl) (ltb packedMost (length file)) wrongLength (λ _.
-      body-tests r (rowsProgress (rows (rasterOf r)) (rowBytes (rasterOf r)) (drop headerLength file))
-      (rows-fault (rows (rasterOf r)) (rowBytes (rasterOf r)) [] (drop headerLength file)))
+      map-number (packedReading file r) (readBody file headerLength tailLength (rasterOf r))
+      ∙ body-tests file headerLength tailLength (rasterOf r))
 
   degas-order : (area : ℕ) → readNumber (readDegas file area) ≡ firstRefusal ((ltb area 32000, 1) ∷ degasTests file)
   unfolding readDegas degas-opening.opening
@@ -582,6 +608,27 @@ module _ (p : Picture) (screen out : List ℕ) where
       Is : Outcome Writing → Type 0
       Is o = writeNumber o ≡ firstRefusal (writeOrder form p screen out)
 
+-- ---- MacPaint plates
+
+pub read-plate-order : (file plate : List ℕ)
+    → bodyNumber (readPlate file (length plate)) ≡ firstRefusal (readPlateOrder file plate)
+unfolding readPlate
+read-plate-order file plate =
+    first-test bodyNumber (λ n. refl) (ltb (length plate) plateBytes) areaTooShort (λ _.
+    first-either bodyNumber (λ n. refl)
+    (ltb (length file) macpaint.headerLength) (ltb macpaint.longestFile (length file)) wrongLength
+    (first-test bodyNumber (λ n. refl) (not (versionAllowed file)) wrongVersion (λ _.
+    body-tests file macpaint.headerLength macpaint.afterBody plateRaster)))
+
+pub write-plate-order : (plate out : List ℕ)
+    → writeNumber (writePlate plate (length out)) ≡ firstRefusal (writePlateOrder plate out)
+unfolding writePlate
+write-plate-order plate out =
+    first-either writeNumber (λ n. refl) (ltb (length out) macpaint.longestFile) (ltb (length plate) plateBytes)
+    areaTooShort
+    (first-test (λ (o : Outcome PackedBody). writeNumber (map plateWriting o)) (λ n. refl)
+    (leb macpaint.bodyLimit (length (leastBody plateRaster plate))) noPackedBody (λ _. refl))
+
 -- ---- the numbers that an operation can give back
 
 -- 0 and the number of each test that can hold are among these
@@ -684,3 +731,13 @@ module _ (form : ℕ) (p : Picture) (screen out : List ℕ) where
       known : (f : ℕ) → giveOnly (writeNumbers f) (writeOrder f p screen out) ≡ true
           → oneOf (writeNumbers f) (writeNumber (writeFile f p screen (length out))) ≡ true
       known f = in-order (writeNumbers f) (writeOrder f p screen out) (write-order p screen out f)
+
+pub read-plate-numbers : (file plate : List ℕ)
+    → oneOf readPlateNumbers (bodyNumber (readPlate file (length plate))) ≡ true
+read-plate-numbers file plate =
+    in-order readPlateNumbers (readPlateOrder file plate) (read-plate-order file plate) refl
+
+pub write-plate-numbers : (plate out : List ℕ)
+    → oneOf writePlateNumbers (writeNumber (writePlate plate (length out))) ≡ true
+write-plate-numbers plate out =
+    in-order writePlateNumbers (writePlateOrder plate out) (write-plate-order plate out) refl

@@ -11,14 +11,16 @@ use Rattle.lists.proofs.Cond.{cond-elim, cond-eqb}
 use Rattle.outcome.specs.declared.Refusal.{Refusal}
 use Rattle.outcome.specs.Outcome.{Outcome, accepted, refused, refusal, refuseIf, map, bind, placed, refusalOf}
 use Rattle.outcome.specs.Refusal.{areaTooShort, unknownKind, wrongLength, wrongFlag, unknownResolution, wrongTail}
-use Rattle.outcome.specs.Refusal.{inputEnds, recordCrosses, noPackedBody, outOfRange, sizeMismatch}
+use Rattle.outcome.specs.Refusal.{inputEnds, recordCrosses, noPackedBody, outOfRange, sizeMismatch, wrongVersion}
 use Rattle.words.specs.Word.{wordAt}
 use Rattle.packbits.specs.Row.{Row, widthOutOfRange, rowAnswer}
 use Rattle.packbits.specs.Unpack.{progress, rowFault, outcomeOf, unpackRow}
 use Rattle.packbits.specs.Rows.{rowsProgress, Rows, rowsFault, rowsOutcome, unpackRows}
+use Rattle.packbits.specs.Stops.{AtRecord}
 use Rattle.packbits.proofs.Unpack.{bounded}
 use Rattle.packbits.proofs.RowsBounds.{rows-reached}
 use Rattle.pack.specs.Pack.{maxBody, packWithin, packRow}
+use Rattle.raster.specs.declared.Raster.{Raster}
 use Rattle.raster.specs.Shape.{rowBytes, rows}
 use Rattle.resolution.specs.declared.Resolution.{Resolution}
 use Rattle.resolution.specs.Choice.{withResolution, judgeScreen}
@@ -33,16 +35,17 @@ use Rattle.pond.specs.declared.Legend.{Legend}
 use Rattle.pond.specs.declared.PondCounts.{PondCounts}
 use Rattle.pond.specs.Entries.{confidenceFits, confidencesFit}
 use Rattle.pond.specs.Reading.{pondReading, pondAnswer}
-use Rattle.bodies.specs.Packing.{leastBody}
-use Rattle.bodies.specs.Unpacking.{bodyOf, unpackBody}
+use Rattle.bodies.specs.Packing.{leastBody, PackedBody, belowLimit}
+use Rattle.bodies.specs.Unpacking.{UnpackedBody, bodyOf, unpackBody, unpackedAnswer}
+use Rattle.bodies.specs.Reading.{judgeEnd, readBody}
 use Rattle.picture.specs.declared.Picture.{Picture}
 use Rattle.picture.specs.Reading.{Reading, readAnswer}
 use Rattle.picture.specs.Writing.{Writing, fileBytes, judgeAreas, judgeWriting, writeAnswer}
 use Rattle.degas.specs.declared.Form.{Form}
 use Rattle.degas.specs.declared.Form.the-variants.{Plain, Elite, Packed}
-use Rattle.degas.specs.Layout.{headerLength, bodyLimit, plainLength, eliteLength, packedLength, packedMost}
+use Rattle.degas.specs.Layout.{headerLength, tailLength, bodyLimit, plainLength, eliteLength, packedMost}
 use Rattle.degas.specs.Opening.{isPacked}
-use Rattle.degas.specs.Reading.{readRaw, judgeTail, readPacked, readOpened, readDegas}
+use Rattle.degas.specs.Reading.{readRaw, packedReading, readPacked, readOpened, readDegas}
 use Rattle.degas.specs.Writing.{writePacked, writeForm, writeDegas}
 use Rattle.degas.proofs.Opening.{opening-elim}
 use Rattle.neochrome.specs.Layout.{fileLength, resolutionStart}
@@ -52,10 +55,14 @@ use Rattle.neochrome.specs.Writing.{writeNeochrome}
 use Rattle.tiny.specs.Expansion.{Expansion, screenWords}
 use Rattle.tiny.specs.Layout.{shortestLength, highestByte, resolutionByte, controlStart, dataCount, bodyLength}
 use Rattle.tiny.specs.Reading.{expanded, readRuns, readSections, readTiny}
+use Rattle.macpaint.specs.Layout as macpaint
+use Rattle.macpaint.specs.Plate.{plateRaster, plateBytes}
+use Rattle.macpaint.specs.Reading.{versionAllowed, readPlate}
+use Rattle.macpaint.specs.Writing.{plateWriting, writePlate}
 use Rattle.reader.specs.Reading.{kindDegas, kindNeochrome, kindTiny, readFile}
 use Rattle.writer.specs.Writing.{formPlain, formElite, formPacked, formNeochrome, writeFile}
-use Rattle.demands.specs.RefusalRows.{BothZero, AtRecord, ZeroUnless, PackedDegas}
-use Rattle.demands.proofs.Answers.{read-answer, write-answer, row-answer}
+use Rattle.demands.specs.RefusalRows.{BothZero, ZeroUnless, PackedDegas}
+use Rattle.demands.proofs.Answers.{read-answer, body-answer, write-answer, row-answer}
 use Rattle.demands.proofs.Answers.{tally-answer, colour-answer, pond-answer}
 
 -- ---- an outcome by the way it is judged
@@ -127,17 +134,22 @@ rows-at-record n width input =
     cond-eqb (λ (o : Outcome Rows). ZeroExcept AtRecord o) (rowsProgress n width input .fault) 0 (λ _. accepts _)
     (at-fault (rowsFault (rowsProgress n width input)) (rows-reached n width input .numbers))
 
+body-at-record : (file : List ℕ) (at after : ℕ) (r : Raster) → ZeroExcept AtRecord (readBody file at after r)
+unfolding readBody
+body-at-record file at after r =
+    let o : Outcome Rows = unpackRows (rows r) (rowBytes r) (drop at file) in
+    by-bind (unpackBody file at r) (judgeEnd file at after)
+    (by-map (bodyOf r) (placed at o) (by-place at o (rows-at-record (rows r) (rowBytes r) (drop at file))))
+    (λ u.
+    cond-elim (λ (o : Outcome UnpackedBody). ZeroExcept AtRecord o) (eqb (length file) (at + u .body + after))
+    (λ _. accepts u) (λ _. refuses wrongTail (at + u .body)))
+
 packed-at-record : (file : List ℕ) (r : Resolution) → ZeroExcept AtRecord (readPacked file r)
 unfolding readPacked
 packed-at-record file r =
-    let o : Outcome Rows = unpackRows (rows (rasterOf r)) (rowBytes (rasterOf r)) (drop headerLength file) in
     by-if (ltb packedMost (length file)) wrongLength
-    (by-bind (unpackBody file headerLength (rasterOf r)) (judgeTail file r)
-    (by-map (bodyOf (rasterOf r)) (placed headerLength o)
-    (by-place headerLength o (rows-at-record (rows (rasterOf r)) (rowBytes (rasterOf r)) (drop headerLength file))))
-    (λ u.
-    cond-elim (λ (o : Outcome Reading). ZeroExcept AtRecord o) (eqb (length file) (packedLength (u .body)))
-    (λ _. accepts _) (λ _. refuses wrongTail (headerLength + u .body))))
+    (by-map (packedReading file r) (readBody file headerLength tailLength (rasterOf r))
+    (body-at-record file headerLength tailLength (rasterOf r)))
 
 module _ (Given : ℕ → Type 0) where
   abbrev Of : Outcome Reading → Type 0
@@ -199,6 +211,29 @@ pub read-otherwise : (kind : ℕ) (file : List ℕ) (area : ℕ) → (PackedDega
 read-otherwise kind file area other =
     let o : Outcome Reading = readFile kind file area in
     answer-zero o (read-answer o) (read-rows NoNumber kind file area (λ is. absurd (other is)))
+
+-- ---- reading a plate: with 6 and 7 only; writing one: never
+
+pub read-plate-at-record : (file : List ℕ) (area : ℕ)
+    → ZeroUnless AtRecord (unpackedAnswer (readPlate file area) .refusal)
+unfolding readPlate
+read-plate-at-record file area =
+    answer-unless (readPlate file area) (body-answer (readPlate file area))
+    (by-if (ltb area plateBytes) areaTooShort
+    (by-if (ltb (length file) macpaint.headerLength) wrongLength
+    (by-if (ltb macpaint.longestFile (length file)) wrongLength
+    (by-if (not (versionAllowed file)) wrongVersion
+    (body-at-record file macpaint.headerLength macpaint.afterBody plateRaster)))))
+
+pub write-plate-zero : (plate : List ℕ) (out : ℕ) → BothZero (writeAnswer (writePlate plate out) .refusal)
+unfolding writePlate
+write-plate-zero plate out =
+    let o : Outcome PackedBody = belowLimit plateRaster plate macpaint.bodyLimit in
+    answer-zero (writePlate plate out) (write-answer (writePlate plate out))
+    (by-if (ltb out macpaint.longestFile) areaTooShort
+    (by-if (ltb (length plate) plateBytes) areaTooShort
+    (by-map plateWriting o
+    (by-if (leb macpaint.bodyLimit (length (leastBody plateRaster plate))) noPackedBody (accepts _)))))
 
 -- ---- unpacking a row: with 6 and 7 only, and the plane row is 0 always
 

@@ -1,8 +1,9 @@
 -- Demand 1: "Bad input gets the refusal number that document 01 gives for it, and then no byte of any lent area has
 -- changed." Which number it is, the contracts' definitions say; here, for each public function, what any refusal leaves
 -- and gives. `report::summarise` has its own law (report/proofs/Summary.antt, `summary-refused`). `unpack::unpack_into`
--- and `bodies::unpack_body` write what the whole records before a fault make, as their contracts say; the operations
--- above them lend them areas of their own. `words::put_words` refuses nothing.
+-- and `unpack::unpack_rows` write what the whole records before a fault make, as their contracts say, and so does
+-- `bodies::read_body` into its buffer; the operations above them lend them areas of their own. `words::put_words`
+-- refuses nothing.
 use mathlib.Core.Path.{_≡_, refl}
 use mathlib.Core.Bool.{false}
 use mathlib.Core.List.{List}
@@ -17,6 +18,8 @@ use Rattle.pack.specs.Pack.{packRow, packInto}
 use Rattle.raster.specs.declared.Raster.{Raster}
 use Rattle.raster.specs.PlaneRows.{rowFits, takeRow, putRow}
 use Rattle.bodies.specs.Packing.{PackedBody, packBody}
+use Rattle.bodies.specs.Reading.{readInto}
+use Rattle.bodies.specs.Unpacking.{UnpackedBody}
 use Rattle.lines.specs.Lines.{lineOut, lineIn}
 use Rattle.lines.specs.Screens.{screenOut, screenIn}
 use Rattle.tally.specs.declared.Rectangle.{Rectangle}
@@ -35,10 +38,12 @@ use Rattle.degas.specs.Writing.{writeDegas}
 use Rattle.neochrome.specs.Reading.{readNeochrome}
 use Rattle.neochrome.specs.Writing.{writeNeochrome}
 use Rattle.tiny.specs.Reading.{readTiny}
+use Rattle.macpaint.specs.Reading.{readPlate}
+use Rattle.macpaint.specs.Writing.{writePlate}
 use Rattle.reader.specs.Reading.{readFile}
 use Rattle.writer.specs.Writing.{writeFile}
-use Rattle.demands.specs.Refusals.{Kept, RowRefusal, BodyRefusal, TallyRefusal, ColourRefusal, PondRefusal}
-use Rattle.demands.specs.Refusals.{ReadRefusal, WriteRefusal}
+use Rattle.demands.specs.Refusals.{Kept, RowRefusal, BodyRefusal, BodyReadRefusal, TallyRefusal, ColourRefusal}
+use Rattle.demands.specs.Refusals.{PondRefusal, ReadRefusal, WriteRefusal}
 
 -- ---- any outcome
 
@@ -46,9 +51,13 @@ row-refusal : (o : Outcome Row) (out : List ℕ) → RowRefusal o out
 row-refusal (accepted r) out h = absurd (h refl)
 row-refusal (refused why) out h = (refl, refl, refl)
 
-body-refusal : (o : Outcome PackedBody) (out : List ℕ) → BodyRefusal o out
-body-refusal (accepted b) out h = absurd (h refl)
-body-refusal (refused why) out h = (refl, refl, refl)
+body-refusal : (o : Outcome PackedBody) (at : ℕ) (out : List ℕ) → BodyRefusal o at out
+body-refusal (accepted b) at out h = absurd (h refl)
+body-refusal (refused why) at out h = (refl, refl, refl)
+
+body-read-refusal : (o : Outcome UnpackedBody) (area : List ℕ) → BodyReadRefusal o area
+body-read-refusal (accepted u) area h = absurd (h refl)
+body-read-refusal (refused why) area h = (refl, refl, refl)
 
 tally-refusal : (o : Outcome (List ℕ)) → TallyRefusal o
 tally-refusal (accepted c) h = absurd (h refl)
@@ -84,6 +93,12 @@ read-neochrome-refused file area = read-refusal (readNeochrome file (length area
 pub read-tiny-refused : (file area : List ℕ) → ReadRefusal (readTiny file (length area)) area
 read-tiny-refused file area = read-refusal (readTiny file (length area)) area
 
+pub read-plate-refused : (file area : List ℕ) → BodyReadRefusal (readPlate file (length area)) area
+read-plate-refused file area = body-read-refusal (readPlate file (length area)) area
+
+pub write-plate-refused : (plate out : List ℕ) → WriteRefusal (writePlate plate (length out)) out
+write-plate-refused plate out = write-refusal (writePlate plate (length out)) out
+
 pub write-refused : (form : ℕ) (p : Picture) (screen out : List ℕ)
     → WriteRefusal (writeFile form p screen (length out)) out
 write-refused form p screen out = write-refusal (writeFile form p screen (length out)) out
@@ -105,9 +120,14 @@ unpack-refused packed width out = row-refusal (unpackRow packed width (length ou
 pub pack-into-refused : (row out : List ℕ) → RowRefusal (packInto row (length out)) out
 pack-into-refused row out = row-refusal (packInto row (length out)) out
 
-pub pack-body-refused : (area : List ℕ) (r : Raster) (limit : ℕ) (out : List ℕ)
-    → BodyRefusal (packBody r area limit (length out)) out
-pack-body-refused area r limit out = body-refusal (packBody r area limit (length out)) out
+pub pack-body-refused : (area : List ℕ) (r : Raster) (limit at : ℕ) (out : List ℕ)
+    → BodyRefusal (packBody r area limit at (length out)) at out
+pack-body-refused area r limit at out = body-refusal (packBody r area limit at (length out)) at out
+
+pub read-body-refused : (file : List ℕ) (at after : ℕ) (r : Raster) (buffer area : List ℕ)
+    → BodyReadRefusal (readInto file at after r (length buffer) (length area)) area
+read-body-refused file at after r buffer area =
+    body-read-refusal (readInto file at after r (length buffer) (length area)) area
 
 -- these two report nothing: where the row does not fit nothing changes
 pub take-row-kept : (area : List ℕ) (r : Raster) (n : ℕ) (row : List ℕ)

@@ -22,12 +22,12 @@ use Rattle.resolution.specs.Shapes.{screenBytes, widthOf, heightOf, planesOf, g
 use Rattle.resolution.proofs.Rasters.{raster-bytes}
 use Rattle.lines.specs.Registers.{pixelBit, register, rowsRegister}
 use Rattle.lines.proofs.PlaneRegisters.{register-of-rows, register-front}
+use Rattle.bodies.proofs.Fits.{fits-unique}
 use Rattle.picture.specs.Reading.{Reading, readArea}
 use Rattle.picture.specs.Whole.{WholeReading}
-use Rattle.degas.specs.Layout.{headerLength}
+use Rattle.degas.specs.Layout.{headerLength, tailLength, bodyLimit}
 use Rattle.degas.specs.Opening.{isPacked}
 use Rattle.degas.specs.Accepts.{PackedFits, Fits, plain, elite, packed, AcceptsDegas, fitsGiven}
-use Rattle.degas.proofs.Acceptance.{packed-unique}
 use Rattle.neochrome.specs.Layout.{screenStart}
 use Rattle.neochrome.specs.Accepts.{AcceptsNeochrome}
 use Rattle.tiny.specs.Accepts.{AcceptsTiny, tinyGiven}
@@ -46,10 +46,10 @@ raw-screen file r e (elite is size) = refl
 raw-screen file r e (packed is p) = absurd (true≢false (sym is ∙ e))
 
 packed-screen : (file : List ℕ) (r : Resolution) → isPacked file ≡ true → (f : Fits file r) (p : PackedFits file r)
-    → fitsGiven f .screen ≡ p .screen
+    → fitsGiven f .screen ≡ p .image
 packed-screen file r e (plain is size) p = absurd (false≢true (sym is ∙ e))
 packed-screen file r e (elite is size) p = absurd (false≢true (sym is ∙ e))
-packed-screen file r e (packed is o) p = packed-unique file r o p .1
+packed-screen file r e (packed is o) p = fits-unique file headerLength tailLength bodyLimit (rasterOf r) o p .1
 
 -- ---- the area after an accepted reading
 
@@ -132,11 +132,11 @@ module _ (file area : List ℕ) (room : screenBytes ≤ length area) (x y : ℕ)
     pub packed-register : isPacked file ≡ true → (p : PackedFits file (d .resolution))
         → register (read kindDegas) (d .resolution) x y
         ≡ rowsRegister (d .resolution)
-        (λ plane. planeRow (p .screen) (rasterOf (d .resolution)) (y * planesOf (d .resolution) + plane)) x
+        (λ plane. planeRow (p .image) (rasterOf (d .resolution)) (y * planesOf (d .resolution) + plane)) x
     packed-register e p =
         area-register kindDegas file area room (degas refl d) (d .resolution) x y hx hy
         ∙ ap (λ (s : List ℕ). register s (d .resolution) x y) (packed-screen file (d .resolution) e (d .fits) p)
-        ∙ register-of-rows (p .screen) (d .resolution) x y hx
+        ∙ register-of-rows (p .image) (d .resolution) x y hx
 
   -- a NEOchrome file: the register in the file's bytes from offset 128
   pub neochrome-register : (n : AcceptsNeochrome file) → x < widthOf (n .resolution) → y < heightOf (n .resolution)

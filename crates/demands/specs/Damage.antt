@@ -1,35 +1,38 @@
--- How far a damaged packed DEGAS file is good (document 02, ticket 3: "Say which row broke").
-use Prim.Native.Nat.{ℕ, _+_, _*_, _≤_, _<_}
+-- How far a damaged packed DEGAS file, or a MacPaint file, is good (document 02, ticket 3: "Say which row broke";
+-- ticket 9: "row numbers are given as for DEGAS").
+use Prim.Native.Nat.{ℕ, _≤_, _<_}
 use mathlib.Core.Path.{_≡_}
 use mathlib.Core.Bool.{true}
-use mathlib.Core.List.{List, _++_, flatten}
-use lib.ListN.{length, take, drop}
+use mathlib.Core.Logic.{_⊎_}
+use mathlib.Core.List.{List}
+use lib.ListN.{length, take}
 use Rattle.lists.specs.Bytes.{Bytes}
 use Rattle.outcome.specs.declared.Refusal.{Refusal}
-use Rattle.outcome.specs.Outcome.{accepted, placedAt}
-use Rattle.packbits.specs.Stops.{Stops}
-use Rattle.raster.specs.PlaneRows.{planeRow, planeRows}
+use Rattle.outcome.specs.Outcome.{accepted}
 use Rattle.resolution.specs.declared.Chosen.the-variants.{Known}
 use Rattle.resolution.specs.declared.Resolution.{Resolution}
 use Rattle.resolution.specs.Choice.{chosen, numberOf}
-use Rattle.resolution.specs.Shapes.{screenBytes, rowBytesOf, planeRowsOf, rasterOf}
+use Rattle.resolution.specs.Shapes.{screenBytes, rasterOf}
+use Rattle.bodies.specs.Damage.{BodyStops, goodRows, goodRow, goodPart, goodCount}
+use Rattle.bodies.specs.Unpacking.{UnpackedBody}
 use Rattle.picture.specs.Reading.{Reading}
 use Rattle.degas.specs.Layout.{headerLength, packedMost}
 use Rattle.degas.specs.Opening.{resolutionNumber, isPacked}
+use Rattle.macpaint.specs.Layout as macpaint
+use Rattle.macpaint.specs.Layout.{longestFile, version, headerIgnored, headerValid}
+use Rattle.macpaint.specs.Plate.{plateRaster, plateBytes}
+use Rattle.macpaint.specs.Reading.{readPlate}
 use Rattle.reader.specs.Reading.{kindDegas, readFile}
 
 -- `Damaged file why`: a packed file of an allowed length and resolution, whose body, from offset 34 on, stops at a
--- record at fault with the refusal `inside`; the file's refusal is that one, with its place counted from the file's
--- start
+-- record at fault with this refusal, whose place is counted from the file's start
 pub record Damaged (file : List ℕ) (why : Refusal) : Type 0 where
   pub resolution : Resolution
   pub allowed : chosen (resolutionNumber file) ≡ Known resolution
   pub packed : isPacked file ≡ true
   pub least : headerLength ≤ length file
   pub most : length file ≤ packedMost
-  pub inside : Refusal
-  pub from : why ≡ placedAt headerLength inside
-  pub stops : Stops (planeRowsOf resolution) (rowBytesOf resolution) (drop headerLength file) inside
+  pub stops : BodyStops file headerLength (rasterOf resolution) why
 
 -- `Completion file why other q`: another file that begins with the same bytes up to the record at fault, and that is
 -- accepted with the reading q
@@ -38,21 +41,6 @@ pub record Completion (file : List ℕ) (why : Refusal) (other : List ℕ) (q : 
   pub same : take (why .place) other ≡ take (why .place) file
   pub area : ℕ
   pub accepts : readFile kindDegas other area ≡ accepted q
-
--- what a refusal calls good of a screen: its first plane rows, and of the plane row after them the first bytes
-abbrev pub goodRows : Resolution → Refusal → List ℕ → List (List ℕ)
-goodRows r why screen = take (why .«plane_row») (planeRows screen (rasterOf r))
-
-abbrev pub goodRow : Resolution → Refusal → List ℕ → List ℕ
-goodRow r why screen = take (why .«good_bytes») (planeRow screen (rasterOf r) (why .«plane_row»))
-
--- both, end to end
-abbrev pub goodPart : Resolution → Refusal → List ℕ → List ℕ
-goodPart r why screen = flatten (goodRows r why screen) ++ goodRow r why screen
-
--- how many bytes of the screen that is
-abbrev pub goodCount : Resolution → Refusal → ℕ
-goodCount r why = why .«plane_row» * rowBytesOf r + why .«good_bytes»
 
 -- `GoodBefore file why`: how far the map is good. All completions have the file's resolution, and the same first plane
 -- rows, as many as the refusal's plane row says, and of the plane row after them the same first bytes, as many as its
@@ -65,9 +53,40 @@ pub record GoodBefore (file : List ℕ) (why : Refusal) : Type 0 where
   pub same : {other : List ℕ} {q : Reading} → Completion file why other q
       → q .picture .resolution ≡ numberOf resolution
   pub rows : {other another : List ℕ} {p q : Reading} → Completion file why other p → Completion file why another q
-      → goodRows resolution why (p .screen) ≡ goodRows resolution why (q .screen)
+      → goodRows (rasterOf resolution) why (p .screen) ≡ goodRows (rasterOf resolution) why (q .screen)
   pub row : {other another : List ℕ} {p q : Reading} → Completion file why other p → Completion file why another q
-      → goodRow resolution why (p .screen) ≡ goodRow resolution why (q .screen)
+      → goodRow (rasterOf resolution) why (p .screen) ≡ goodRow (rasterOf resolution) why (q .screen)
   pub count : {other : List ℕ} {q : Reading} → Completion file why other q
-      → length (goodPart resolution why (q .screen)) ≡ goodCount resolution why
-  pub below : goodCount resolution why < screenBytes
+      → length (goodPart (rasterOf resolution) why (q .screen)) ≡ goodCount (rasterOf resolution) why
+  pub below : goodCount (rasterOf resolution) why < screenBytes
+
+-- ---- MacPaint plates
+
+-- `DamagedPlate file why`: a file of an allowed length and version, whose body, from offset 512 on, stops at a record
+-- at fault with this refusal, whose place is counted from the file's start
+pub record DamagedPlate (file : List ℕ) (why : Refusal) : Type 0 where
+  pub allowed : (version file ≡ headerIgnored) ⊎ (version file ≡ headerValid)
+  pub least : macpaint.headerLength ≤ length file
+  pub most : length file ≤ longestFile
+  pub stops : BodyStops file macpaint.headerLength plateRaster why
+
+-- `PlateCompletion file why other u`: another file that begins with the same bytes up to the record at fault, and that
+-- is accepted with u
+pub record PlateCompletion (file : List ℕ) (why : Refusal) (other : List ℕ) (u : UnpackedBody) : Type 0 where
+  pub bytes : Bytes other
+  pub same : take (why .place) file ≡ take (why .place) other
+  pub area : ℕ
+  pub accepts : readPlate other area ≡ accepted u
+
+-- `PlateGoodBefore file why`: how far the plate is good, as `GoodBefore` says it of a screen. Where exactly the body
+-- stops is said by `DamagedPlate`.
+pub record PlateGoodBefore (file : List ℕ) (why : Refusal) : Type 0 where
+  pub rows : {other another : List ℕ} {u v : UnpackedBody} → PlateCompletion file why other u
+      → PlateCompletion file why another v
+      → goodRows plateRaster why (u .image) ≡ goodRows plateRaster why (v .image)
+  pub row : {other another : List ℕ} {u v : UnpackedBody} → PlateCompletion file why other u
+      → PlateCompletion file why another v
+      → goodRow plateRaster why (u .image) ≡ goodRow plateRaster why (v .image)
+  pub count : {other : List ℕ} {u : UnpackedBody} → PlateCompletion file why other u
+      → length (goodPart plateRaster why (u .image)) ≡ goodCount plateRaster why
+  pub below : goodCount plateRaster why < plateBytes

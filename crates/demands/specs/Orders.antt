@@ -1,6 +1,6 @@
 -- The order of judging of each operation as the papers give it (document 01, "Order of judging", "Numbers given back";
--- document 02, ticket 1): a list of tests, each with its refusal number. The papers' numbers stand here a second time;
--- that the contracts' definitions judge in these orders is proved (proofs/Orders.antt).
+-- document 02, tickets 1 and 9): a list of tests, each with its refusal number. The papers' numbers stand here a second
+-- time; that the contracts' definitions judge in these orders is proved (proofs/Orders.antt).
 use Prim.Native.Nat.{ℕ, _+_, _-_, _*_, _/_, _%_, _^_}
 use mathlib.Core.Bool.{Bool, false, not, cond, _&&_, _||_}
 use mathlib.Core.List.{List, [], _∷_}
@@ -240,6 +240,36 @@ writeOrder form p screen out =
     ∷ (eqb form 3 && leb 32000 (length (leastBody (rasterAt (p .resolution)) screen)), 9)
     ∷ []
 
+-- ---- MacPaint plates (document 02, ticket 9)
+
+-- the 720 rows of 72 bytes of a body, which begins at 512
+abbrev pub plateProgress : List ℕ → RowsProgress
+plateProgress file = rowsProgress 720 72 (drop 512 file)
+
+-- the first long: its high word first
+abbrev pub firstLong : List ℕ → ℕ
+firstLong file = wordAt file 0 * 65536 + wordAt file 2
+
+-- "1, 3 (under 512 or above 51,711), 20 version neither 0 nor 2, 6, 7, 8 for bytes left": after the body stand 0 bytes
+abbrev pub readPlateOrder : List ℕ → List ℕ → List Test
+readPlateOrder file plate =
+    (ltb (length plate) 51840, 1)
+    ∷ (ltb (length file) 512 || ltb 51711 (length file), 3)
+    ∷ (not (eqb (firstLong file) 0 || eqb (firstLong file) 2), 20)
+    ∷ recordFaults (plateProgress file .fault)
+    ((not (eqb (length file) (512 + plateProgress file .bytes + 0)), 8) ∷ [])
+
+-- a plate's raster: groups of 16 pixels
+abbrev pub plateAt : Raster
+plateAt = record { lines = 720; groups = 36; planes = 1 }
+
+-- "1 (output under 51,711 or plate under 51,840), 9"; 9: no packed body below 51,200 exists
+abbrev pub writePlateOrder : List ℕ → List ℕ → List Test
+writePlateOrder plate out =
+    (ltb (length out) 51711 || ltb (length plate) 51840, 1)
+    ∷ (leb 51200 (length (leastBody plateAt plate)), 9)
+    ∷ []
+
 -- ---- the numbers that an operation can give back
 
 abbrev pub oneOf : List ℕ → ℕ → Bool
@@ -275,3 +305,9 @@ writeNumbers form =
     (cond (eqb form 3) (0 ∷ 1 ∷ 5 ∷ 9 ∷ [])
     (cond (eqb form 4) (0 ∷ 1 ∷ 5 ∷ [])
     (1 ∷ 2 ∷ []))))
+
+abbrev pub readPlateNumbers : List ℕ
+readPlateNumbers = 0 ∷ 1 ∷ 3 ∷ 6 ∷ 7 ∷ 8 ∷ 20 ∷ []
+
+abbrev pub writePlateNumbers : List ℕ
+writePlateNumbers = 0 ∷ 1 ∷ 9 ∷ []

@@ -2,20 +2,14 @@
 use Prim.Native.Nat.{ℕ}
 use mathlib.Core.Path.{_≡_}
 use mathlib.Core.Bool.{true}
-use mathlib.Core.Logic.{_⊎_}
 use mathlib.Core.List.{List}
 use Rattle.outcome.specs.declared.Refusal.{Refusal}
-use Rattle.outcome.specs.Refusal.{inputEnds, recordCrosses}
 use Rattle.degas.specs.Opening.{isPacked}
 use Rattle.reader.specs.Reading.{kindDegas}
 
 -- both are 0
 abbrev pub BothZero : Refusal → Type 0
 BothZero why = (why .«plane_row» ≡ 0) × (why .«good_bytes» ≡ 0)
-
--- the numbers of a record at fault, 6 and 7
-abbrev pub AtRecord : ℕ → Type 0
-AtRecord number = (number ≡ inputEnds) ⊎ (number ≡ recordCrosses)
 
 -- both are 0 unless the number is one of the given ones; an acceptance has the number 0
 abbrev pub ZeroUnless : (ℕ → Type 0) → Refusal → Type 0

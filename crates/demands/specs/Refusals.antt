@@ -8,6 +8,8 @@ use Rattle.outcome.specs.declared.Refusal.{Refusal}
 use Rattle.outcome.specs.Outcome.{Outcome, later, refusalOf}
 use Rattle.packbits.specs.Row.{Row, rowAnswer, rowOutput}
 use Rattle.bodies.specs.Packing.{PackedBody, packedAnswer, packedOutput}
+use Rattle.bodies.specs.Reading.{bodyArea}
+use Rattle.bodies.specs.Unpacking.{UnpackedBody, unpackedAnswer}
 use Rattle.tally.specs.Counts.{tallyAnswer}
 use Rattle.colour.specs.Palette.{Rgb}
 use Rattle.colour.specs.Shown.{colourAnswer}
@@ -30,11 +32,17 @@ abbrev pub RowRefusal : Outcome Row → List ℕ → Type 0
 RowRefusal o out =
     Refuses (rowAnswer o .refusal) → (rowOutput o out ≡ out) × (rowAnswer o .bytes ≡ 0) × (rowAnswer o .records ≡ 0)
 
--- the body of a raster packed, with its output
-abbrev pub BodyRefusal : Outcome PackedBody → List ℕ → Type 0
-BodyRefusal o out =
+-- the body of a raster packed, with its output from an offset on
+abbrev pub BodyRefusal : Outcome PackedBody → ℕ → List ℕ → Type 0
+BodyRefusal o at out =
     Refuses (packedAnswer o .refusal)
-    → (packedOutput o out ≡ out) × (packedAnswer o .body ≡ 0) × (packedAnswer o .records ≡ 0)
+    → (packedOutput o at out ≡ out) × (packedAnswer o .body ≡ 0) × (packedAnswer o .records ≡ 0)
+
+-- the body of a raster read, and so a plate, with the area for its image
+abbrev pub BodyReadRefusal : Outcome UnpackedBody → List ℕ → Type 0
+BodyReadRefusal o area =
+    Refuses (unpackedAnswer o .refusal)
+    → (bodyArea o area ≡ area) × (unpackedAnswer o .body ≡ 0) × (unpackedAnswer o .records ≡ 0)
 
 -- a tally, a colour and a pond reading change no area
 abbrev pub TallyRefusal : Outcome (List ℕ) → Type 0

@@ -1,11 +1,11 @@
 -- Parts of a slice, as `&s[a..]` and `&s[a..e]` lend them.
 use Prim.Native.Nat.{ℕ, _+_, _-_, _≤_}
 use native.Mathlib.Omega.{arith}
-use mathlib.Core.Path.{_≡_, ap, _∙_}
-use mathlib.Core.List.{List, _++_, append-nil}
+use mathlib.Core.Path.{_≡_, sym, ap, _∙_}
+use mathlib.Core.List.{List, _++_, append-assoc, append-nil}
 use borrow.Rule.Slice.PartMut.{putMid, post-is}
 use lib.ListN.{length, take, drop, length-append, length-drop, take-append-drop}
-use lib.Seq.{take-all, take-length, drop-length}
+use lib.Seq.{take-all, take-length, drop-length, drop-append-le}
 use Rattle.lists.specs.Over.{over, overAt}
 use Rattle.lists.proofs.Over.{over-more}
 
@@ -50,3 +50,21 @@ module _ {A : Type 0} where
   copied-part s d out at n part is e =
       let more : at + n - at ≡ n = omega arith in
       e ∙ copied-over part d ∙ ap (λ (l : List A). over l d) (is ∙ ap (λ (k : ℕ). take k (drop at s)) more)
+
+  -- ---- the front of a list lent alone, with what is behind it put back
+
+  -- given back with s over it
+  pub over-cut : (s d part : List A) (n : ℕ) → length part ≡ length (take n d) → part ≡ over s (take n d)
+      → part ++ drop n d ≡ over s d
+  over-cut s d part n kept is =
+      let first : List A = take n d in
+      let fits : length s ≤ length first =
+      omega (arith, kept, ap length is, length-append s (drop (length s) first), length-drop (length s) first) in
+      ap (λ (l : List A). l ++ drop n d) is
+      ∙ append-assoc s (drop (length s) first) (drop n d)
+      ∙ ap (λ (l : List A). s ++ l)
+      (sym (drop-append-le (length s) first (drop n d) fits) ∙ ap (drop (length s)) (take-append-drop n d))
+
+  -- given back as it was
+  pub kept-cut : (d part : List A) (n : ℕ) → part ≡ take n d → part ++ drop n d ≡ d
+  kept-cut d part n is = ap (λ (l : List A). l ++ drop n d) is ∙ take-append-drop n d

@@ -29,11 +29,11 @@ inputEnds = 6
 abbrev pub recordCrosses : ℕ
 recordCrosses = 7
 
--- after the body not exactly 32 bytes
+-- after the body not exactly the bytes that the format has there: 32 of DEGAS, none of MacPaint
 abbrev pub wrongTail : ℕ
 wrongTail = 8
 
--- no packed body below 32,000 exists
+-- no packed body below the format's limit exists: 32,000 bytes of DEGAS, 51,200 of MacPaint
 abbrev pub noPackedBody : ℕ
 noPackedBody = 9
 
@@ -52,3 +52,7 @@ runTooLong = 12
 -- after the last run, data left or words missing
 abbrev pub sizeMismatch : ℕ
 sizeMismatch = 13
+
+-- MacPaint version neither 0 nor 2
+abbrev pub wrongVersion : ℕ
+wrongVersion = 20

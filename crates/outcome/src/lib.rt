@@ -23,10 +23,10 @@ pub const INPUT_ENDS: u8 = 6;
 // A record crosses its row's end.
 pub const RECORD_CROSSES: u8 = 7;
 
-// After the packed body there are not exactly 32 bytes.
+// After the packed body there are not exactly the bytes that the format has there: 32 of DEGAS, none of MacPaint.
 pub const WRONG_TAIL: u8 = 8;
 
-// No packed body below 32,000 bytes exists.
+// No packed body below the format's limit exists: 32,000 bytes of DEGAS, 51,200 of MacPaint.
 pub const NO_PACKED_BODY: u8 = 9;
 
 // A number is out of range.
@@ -40,6 +40,9 @@ pub const RUN_TOO_LONG: u8 = 12;
 
 // After the last run there is data left, or words are missing.
 pub const SIZE_MISMATCH: u8 = 13;
+
+// The version of a MacPaint file is neither 0 nor 2.
+pub const WRONG_VERSION: u8 = 20;
 
 // Why an input is refused. All are 0 where it is accepted.
 #[repr(C)]

@@ -1,6 +1,6 @@
 -- Unpacking rows, or one row, is refused exactly where the relation `Stops` says, and with its numbers.
 use mathlib.Core.Path.{_≡_, refl, sym, ap, ap₂, _∙_, subst}
-use mathlib.Core.Logic.{_↔_}
+use mathlib.Core.Logic.{_↔_, inl, inr}
 use Prim.Native.Nat.{ℕ, zero, suc, _+_, _-_, _<_}
 use native.Mathlib.Nat.{sub-zero}
 use native.Mathlib.Omega.{arith}
@@ -23,7 +23,7 @@ use Rattle.packbits.specs.Rows.{stoppedIn, rowStep, rowsFrom, rowsProgre
 use Rattle.packbits.specs.Unpacks.{Unpacks}
 use Rattle.packbits.specs.UnpacksRows.{none, more}
 use Rattle.packbits.specs.WholeRecords.{WholeRecords, noRecords, oneMore}
-use Rattle.packbits.specs.Stops.{Faulty, ended, crosses, truncated, Stops}
+use Rattle.packbits.specs.Stops.{AtRecord, Faulty, ended, crosses, truncated, Stops}
 use Rattle.packbits.proofs.Records.{control-whole, judged-crossing, judged-truncated, is-whole}
 use Rattle.packbits.proofs.Unpack.{progress-fault, by-records, bounded}
 use Rattle.packbits.proofs.WholeRecords.{record-front}
@@ -55,6 +55,12 @@ fault-faulty (x ∷ rest) room e =
     go true d p q f = crosses (ltb-true _ _ p)
     go false true p q f = truncated (ltb-false _ _ p) (ltb-true _ _ q)
     go false false p q f = absurd (f (control-whole x))
+
+-- a record at fault has one of its numbers
+pub faulty-number : {input : List ℕ} {room number : ℕ} → Faulty input room number → AtRecord number
+faulty-number ended = inl refl
+faulty-number (crosses h) = inr refl
+faulty-number (truncated h k) = inl refl
 
 pub progress-faulty : {input : List ℕ} {room number : ℕ} → Faulty input room number → 0 < room
     → progress input room ≡ stopped number

@@ -3,6 +3,7 @@
 -- "Packed rows", "Numbers given back".
 use Prim.Native.Nat.{ℕ, _+_, _-_, _≤_, _<_}
 use mathlib.Core.Path.{_≡_}
+use mathlib.Core.Logic.{_⊎_}
 use mathlib.Core.List.{List, [], _∷_, _++_}
 use lib.ListN.{length, getD, take}
 use Rattle.lists.specs.Wide.{Wide}
@@ -11,6 +12,10 @@ use Rattle.outcome.specs.Refusal.{inputEnds, recordCrosses}
 use Rattle.packbits.specs.Records.{control, packedLen, rowLen}
 use Rattle.packbits.specs.UnpacksRows.{UnpacksRows}
 use Rattle.packbits.specs.WholeRecords.{WholeRecords}
+
+-- the numbers of a record at fault, 6 and 7
+abbrev pub AtRecord : ℕ → Type 0
+AtRecord number = (number ≡ inputEnds) ⊎ (number ≡ recordCrosses)
 
 -- `Faulty input room number`: the record at the front of the input, with so much room left in the row, is at fault with
 -- this number. The row's end is judged before missing input.

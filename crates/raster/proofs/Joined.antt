@@ -8,14 +8,15 @@ use native.Mathlib.Nat.{zero-mul, suc-mul, div-add-mod', mul-add-mod-self-right}
 use native.Mathlib.Numerals.{add-one}
 use native.Mathlib.Omega.{arith}
 use lib.Dec.{eqb}
-use lib.ListN.{length, getD, take, drop, length-append, List·getD-append}
+use lib.ListN.{length, getD, take, drop, length-append, length-drop, List·getD-append}
 use lib.Seq.{getD-append-add, getD-take, getD-drop}
 use Rattle.lists.specs.Tabulate.{tabulate}
 use Rattle.lists.specs.Wide.{Wide}
 use Rattle.lists.proofs.Tabulate.{getD-tabulate, tabulate-ext, tabulate-take}
 use Rattle.raster.specs.declared.Raster.{Raster}
 use Rattle.raster.specs.Shape.{rowBytes, rows, lineBytes, bytes}
-use Rattle.raster.specs.PlaneRows.{rowAt, columnAt, imageOf, withRow, putRows}
+use Rattle.raster.specs.Offsets.{groupOffset, wordOffset}
+use Rattle.raster.specs.PlaneRows.{rowOffset, planeRow, planeRows, rowAt, columnAt, imageOf, withRow, putRows}
 use Rattle.raster.specs.Joined.{joinedByte, joinedImage, interleaved, interleavedLines, planesOf, planeBytes}
 use Rattle.raster.specs.Joined.{Interleaved}
 use Rattle.raster.proofs.Places.{rowAt-lt, columnAt-lt}
@@ -186,3 +187,24 @@ joined-image r list s wide all e =
     sym (getD-take (length (flatten list)) s (rowAt r o * rowBytes r + columnAt r o) 0 (b .0))
     ∙ ap (λ (l : List ℕ). getD l (rowAt r o * rowBytes r + columnAt r o) 0) e
     ∙ b .1)
+
+-- ---- the plane rows of one plane, where they stand
+
+one-plane-offset : (r : Raster) (n c : ℕ) → r .planes ≡ 1 → rowOffset r n c ≡ n * rowBytes r + c
+unfolding rowOffset wordOffset groupOffset
+one-plane-offset r n c one =
+    ap (λ (p : ℕ). (n / p * r .groups + c / 2) * (p * 2) + n % p * 2 + c % 2) one
+    ∙ (let same : n / 1 ≡ n = omega arith in
+    omega (arith, ap (λ (k : ℕ). k * r .groups) same, mul-assoc n (r .groups) 2))
+
+pub one-plane-rows : (s : List ℕ) (r : Raster) → r .planes ≡ 1 → bytes r ≤ length s
+    → planeRows s r ≡ tabulate (rows r) (λ n. take (rowBytes r) (drop (n * rowBytes r) s))
+unfolding planeRows planeRow
+one-plane-rows s r one full =
+    tabulate-ext (rows r) _ _ (λ n h.
+    let w : ℕ = rowBytes r in
+    let there : w ≤ length (drop (n * w) s) = omega (arith, row-ends r n h, length-drop (n * w) s) in
+    tabulate-ext w _ (λ c. getD (drop (n * w) s) c 0)
+    (λ c k.
+    ap (λ (i : ℕ). getD s i 0) (one-plane-offset r n c one) ∙ sym (getD-drop (n * w) s c 0))
+    ∙ tabulate-take w (drop (n * w) s) 0 there)

@@ -23,6 +23,7 @@ use Rattle.resolution.specs.Shapes.{screenBytes, rasterOf}
 use Rattle.resolution.proofs.Choice.{known-le, chosen-number}
 use Rattle.resolution.proofs.Rasters.{raster-bytes}
 use Rattle.bodies.specs.Packing.{leastBody}
+use Rattle.bodies.proofs.Fits.{fits-length}
 use Rattle.bodies.proofs.Least.{least-shortest}
 use Rattle.bodies.proofs.Packing.{packed, limit-below}
 use Rattle.picture.specs.declared.Picture.{Picture}
@@ -32,13 +33,13 @@ use Rattle.picture.specs.Reading.{Reading}
 use Rattle.picture.specs.Writing.{Writing, fileBytes, writeAnswer}
 use Rattle.picture.proofs.Whole.{whole-with-tail}
 use Rattle.degas.specs.declared.Form.the-variants.{Packed}
-use Rattle.degas.specs.Layout.{paletteStart, headerLength, bodyLimit, packedBit, header, packedFile}
+use Rattle.degas.specs.Layout.{paletteStart, headerLength, tailLength, bodyLimit, packedBit, header, packedFile}
 use Rattle.degas.specs.Opening.{isPacked}
 use Rattle.degas.specs.Reading.{readDegas}
 use Rattle.degas.specs.Writing.{packedWriting, writePacked}
 use Rattle.degas.specs.Accepts as fitting
 use Rattle.degas.specs.Accepts.{PackedFits, Fits, packedGiven, fitsGiven}
-use Rattle.degas.proofs.Acceptance.{packed-length, degas-acceptance}
+use Rattle.degas.proofs.Acceptance.{degas-acceptance}
 use Rattle.degas.proofs.FileLayout.{header-word, length-packedFile}
 use Rattle.degas.proofs.ReadDegas.{read-fits}
 use Rattle.degas.proofs.ScreenRaster.{in-range}
@@ -87,7 +88,7 @@ reads-into {file} f area room =
 record Parts (file : List ℕ) (q : Reading) : Type 0 where
   r : Resolution
   fits : PackedFits file r
-  gives : q ≡ packedGiven fits
+  gives : q ≡ packedGiven r fits
 
 parts : {file : List ℕ} {q : Reading} → Bytes file → ReadsPacked file q → Parts file q
 parts {file} {q} bytes f =
@@ -105,24 +106,27 @@ readAgain q w = record { picture = q .picture; body = w .body; records = w .reco
 
 -- ---- what rewriting makes of the parts: the picture's form 3 with the screen's least body
 
-module _ {file : List ℕ} {r : Resolution} (fits : PackedFits file r) where
+module _ {file : List ℕ} (r : Resolution) (fits : PackedFits file r) where
   abbrev picture : Picture
-  picture = packedGiven fits .picture
+  picture = packedGiven r fits .picture
 
   abbrev least : List ℕ
-  least = leastBody (rasterOf r) (fits .screen)
+  least = leastBody (rasterOf r) (fits .image)
 
   abbrev writing : Writing
-  writing = packedWriting picture (packed (rasterOf r) (fits .screen) bodyLimit)
+  writing = packedWriting picture (packed (rasterOf r) (fits .image) bodyLimit)
 
   least-below : length least ≤ length (fits .body)
-  least-below = least-shortest (rasterOf r) (fits .screen) (in-range r) .shortest (fits .runs)
+  least-below = least-shortest (rasterOf r) (fits .image) (in-range r) .shortest (fits .runs)
+
+  size : length (fits .image) ≡ screenBytes
+  size = fits .size ∙ raster-bytes r
 
   whole : WholePicture picture
   whole = whole-with-tail file (numberOf r) paletteStart (headerLength + length (fits .body))
 
   -- from any area with the screen's plane rows
-  written : (s : List ℕ) → screenBytes ≤ length s → planeRows s (rasterOf r) ≡ planeRows (fits .screen) (rasterOf r)
+  written : (s : List ℕ) → screenBytes ≤ length s → planeRows s (rasterOf r) ≡ planeRows (fits .image) (rasterOf r)
       → (out : ℕ) → fileBytes ≤ out → writeFile formPacked picture s out ≡ accepted writing
   unfolding writePacked
   written s full same out enough =
@@ -135,31 +139,37 @@ module _ {file : List ℕ} {r : Resolution} (fits : PackedFits file r) where
       (omega (arith, ap length body, least-below, fits .below))))
       ∙ rw same
 
-  written-screen : writeFile formPacked picture (fits .screen) fileBytes ≡ accepted writing
-  written-screen = written (fits .screen) (omega (arith, fits .size)) refl fileBytes (omega arith)
+  written-screen : writeFile formPacked picture (fits .image) fileBytes ≡ accepted writing
+  written-screen = written (fits .image) (omega (arith, size)) refl fileBytes (omega arith)
 
   written-area : (area out : List ℕ) → Lent area out
-      → writeFile formPacked picture (over (fits .screen) area) (length out) ≡ accepted writing
+      → writeFile formPacked picture (over (fits .image) area) (length out) ≡ accepted writing
   written-area area out lent =
-      let long = length-over (fits .screen) area (omega (arith, fits .size, lent .room)) in
-      written (over (fits .screen) area) (omega (arith, long, lent .room))
-      (planeRows-front (over (fits .screen) area) (fits .screen) (rasterOf r)
-      (λ o h. getD-over-in (fits .screen) area o 0 (omega (arith, fits .size, raster-bytes r))))
+      let long = length-over (fits .image) area (omega (arith, size, lent .room)) in
+      written (over (fits .image) area) (omega (arith, long, lent .room))
+      (planeRows-front (over (fits .image) area) (fits .image) (rasterOf r)
+      (λ o h. getD-over-in (fits .image) area o 0 (omega (arith, fits .size))))
       (length out)
       (lent .enough)
 
   -- read again: the same picture and screen
   written-back : (area : ℕ) → screenBytes ≤ area
-      → readFile kindDegas (writing .file) area ≡ accepted (readAgain (packedGiven fits) writing)
+      → readFile kindDegas (writing .file) area ≡ accepted (readAgain (packedGiven r fits) writing)
   written-back area room =
-      written-read picture whole (fits .screen) area room formPacked fileBytes writing written-screen
-      ∙ rw (take-all screenBytes (fits .screen) (omega (arith, fits .size)))
+      written-read picture whole (fits .image) area room formPacked fileBytes writing written-screen
+      ∙ rw (take-all screenBytes (fits .image) (omega (arith, size)))
 
   writing-packed : isPacked (writing .file) ≡ true
   writing-packed = packed-bit picture whole (known-le (numberOf r) r (chosen-number r)) least
 
   writing-length : length (writing .file) ≤ length file
-  writing-length = omega (arith, length-packedFile picture whole least, packed-length file r fits, least-below)
+  writing-length =
+      omega (
+        arith,
+        length-packedFile picture whole least,
+        fits-length file headerLength tailLength bodyLimit (rasterOf r) fits,
+        least-below,
+      )
 
 -- ---- one file
 
@@ -168,12 +178,13 @@ module _ {file : List ℕ} {q : Reading} (bytes : Bytes file) (f : ReadsPacked f
   found = parts bytes f
 
   abbrev canonical : Writing
-  canonical = writing (found .fits)
+  canonical = writing (found .r) (found .fits)
 
   canonical-back : (area : ℕ) → screenBytes ≤ area
       → readFile kindDegas (canonical .file) area ≡ accepted (readAgain q canonical)
   canonical-back area room =
-      written-back (found .fits) area room ∙ ap (λ (b : Reading). accepted (readAgain b canonical)) (sym (found .gives))
+      written-back (found .r) (found .fits) area room
+      ∙ ap (λ (b : Reading). accepted (readAgain b canonical)) (sym (found .gives))
 
   module _ (area out : List ℕ) (lent : Lent area out) where
     rewrite-read : rewrite area out file ≡ writeRead area out q
@@ -183,7 +194,7 @@ module _ {file : List ℕ} {q : Reading} (bytes : Bytes file) (f : ReadsPacked f
     rewrite-is =
         rewrite-read
         ∙ ap (writeRead area out) (found .gives)
-        ∙ written-area (found .fits) area out lent
+        ∙ written-area (found .r) (found .fits) area out lent
 
     rewritten-is : rewritten area out file ≡ canonical .file
     rewritten-is = ap (fileIn out) rewrite-is ∙ take-append-seam (canonical .file) (drop (length (canonical .file)) out)
@@ -192,7 +203,7 @@ module _ {file : List ℕ} {q : Reading} (bytes : Bytes file) (f : ReadsPacked f
     pub never-longer : NeverLonger area out file
     never-longer = record {
       written = ap (λ (o : Outcome Writing). writeAnswer o .refusal .number) rewrite-is;
-      bytes = omega (arith, ap length rewritten-is, writing-length (found .fits));
+      bytes = omega (arith, ap length rewritten-is, writing-length (found .r) (found .fits));
     }
 
     -- what is written is a packed DEGAS file of the same picture, whose reading is accepted
@@ -200,7 +211,7 @@ module _ {file : List ℕ} {q : Reading} (bytes : Bytes file) (f : ReadsPacked f
     rewritten-reads = (
       readAgain q canonical,
       record {
-        packed = ap isPacked rewritten-is ∙ writing-packed (found .fits);
+        packed = ap isPacked rewritten-is ∙ writing-packed (found .r) (found .fits);
         area = screenBytes;
         reads =
             ap (λ (l : List ℕ). readFile kindDegas l screenBytes) rewritten-is

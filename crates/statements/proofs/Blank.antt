@@ -46,14 +46,14 @@ length-zeros n = length-replicate {A = ℕ} n 0
 
 -- ---- the plane rows of a blank screen, and a body of them
 
-zero-rows : (n : ℕ) (r : Raster) → planeRows (zeros n) r ≡ replicate (rows r) (zeros (rowBytes r))
+pub zero-rows : (n : ℕ) (r : Raster) → planeRows (zeros n) r ≡ replicate (rows r) (zeros (rowBytes r))
 unfolding planeRow planeRows
 zero-rows n r =
     tabulate-constant (rows r) (λ k. planeRow (zeros n) r k) (zeros (rowBytes r))
     (λ k. tabulate-constant (rowBytes r) (λ c. getD (zeros n) (rowOffset r k c) 0) 0
     (λ c. getD-zeros n (rowOffset r k c)))
 
-unpacks-equal : (n : ℕ) (body row : List ℕ) → Unpacks body row 1
+pub unpacks-equal : (n : ℕ) (body row : List ℕ) → Unpacks body row 1
     → UnpacksRows (flatten (replicate n body)) (replicate n row) n
 unfolding flatten
 unpacks-equal zero body row u = none
@@ -79,12 +79,12 @@ blank-below Low = let n : length (blankBody Low) ≡ 1600 = refl in omega arith
 blank-below Medium = let n : length (blankBody Medium) ≡ 800 = refl in omega arith
 blank-below High = let n : length (blankBody High) ≡ 800 = refl in omega arith
 
-bytes-equal : (n : ℕ) (body : List ℕ) → Bytes body → Bytes (flatten (replicate n body))
+pub bytes-equal : (n : ℕ) (body : List ℕ) → Bytes body → Bytes (flatten (replicate n body))
 unfolding flatten
 bytes-equal zero body b = no-bytes
 bytes-equal (suc n) body b = bytes-append body (flatten (replicate n body)) b (bytes-equal n body b)
 
-pair-bytes : (x : ℕ) → x < 256 → Bytes (x ∷ 0x00 ∷ [])
+pub pair-bytes : (x : ℕ) → x < 256 → Bytes (x ∷ 0x00 ∷ [])
 pair-bytes x h = bytes-cons x (0x00 ∷ []) h (bytes-cons 0 [] (omega arith) no-bytes)
 
 pub blank-bytes : (r : Resolution) → Bytes (blankBody r)
@@ -97,7 +97,7 @@ packed-fits = record {
   header = 0x80 ∷ 0x00 ∷ zeros 32;
   body = blankBody Low;
   tail = zeros 32;
-  screen = blankScreen;
+  image = blankScreen;
   records = 800;
   parts = refl;
   before = refl;

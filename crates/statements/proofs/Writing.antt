@@ -99,10 +99,10 @@ module _ (r : Resolution) (p : Picture) (screen out : List ℕ) (stated : Stated
             ap (λ (s : List ℕ). take (length (q .packed)) (drop headerLength s)) later
             ∙ body-place p whole (q .packed) _;
         total = omega (arith, ap (λ (o : Outcome Writing). writeAnswer o .length) e, q .all, body);
-        rows = subst (LeastRowsOf (q .packed) (planeRows screen (rasterOf r))) records (q .rows);
-        least = subst (ShortestBody (rasterOf r) screen (q .packed)) records (q .least);
+        rows = subst (LeastRowsOf (q .packed) (planeRows screen (rasterOf r))) records (q .least .rows);
+        least = subst (ShortestBody (rasterOf r) screen (q .packed)) records (q .least .least);
         body = body ∙ q .size;
-        below = subst (λ (n : ℕ). n < bodyLimit) (sym body) (q .below);
+        below = subst (λ (n : ℕ). n < bodyLimit) (sym (body ∙ q .size)) (q .least .below);
       }
 
 -- the file that is answered is within the output

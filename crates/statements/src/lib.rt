@@ -1,6 +1,7 @@
-// The demands of document 00 said of the operations themselves: each function here only calls public operations, and
-// promises the demand. Nothing is assumed of an argument but its type. The clause `refused` is demand 1, "then no byte
-// of any lent area has changed", and `whole` the complete answer of the operations. Definitions: specs/.
+// The demands of document 00, and those of document 02, ticket 9, said of the operations themselves: each function here
+// only calls public operations, and promises the demand. Nothing is assumed of an argument but its type. The clause
+// `refused` is demand 1, "then no byte of any lent area has changed", and `whole` the complete answer of the
+// operations. Definitions: specs/.
 ghost use mathlib.Core.Path.{_≡_};
 ghost use mathlib.Core.Logic.{_↔_};
 ghost use mathlib.Core.List.{List};
@@ -9,18 +10,24 @@ ghost use lib.ListN.{length};
 ghost use Rattle.outcome.specs.Refusal.{noPackedBody};
 ghost use Rattle.resolution.specs.declared.Resolution.{Resolution};
 ghost use Rattle.unpack.specs.AcceptsRow.{AcceptsRow};
+ghost use Rattle.macpaint.specs.Accepts.{AcceptsPlate, plateGiven};
 ghost use Rattle.writer.specs.Writing.{formPacked};
 ghost use Rattle.demands.specs.Accepted.{Accepts, given};
 ghost use Rattle.demands.specs.Refusals.{Refuses};
 ghost use Rattle.demands.specs.RoundTrips.{kindOf};
 ghost use Rattle.statements.specs.Areas.{HoldsScreen, Stated};
 ghost use Rattle.statements.specs.Blank.{Blank};
+ghost use Rattle.statements.specs.Plates.{HoldsPlate, StatedPlate, ReadsPlate, ReadsNoPlate, AnswersPlateRead};
+ghost use Rattle.statements.specs.Plates.{blankPlateFile, NoPlateBodyBelow, WritesLeastPlate};
+ghost use Rattle.statements.specs.Plates.{PlateNeverAbove, PlateAttained, PlateBothOccur, AnswersPlateWrite};
+ghost use Rattle.statements.specs.Plates.{PlateBack, AnswersPlateRoundTrip};
 ghost use Rattle.statements.specs.Reading.{Reads, ReadsNothing, AnswersRead};
 ghost use Rattle.statements.specs.RoundTrips.{IsWritten, ReadsBack, AnswersRoundTrip};
 ghost use Rattle.statements.specs.Rows.{Packable, PacksLeast, UnpacksToRow, Unpacked, RowRefused};
 ghost use Rattle.statements.specs.Rows.{AnswersPack, AnswersUnpack};
 ghost use Rattle.statements.specs.Writing.{NoBodyBelow, WritesLeast, NeverAbove, Attained, BothOccur};
 ghost use Rattle.statements.specs.Writing.{WritesNothing, AnswersWrite};
+use bodies::BodyAnswer;
 use packbits::RowAnswer;
 use picture::Picture;
 use picture::ReadAnswer;
@@ -34,6 +41,12 @@ use writer::FORM_PACKED;
 pub struct RoundTrip {
     pub written: WriteAnswer,
     pub read: ReadAnswer,
+}
+
+// The answers of a plate's writing and of its reading back.
+pub struct PlateRoundTrip {
+    pub written: WriteAnswer,
+    pub read: BodyAnswer,
 }
 
 // Demand 2: "Given a lent area of the stated size, a file of a known kind is accepted exactly when its flag and
@@ -144,4 +157,63 @@ pub fn unpack_row_exactly(packed: &[u8], width: usize, out: &mut [u8]) -> RowAns
     ensures whole { λ a. ⌜ AnswersUnpack (now (packed .entry)) width a (now (out .entry)) (now (out .exit)) ⌝ }
 {
     unpack::unpack_row(packed, width, out)
+}
+
+// Document 02, ticket 9: a MacPaint file is "accepted exactly when no listed refusal comes" (ticket 5), and what an
+// accepted file gives. The blank plate's file is accepted.
+pub fn read_plate(file: &[u8], plate: &mut [u8]) -> BodyAnswer
+    ensures exactly { λ a.
+        ⌜ (HoldsPlate (now (plate .entry)) → (a .refusal .number ≡ 0) ↔ AcceptsPlate (now (file .entry))) ⌝ }
+    ensures accepted { λ a.
+        ⌜ (HoldsPlate (now (plate .entry)) → (fits : AcceptsPlate (now (file .entry)))
+        → ReadsPlate (plateGiven fits) a (now (plate .entry)) (now (plate .exit))) ⌝ }
+    ensures blank { λ a.
+        ⌜ (HoldsPlate (now (plate .entry)) → now (file .entry) ≡ blankPlateFile → a .refusal .number ≡ 0) ⌝ }
+    ensures refused { λ a. ⌜ (Refuses (a .refusal) → ReadsNoPlate a (now (plate .entry)) (now (plate .exit))) ⌝ }
+    ensures whole { λ a. ⌜ AnswersPlateRead (now (file .entry)) a (now (plate .entry)) (now (plate .exit)) ⌝ }
+{
+    macpaint::read(file, plate)
+}
+
+// Document 02, ticket 9: "Demand 3's exactness holds with this limit, a plate's 720 rows standing for the plane rows
+// and its file being 512 bytes longer than its body; a plate's worst least body is 52,560."
+pub fn write_plate(plate: &[u8], out: &mut [u8]) -> WriteAnswer
+    ensures exactly { λ a.
+        ⌜ (StatedPlate (now (plate .entry)) (now (out .entry))
+        → (a .refusal .number ≡ noPackedBody) ↔ NoPlateBodyBelow (now (plate .entry))) ⌝ }
+    ensures otherwise { λ a.
+        ⌜ (StatedPlate (now (plate .entry)) (now (out .entry)) → (NoPlateBodyBelow (now (plate .entry)) → ⊥)
+        → WritesLeastPlate (now (plate .entry)) a (now (out .entry)) (now (out .exit))) ⌝ }
+    ensures bound { λ _.
+        ⌜ (HoldsPlate (now (plate .entry)) → PlateNeverAbove (now (plate .entry))) × PlateAttained ⌝ }
+    ensures occur { λ a.
+        ⌜ (StatedPlate (now (plate .entry)) (now (out .entry)) → PlateBothOccur (now (plate .entry)) a) ⌝ }
+    ensures refused { λ a. ⌜ (Refuses (a .refusal) → WritesNothing a (now (out .entry)) (now (out .exit))) ⌝ }
+    ensures whole { λ a. ⌜ AnswersPlateWrite (now (plate .entry)) a (now (out .entry)) (now (out .exit)) ⌝ }
+{
+    macpaint::write(plate, out)
+}
+
+// A plate written and read back. The file is the output's front, as long as the writing answers; a writing that is
+// refused is not read back.
+pub fn write_and_read_plate(plate: &[u8], out: &mut [u8], area: &mut [u8]) -> PlateRoundTrip
+    ensures back { λ b.
+        ⌜ (HoldsPlate (now (area .entry)) → b .written .refusal .number ≡ 0
+        → PlateBack (now (plate .entry)) b (now (area .entry)) (now (area .exit))) ⌝ }
+    ensures written { λ b.
+        ⌜ (StatedPlate (now (plate .entry)) (now (out .entry)) → (NoPlateBodyBelow (now (plate .entry)) → ⊥)
+        → b .written .refusal .number ≡ 0) ⌝ }
+    ensures whole { λ b.
+        ⌜ AnswersPlateRoundTrip (now (plate .entry)) b (now (out .entry)) (now (out .exit)) (now (area .entry))
+        (now (area .exit)) ⌝ }
+{
+    let written = macpaint::write(plate, out);
+    let why = written.refusal;
+    if why.number != 0 {
+        let read = bodies::body_refused(why);
+        return PlateRoundTrip { written, read };
+    }
+    let length = written.length;
+    let read = macpaint::read(&out[..length], area);
+    PlateRoundTrip { written, read }
 }

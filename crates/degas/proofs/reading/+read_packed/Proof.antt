@@ -18,7 +18,7 @@ use Rattle.picture.proofs.Reading.{area-cut}
 use Rattle.picture.proofs.read_refused.Reads as read-refused
 use Rattle.degas.specs.Reading.{readPacked}
 use Rattle.degas.proofs.ReadDegas.{packed-long}
-use Rattle.degas.proofs.reading.read_body.Reads as read-body
+use Rattle.degas.proofs.reading.read_by_buffer.Reads as read-by-buffer
 use Rattle.degas.proofs.reading.read_packed.Reads as read-packed
 use Rattle.degas.proofs.reading.read_packed.Kinds.{ps}
 use Rattle.degas.proofs.reading.+read_packed.Lts-read_packed as lts
@@ -45,8 +45,8 @@ claims t = (
   read-refused.Learnt,
   below t,
   read-packed.Post,
-  read-body.Asked,
-  read-body.Learnt,
+  read-by-buffer.Asked,
+  read-by-buffer.Learnt,
 )
 
 returns : (t : ℕ) → lts.Need-returns (claims t) (given t) read-packed.Post

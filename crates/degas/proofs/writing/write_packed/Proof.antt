@@ -1,29 +1,23 @@
 -- `degas::writing::write_packed` meets its contract: the body picks the case; the header is put before it, and the tail
 -- after it.
-use mathlib.Core.Path.{_≡_, refl, _∙_}
-use Prim.Native.Nat.{_+_, _-_, _<_}
+use mathlib.Core.Path.{_≡_, _∙_}
+use Prim.Native.Nat.{_+_, _<_}
 use native.Mathlib.Omega.{arith}
-use borrow.Rule.Slice.PartMut.{putMid}
 use denote.Ref.{now}
-use lib.ListN.{length}
 use Rattle.resolution.proofs.Choice.{known-le}
-use Rattle.degas.specs.Layout.{headerLength, plainLength}
+use Rattle.degas.specs.Layout.{plainLength}
 use Rattle.degas.proofs.WriteDegas.{BodyPacked, packed-refused, packed-body, packed-written}
 use borrow.Author.Needs.{needs}
 use Rattle.degas.proofs.writing.write_packed.Statement.{statement}
 use Rattle.degas.proofs.writing.write_packed.Tie as tie
 
--- the body, packed into the part after the header
+-- the body, packed after the header
 here : (j : tie.After-pack-body)
-    → let a = j .before .before .before .before .before .args in let last = j .pack-body .last .1 .1 .1 .0 in
-    BodyPacked (a .r) (now (a .screen)) (now (a .out))
-    (putMid headerLength (length (now (a .out)) - headerLength) (now (a .out)) last)
-    (j .pack-body .result)
+    → let a = j .before .before .before .before .before .args in
+    BodyPacked (a .r) (now (a .screen)) (now (a .out)) (j .pack-body .last .1 .1 .1 .1 .0) (j .pack-body .result)
 here j = record {
   full = j .before .before .before .before .before .pre .1 .0;
   room = j .before .before .before .before .before .pre .1 .1;
-  last = j .pack-body .last .1 .1 .1 .0;
-  back = refl;
   answer = rw (j .before .before .raster .ensures) at (j .pack-body .ensures .0);
   made = rw (j .before .before .raster .ensures) at (j .pack-body .ensures .1);
 }
@@ -83,9 +77,6 @@ write-packed-spec =
     tie.close
     (tie.spec
     (λ c κs. search needs)
-    (λ c. search needs)
-    (λ c. search needs)
-    (λ c. search needs)
     (λ c κs. search needs)
     (λ c κs. search needs)
     (λ c. search needs)

@@ -1,0 +1,87 @@
+-- Laws of writing a MacPaint file: the tests are those of packing its body; the header is put before the body.
+use mathlib.Core.Path.{_≡_, refl, sym, ap, _∙_, subst}
+use mathlib.Core.Bool.{Bool, true, false}
+use mathlib.Core.List.{List}
+use Prim.Native.Nat.{ℕ, _+_, _≤_}
+use native.Mathlib.Omega.{arith}
+use lib.ListN.{length, length-replicate, length-append}
+use lib.Dec.{ltb}
+use Rattle.lists.specs.Over.{overAt}
+use Rattle.lists.specs.Written.{Written}
+use Rattle.lists.proofs.Pieces.{written-before}
+use Rattle.outcome.specs.Outcome.{Outcome, refused, none, refuseIf, map}
+use Rattle.outcome.specs.Refusal.{areaTooShort}
+use Rattle.bodies.specs.declared.BodyAnswer.{BodyAnswer}
+use Rattle.bodies.specs.Packing.{PackedBody, belowLimit, packBody, packedAnswer, packedOutput}
+use Rattle.bodies.proofs.Answers.{answer-refused}
+use Rattle.bodies.proofs.Packing.{PackedAt, packed-room, pack-judged, packed-at}
+use Rattle.picture.specs.declared.WriteAnswer.{WriteAnswer}
+use Rattle.picture.specs.Writing.{writeAnswer, writeOutput}
+use Rattle.picture.proofs.Writing.{written-done}
+use Rattle.macpaint.specs.Layout.{headerLength, bodyLimit, longestFile, zeroHeader, plateFile}
+use Rattle.macpaint.specs.Plate.{plateRaster, plateBytes}
+use Rattle.macpaint.specs.Writing.{plateWriting, writePlate}
+
+pub length-zeroHeader : length zeroHeader ≡ headerLength
+unfolding zeroHeader
+length-zeroHeader = length-replicate {A = ℕ} headerLength 0
+
+pub length-plateFile : (body : List ℕ) → length (plateFile body) ≡ headerLength + length body
+unfolding plateFile
+length-plateFile body = omega (arith, length-append zeroHeader body, length-zeroHeader)
+
+-- packing judges the plate and the output as the writing does
+pub write-packed : (plate : List ℕ) (out : ℕ)
+    → writePlate plate out ≡ map plateWriting (packBody plateRaster plate bodyLimit headerLength out)
+unfolding writePlate packBody
+write-packed plate out =
+    go (belowLimit plateRaster plate bodyLimit) (ltb out longestFile) (ltb (length plate) plateBytes)
+  where
+    go : (o : Outcome PackedBody) (little short : Bool)
+        → refuseIf little areaTooShort (refuseIf short areaTooShort (map plateWriting o))
+        ≡ map plateWriting (refuseIf short areaTooShort (refuseIf little areaTooShort o))
+    go o true true = refl
+    go o true false = refl
+    go o false true = refl
+    go o false false = refl
+
+module _ (plate out after : List ℕ) (a : BodyAnswer) where
+  abbrev packed : Outcome PackedBody
+  packed = packBody plateRaster plate bodyLimit headerLength (length out)
+
+  module _ (answer : a ≡ packedAnswer packed) (left : after ≡ packedOutput packed headerLength out) where
+    -- refused: the output as it was
+    pub plate-refused : (a .refusal .number ≡ 0 → ⊥)
+        → (writeAnswer (refused (a .refusal)) ≡ writeAnswer (writePlate plate (length out)))
+        × (after ≡ writeOutput (writePlate plate (length out)) out)
+    plate-refused e =
+        let refuses = answer-refused _ _ packed answer e in
+        let is : writePlate plate (length out) ≡ refused (a .refusal) =
+        write-packed plate (length out) ∙ ap (map plateWriting) refuses in
+        rw is (refl, left ∙ ap (λ (o : Outcome PackedBody). packedOutput o headerLength out) refuses)
+
+    module _ (ok : a .refusal .number ≡ 0) where
+      pub plate-packed : PackedAt headerLength bodyLimit out after a packed
+      plate-packed =
+          packed-at plateRaster plate bodyLimit headerLength out after a packed
+          (pack-judged plateRaster plate bodyLimit headerLength (length out)) answer left ok
+
+      pub plate-room : longestFile ≤ length out
+      plate-room = packed-room plateRaster plate bodyLimit headerLength (length out) _ (plate-packed .is)
+
+      -- the header before it
+      pub plate-written : (then : List ℕ) (n : ℕ) → Written zeroHeader after then n
+          → n ≡ headerLength → {w : WriteAnswer}
+          → w ≡ record { refusal = none; length = n + a .body; body = a .body; records = a .records }
+          → (w ≡ writeAnswer (writePlate plate (length out))) × (then ≡ writeOutput (writePlate plate (length out)) out)
+      unfolding plateFile
+      plate-written then n h size is =
+          let k = plate-packed in
+          let place : after ≡ overAt n (k .bytes) out = k .there ∙ ap (λ (o : ℕ). overAt o (k .bytes) out) (sym size) in
+          let whole : Written (plateFile (k .bytes)) out then (n + length (k .bytes)) =
+          written-before (k .bytes) out (omega (arith, plate-room))
+          (subst (λ (l : List ℕ). Written zeroHeader l then n) place h) in
+          let all : Written (plateFile (k .bytes)) out then (n + a .body) =
+          subst (λ (l : ℕ). Written (plateFile (k .bytes)) out then (n + l)) (sym (k .size)) whole in
+          let b : PackedBody = record { body = a .body; records = a .records; bytes = k .bytes } in
+          rw (write-packed plate (length out), k .is) (written-done (plateWriting b) all is)

@@ -1,0 +1,5 @@
+pub mod Accepts
+pub mod Layout
+pub mod Plate
+pub mod Reading
+pub mod Writing
