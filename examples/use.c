@@ -1,6 +1,7 @@
 /*
  * Shows a picture file: what reading found, the registers it uses with their
- * colours, and the length of its shortest packed file.
+ * colours, and the length of its shortest packed file. Of a MacPaint plate it
+ * shows what reading found and the length of its shortest file.
  *
  *     cc use.c $(pkg-config --cflags --libs kutimuq) -o use
  *     ./use ponds.pc1
@@ -14,9 +15,10 @@
 
 #include <kutimuq.h>
 
-static uint8_t file[KUTIMUQ_LONGEST_FILE + 1]; /* one more, to see a file that is too long */
+static uint8_t file[KUTIMUQ_LONGEST_PLATE_FILE + 1]; /* one more, to see a file that is too long */
 static uint8_t screen[KUTIMUQ_SCREEN_BYTES];
-static uint8_t packed[KUTIMUQ_WRITE_AREA_BYTES];
+static uint8_t plate[KUTIMUQ_PLATE_BYTES];
+static uint8_t packed[KUTIMUQ_LONGEST_PLATE_FILE];
 
 static int refused(const char *what, KutimuqRefusal refusal)
 {
@@ -72,6 +74,22 @@ static void show_packed(const KutimuqPicture *picture)
     }
 }
 
+/* A MacPaint file has no mark of its own: it is one if it can be read as one. */
+static bool show_plate(size_t length)
+{
+    KutimuqBodyAnswer found = kutimuq_read_plate(file, length, plate, sizeof plate);
+    if (found.refusal.number != KUTIMUQ_ACCEPTED) {
+        return false;
+    }
+    KutimuqWriteAnswer written =
+        kutimuq_write_plate(plate, sizeof plate, packed, sizeof packed);
+    printf("plate %d x %d\n", KUTIMUQ_PLATE_WIDTH, KUTIMUQ_PLATE_HEIGHT);
+    printf("records %zu\n", found.records);
+    printf("body %zu\n", found.body);
+    printf("packed %zu\n", written.length); /* never refused: the body read is one below the limit */
+    return true;
+}
+
 /* Fills `file`; false where that failed. */
 static bool load(const char *path, size_t *length)
 {
@@ -96,6 +114,9 @@ int main(int count, char **words)
         return 2;
     }
 
+    if (show_plate(length)) {
+        return 0;
+    }
     /* No DEGAS file is as long as every NEOchrome file. */
     uint8_t kind = length == KUTIMUQ_LONGEST_FILE ? KUTIMUQ_KIND_NEO : KUTIMUQ_KIND_DEGAS;
     KutimuqReadAnswer found = kutimuq_read(kind, file, length, screen, sizeof screen);

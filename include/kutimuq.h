@@ -1,5 +1,6 @@
 /*
- * Kutimuq: Atari ST pictures (DEGAS, DEGAS Elite, NEOchrome, Tiny).
+ * Kutimuq: Atari ST pictures (DEGAS, DEGAS Elite, NEOchrome, Tiny) and MacPaint
+ * plates.
  *
  * **NO POINTER MAY BE NULL, NOT EVEN ONE WITH LENGTH 0.** The proofs cover
  * memory that exists; they promise nothing for a null pointer. For no bytes
@@ -17,6 +18,10 @@
  * 2 high (640 x 400, 1 plane). A screen is the first 32,000 bytes of the area
  * lent for it; later bytes are not read and not changed. Words in files and
  * screens are big-endian; words in the structs below are plain numbers.
+ *
+ * A plate is 720 rows of 72 bytes, 576 pixels each, from the top: the first
+ * 51,840 bytes of the area lent for it. The leftmost pixel is a byte's top bit;
+ * 0 is white, 1 black.
  */
 #ifndef KUTIMUQ_H
 #define KUTIMUQ_H
@@ -30,9 +35,9 @@ extern "C" {
 #endif
 
 #define KUTIMUQ_VERSION_MAJOR 0
-#define KUTIMUQ_VERSION_MINOR 2
+#define KUTIMUQ_VERSION_MINOR 3
 #define KUTIMUQ_VERSION_PATCH 0
-#define KUTIMUQ_VERSION "0.2.0"
+#define KUTIMUQ_VERSION "0.3.0"
 
 /* The answer must be looked at; no pointer may be null. */
 #ifdef __GNUC__
@@ -58,8 +63,10 @@ enum KutimuqNumber {
     /* Place: the record's control byte's offset. In one record this is judged
        before missing input. */
     KUTIMUQ_RECORD_CROSSES = 7,
-    /* Place: the offset after the body. */
+    /* After a DEGAS body not exactly 32 bytes, after a MacPaint body any. Place:
+       the offset after the body. */
     KUTIMUQ_WRONG_TAIL = 8,
+    /* None below 32,000 bytes for DEGAS, below 51,200 for MacPaint. */
     KUTIMUQ_NO_PACKED_BODY = 9,
     /* Of a row width, line, register, rectangle, floor or confidence. */
     KUTIMUQ_OUT_OF_RANGE = 10,
@@ -69,7 +76,9 @@ enum KutimuqNumber {
        a run too long after it. */
     KUTIMUQ_RUN_TOO_LONG = 12,
     /* Of a Tiny file. */
-    KUTIMUQ_SIZE_MISMATCH = 13
+    KUTIMUQ_SIZE_MISMATCH = 13,
+    /* Of a MacPaint file. */
+    KUTIMUQ_WRONG_VERSION = 20
 };
 
 /* What a number means, in words; never null. */
@@ -93,9 +102,9 @@ static inline const char *kutimuq_meaning(uint8_t number)
     case KUTIMUQ_RECORD_CROSSES:
         return "a record crosses its row's end";
     case KUTIMUQ_WRONG_TAIL:
-        return "after the body not exactly 32 bytes";
+        return "bytes after the body not as the format has them";
     case KUTIMUQ_NO_PACKED_BODY:
-        return "no packed body below 32,000 exists";
+        return "no packed body below the format's limit exists";
     case KUTIMUQ_OUT_OF_RANGE:
         return "a number out of range";
     case KUTIMUQ_UNDEFINED_CONTROL:
@@ -104,6 +113,8 @@ static inline const char *kutimuq_meaning(uint8_t number)
         return "a count cut short, or a run past the words to make or the data";
     case KUTIMUQ_SIZE_MISMATCH:
         return "data left or words missing after the last run";
+    case KUTIMUQ_WRONG_VERSION:
+        return "MacPaint version neither 0 nor 2";
     default:
         return "unknown refusal";
     }
@@ -128,8 +139,14 @@ enum {
     KUTIMUQ_WRITE_AREA_BYTES = 32128,  /* the output lent for any form */
     KUTIMUQ_WIDEST_LINE = 640,         /* the registers of a scan line */
     KUTIMUQ_WIDEST_ROW = 128,          /* a row to pack or unpack */
-    KUTIMUQ_PACK_AREA_BYTES = 129      /* the output lent for a packed row */
+    KUTIMUQ_PACK_AREA_BYTES = 129,     /* the output lent for a packed row */
+    KUTIMUQ_PLATE_BYTES = 51840,       /* a plate */
+    KUTIMUQ_PLATE_ROW_BYTES = 72,      /* a plate's row */
+    KUTIMUQ_LONGEST_PLATE_FILE = 51711 /* a MacPaint file, also the output lent for it */
 };
+
+/* Pixels of a plate. */
+enum { KUTIMUQ_PLATE_WIDTH = 576, KUTIMUQ_PLATE_HEIGHT = 720 };
 
 /* What a resolution stands for. Its registers are 0 to 2^planes - 1. */
 typedef struct KutimuqShape {
@@ -192,7 +209,16 @@ typedef struct KutimuqReadAnswer {
     size_t records;
 } KutimuqReadAnswer;
 
-/* Length: the file's bytes. Body and records are 0 except for form 3. */
+/* Body: the packed body's bytes; records: its records, do-nothing ones
+   included. */
+typedef struct KutimuqBodyAnswer {
+    KutimuqRefusal refusal;
+    size_t body;
+    size_t records;
+} KutimuqBodyAnswer;
+
+/* Length: the file's bytes. Body and records are 0 except for form 3 and a
+   plate. */
 typedef struct KutimuqWriteAnswer {
     KutimuqRefusal refusal;
     size_t length;
@@ -358,6 +384,31 @@ KutimuqReadAnswer kutimuq_read(uint8_t kind, const uint8_t *file, size_t file_le
 KUTIMUQ_MUST_USE KUTIMUQ_NONNULL
 KutimuqWriteAnswer kutimuq_write(uint8_t form, KutimuqPicture picture, const uint8_t *screen,
                                  size_t screen_len, uint8_t *out, size_t out_len);
+
+/*
+ * Reads a MacPaint file: 512 bytes of header, then the packed rows. The plate
+ * goes to the first 51,840 bytes of `plate`, later bytes are unchanged. Of the
+ * header only the version, its first four bytes, is judged.
+ * Refusals in order: 1 plate below 51,840 bytes, 3 (under 512 or above 51,711
+ * bytes), 20, 6 or 7 at the first record at fault, 8 for any byte left after the
+ * 720 rows. Offsets count from the file's start; plane row is the plate's row,
+ * from 0. A call takes under 1,000 bytes of stack where the refusal is 1, 3 or 20,
+ * else about 54,000: 51,840 of them are the plate into which the file is unpacked
+ * until all is judged.
+ */
+KUTIMUQ_MUST_USE KUTIMUQ_NONNULL
+KutimuqBodyAnswer kutimuq_read_plate(const uint8_t *file, size_t file_len, uint8_t *plate,
+                                     size_t plate_len);
+
+/*
+ * Writes a plate as a MacPaint file, a header of 512 zero bytes and the least
+ * body, to the front of `out`; output past the file is unchanged.
+ * Refusals in order: 1 output below 51,711 or plate below 51,840 bytes, 9 least
+ * body not below 51,200 bytes.
+ */
+KUTIMUQ_MUST_USE KUTIMUQ_NONNULL
+KutimuqWriteAnswer kutimuq_write_plate(const uint8_t *plate, size_t plate_len, uint8_t *out,
+                                       size_t out_len);
 
 #ifdef __cplusplus
 }

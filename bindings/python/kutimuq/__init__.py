@@ -1,13 +1,14 @@
-"""Kutimuq: Atari ST pictures (DEGAS, DEGAS Elite, NEOchrome) by way of the proved library.
+"""Kutimuq: Atari ST pictures (DEGAS, DEGAS Elite, NEOchrome, Tiny) and MacPaint plates by way of the proved library.
 
     picture = kutimuq.open("ponds.pc1")     # kutimuq.Refused if the file is damaged
     picture.registers()                     # height x width, a numpy array where numpy is present
     picture.save("ponds.neo", form="neo")
+    kutimuq.open_plate("atlas.mac").save("least.mac")
 
 Each name is imported at its first use.
 """
 
-__version__ = "0.2.0"
+__version__ = "0.3.0"
 
 # Public name: the module that has it.
 _PUBLIC = {
@@ -20,6 +21,7 @@ _PUBLIC = {
     "Kind": "enumerations",
     "LibraryMissing": "library",
     "Picture": "pictures",
+    "Plate": "pictures",
     "Pond": "index",
     "Rectangle": "pictures",
     "RefusalNumber": "enumerations",
@@ -32,15 +34,18 @@ _PUBLIC = {
     "line_in": "pictures",
     "line_out": "pictures",
     "open": "pictures",
+    "open_plate": "pictures",
     "pack_row": "pictures",
     "pond": "index",
     "read": "pictures",
     "read_legend": "index",
+    "read_plate": "pictures",
     "registers": "pictures",
     "screen_from_registers": "pictures",
     "tally": "index",
     "unpack_row": "pictures",
     "write": "pictures",
+    "write_plate": "pictures",
 }
 _NAMES_WITHIN = {"open": "open_picture"}  # a module must not hide its own open()
 

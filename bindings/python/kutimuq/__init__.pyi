@@ -17,6 +17,7 @@ from .library import LibraryMissing as LibraryMissing
 from .library import Refused as Refused
 from .pictures import File as File
 from .pictures import Picture as Picture
+from .pictures import Plate as Plate
 from .pictures import Rectangle as Rectangle
 from .pictures import Row as Row
 from .pictures import Tail as Tail
@@ -24,11 +25,14 @@ from .pictures import from_registers as from_registers
 from .pictures import line_in as line_in
 from .pictures import line_out as line_out
 from .pictures import open_picture as open
+from .pictures import open_plate as open_plate
 from .pictures import pack_row as pack_row
 from .pictures import read as read
+from .pictures import read_plate as read_plate
 from .pictures import registers as registers
 from .pictures import screen_from_registers as screen_from_registers
 from .pictures import unpack_row as unpack_row
 from .pictures import write as write
+from .pictures import write_plate as write_plate
 
 __version__: str

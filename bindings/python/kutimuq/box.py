@@ -14,6 +14,7 @@ from hashlib import sha256
 from .enumerations import Form, RefusalNumber
 from .files import (
     ERROR,
+    KIND_DEGAS,
     Found,
     Output,
     complain,
@@ -27,9 +28,8 @@ from .files import (
     take,
     title_of,
 )
-from .index import tally
 from .library import Refused, good_part, library, meaning_of
-from .pictures import Picture, read, write
+from .pictures import Picture, Plate, read_any, write, write_plate
 
 # What a record holds, in the order of the CSV file. A record is a dict, so that it can be a line of JSON.
 COLUMNS = (
@@ -89,19 +89,19 @@ def judge(name: str, kind: int | None = None) -> dict:
     found = Found(kind, "option") if kind is not None else find_kind(data, name)
     record.update(kind=title_of(found.kind), kind_by=found.by)
     try:
-        picture = read(data, found.kind)
+        picture = read_any(data, found.kind)
     except Refused as refusal:
-        record.update(refused_fields(refusal, data))
+        record.update(refused_fields(refusal, data, found.kind))
         return record
     record.update(accepted_fields(picture))
     return record
 
 
-def refused_fields(refusal: Refused, data: bytes) -> dict:
+def refused_fields(refusal: Refused, data: bytes, kind: int) -> dict:
     """What a record says about a refused file."""
     return {
-        # Only a packed DEGAS file of a known resolution is refused in a plane row.
-        "resolution": degas_resolution(data) if refusal.in_row else None,
+        # A DEGAS file that is refused in a plane row is a packed one of a known resolution.
+        "resolution": degas_resolution(data) if refusal.in_row and kind == KIND_DEGAS else None,
         "number": refusal.number,
         "place": refusal.place,
         "meaning": refusal.meaning,
@@ -110,29 +110,34 @@ def refused_fields(refusal: Refused, data: bytes) -> dict:
     }
 
 
-def accepted_fields(picture: Picture) -> dict:
+def accepted_fields(picture: Picture | Plate) -> dict:
     """What a record says about an accepted file."""
     form, file = least_rewriting(picture)
-    return {
-        "resolution": picture.resolution,
-        "tail_present": picture.tail_present,
+    fields = {
         "records": picture.records,
         "body": picture.body,
         "number": int(RefusalNumber.ACCEPTED),
         "place": 0,
         "meaning": meaning_of(RefusalNumber.ACCEPTED),
-        "form": int(form),
+        "form": None if form is None else int(form),
         "sha256": sha256(file).hexdigest(),
-        "palette": list(picture.palette),
-        "tally": list(tally(picture.screen, picture.resolution)),
     }
+    if isinstance(picture, Picture):
+        fields["resolution"] = picture.resolution
+        fields["tail_present"] = picture.tail_present
+        fields["palette"] = list(picture.palette)
+    fields["tally"] = list(picture.tally())
+    return fields
 
 
-def least_rewriting(picture: Picture) -> tuple[Form, bytes]:
-    """The picture's packed form, or the raw Elite form where no packed one exists.
+def least_rewriting(picture: Picture | Plate) -> tuple[Form | None, bytes]:
+    """The picture's packed form, or the raw Elite form where no packed one exists; a plate has no numbered form.
 
-    Pictures of equal resolution, palette, tail words and screen have equal ones, and only they.
+    Pictures of equal resolution, palette, tail words and screen have equal ones, and only they; so do plates of equal
+    bitmaps. A plate that was read always has one.
     """
+    if isinstance(picture, Plate):
+        return None, write_plate(picture.bitmap)
     try:
         return Form.PACKED, write(picture, picture.screen, Form.PACKED)
     except Refused as refusal:
@@ -285,7 +290,9 @@ def line_of(record: dict) -> str:
         in_row = record["plane_row"] is not None
         facts = f"{good_part(record['plane_row'], record['good_bytes'])}; {known}" if in_row else known
         return f"{name}: refused {record['number']} at {record['place']}: {record['meaning']} ({facts})"
-    line = f"{name}: accepted: {known}, resolution {record['resolution']}"
+    line = f"{name}: accepted: {known}"
+    if record["resolution"] is not None:
+        line += f", resolution {record['resolution']}"
     if record["records"]:
         line += f", {record['records']} records, body {record['body']}"
     if record["same_as"] is not None:

@@ -13,6 +13,8 @@ from .files import (
     FORMS,
     KIND_NAMES,
     OUTPUT,
+    PLATE_EXTENSIONS,
+    PLATE_FORM,
     Output,
     complain,
     find_kind,
@@ -22,9 +24,26 @@ from .files import (
     shown,
     take,
 )
-from .options import Command, Option, WrongUse, choice, columns, command_help, parse
+from .options import (
+    SOURCES,
+    TO_CHECK,
+    TO_ENCODE,
+    TO_ENVI,
+    TO_FILES,
+    TO_FORM,
+    TO_READ_POND,
+    TO_READ_PONDS,
+    TO_TALLY,
+    Command,
+    WrongUse,
+    columns,
+    command_help,
+    parse,
+)
 
 PROGRAM = "kutimuq"
+NO_PICTURE = "a MacPaint plate has no registers, palette or tail"
+NO_PLATE = "not a MacPaint plate"
 ACCEPTED, REFUSED, WRONG, INTERRUPTED, PIPE_CLOSED, ENDED = 0, 1, 2, 130, 141, 143
 
 
@@ -68,7 +87,8 @@ def run(arguments: list[str]) -> int:
 def help_text() -> str:
     """The help on all commands."""
     rows = columns([(name, command.about) for name, command in COMMANDS.items()])
-    start = [f"usage: {PROGRAM} COMMAND [OPTION]... [FILE]...", "", "Reads, checks and writes Atari ST pictures.", ""]
+    about = "Reads, checks and writes Atari ST pictures and MacPaint plates."
+    start = [f"usage: {PROGRAM} COMMAND [OPTION]... [FILE]...", "", about, ""]
     end = ["", f"{PROGRAM} COMMAND --help tells more, {PROGRAM} --version the version."]
     return "\n".join([*start, *rows, *end]) + "\n"
 
@@ -78,42 +98,6 @@ def end_in_order() -> None:
     import signal
 
     signal.signal(signal.SIGTERM, lambda *_: sys.exit(ENDED))
-
-
-# Values of options.
-
-
-def parse_rectangle(text: str):
-    from .index import rectangle_of
-
-    return rectangle_of(text)
-
-
-def parse_class(text: str) -> int:
-    from .index import number_within
-
-    return number_within(text, 255, "class")
-
-
-def parse_confidence(text: str) -> int:
-    from .index import CONFIDENCE_MAX, number_within
-
-    return number_within(text, CONFIDENCE_MAX, "confidence")
-
-
-def parse_palette(text: str) -> list[int]:
-    from .images import words_of
-
-    words = words_of(text.replace(",", " ").lower().encode("ascii", "replace"))
-    if words is None:
-        raise ValueError("16 words of four hexadecimal digits are needed")
-    return words
-
-
-def parse_jobs(text: str) -> int:
-    from .index import number_within
-
-    return max(1, number_within(text, 1024, "processes"))
 
 
 # Files in, results out.
@@ -132,16 +116,16 @@ def legend_of(options):
 
 
 def read_named(name: str, options):
-    """The picture in a file, after saying which kind it was found to be."""
-    from .pictures import read
+    """The picture or plate in a file, after saying which kind it was found to be."""
+    from .pictures import read_any
 
     data = take(name)
     if options.kind is not None:
-        return read(data, KIND_NAMES[options.kind])
+        return read_any(data, KIND_NAMES[options.kind])
     found = find_kind(data, name)
     if found.kind and not options.quiet:
         complain(found, name)
-    return read(data, found.kind)
+    return read_any(data, found.kind)
 
 
 def refuse(refusal, name: str) -> None:
@@ -153,14 +137,22 @@ def refuse(refusal, name: str) -> None:
     complain(f"{refusal}{hint}", name)
 
 
-def each(options, work, refused=None) -> int:
-    """Calls `work(name, picture)` for each file and gives the exit status; one bad file does not stop the others."""
+def each(options, work, refused=None, plate=None) -> int:
+    """Calls `work(name, picture)` for each picture, `plate(name, plate)` for each plate, and gives the exit status.
+
+    What there is no function for is wrong use. One bad file does not stop the others.
+    """
     from .library import LibraryMissing, Refused
+    from .pictures import Plate
 
     status = ACCEPTED
     for name in options.operands:
         try:
-            work(name, read_named(name, options))
+            found = read_named(name, options)
+            function = plate if isinstance(found, Plate) else work
+            if function is None:
+                raise WrongUse(NO_PICTURE if isinstance(found, Plate) else NO_PLATE)
+            function(name, found)
         except Refused as refusal:
             refuse(refusal, name)
             status = max(status, REFUSED)
@@ -209,10 +201,14 @@ def send(options, place: str, extension: str, data: bytes) -> None:
         give(data)
 
 
-def make_files(options, make, extension_of) -> int:
-    """One result for each picture."""
+def make_files(options, make, plate=None) -> int:
+    """One result for each file: `make(picture)` and `plate(plate)` give its extension and its bytes."""
     places = destinations(options)
-    return each(options, lambda name, picture: send(options, places[name], extension_of(picture), make(picture)))
+
+    def saving(function):
+        return function and (lambda name, found: send(options, places[name], *function(found)))
+
+    return each(options, saving(make), plate=saving(plate))
 
 
 # The commands.
@@ -227,11 +223,15 @@ def summary(options) -> int:
         facts = (f"resolution {picture.resolution}", f"records {picture.records}", f"body {picture.body}")
         tell(options, name, (*facts, f"tail {picture.tail_present:d}", f"tally {counts}"))
 
+    def plate_lines(name, plate):
+        white, black = plate.tally()
+        tell(options, name, (f"records {plate.records}", f"body {plate.body}", f"white {white}", f"black {black}"))
+
     def line(name, refusal):
         # Document 01 gives the summary a line for a refusal, too.
         tell(options, name, [f"refused {refusal.number} at {refusal.place}"])
 
-    return each(options, lines, line)
+    return each(options, lines, line, plate_lines)
 
 
 def palette(options) -> int:
@@ -259,23 +259,30 @@ def tail(options) -> int:
 
 def png(options) -> int:
     """`png`: indexed PNG files."""
-    from .images import png_of
+    from .images import plate_png_of, png_of
 
-    return make_files(options, png_of, lambda picture: ".png")
+    return make_files(options, lambda picture: (".png", png_of(picture)), lambda plate: (".png", plate_png_of(plate)))
+
+
+def pbm(options) -> int:
+    """`pbm`: PBM files of plates."""
+    from .images import bitmap_of
+
+    return make_files(options, None, lambda plate: (".pbm", bitmap_of(plate)))
 
 
 def registers(options) -> int:
     """`registers`: PGM files."""
     from .images import greymap_of
 
-    return make_files(options, greymap_of, lambda picture: ".pgm")
+    return make_files(options, lambda picture: (".pgm", greymap_of(picture)))
 
 
 def colours_command(options) -> int:
     """`colours`: PPM files."""
     from .images import pixmap_of
 
-    return make_files(options, pixmap_of, lambda picture: ".ppm")
+    return make_files(options, lambda picture: (".ppm", pixmap_of(picture)))
 
 
 def envi(options) -> int:
@@ -302,37 +309,40 @@ def envi(options) -> int:
 
 def convert(options) -> int:
     """`convert`: files in another form."""
+    if options.form == PLATE_FORM:
+        return make_files(options, None, plate_file)
+    return make_files(options, lambda picture: picture_file(picture, FORM_NAMES[options.form]))
+
+
+def picture_file(picture, form: int) -> tuple[str, bytes]:
+    """The extension and the bytes of a picture in a form."""
     from .pictures import write
 
-    form = FORM_NAMES[options.form]
-    return make_files(
-        options, lambda picture: write(picture, picture.screen, form), lambda picture: FORMS[form][picture.resolution]
-    )
+    return FORMS[form][picture.resolution], write(picture, picture.screen, form)
+
+
+def plate_file(plate) -> tuple[str, bytes]:
+    """The extension and the bytes of a plate."""
+    from .pictures import write_plate
+
+    return PLATE_EXTENSIONS[0], write_plate(plate.bitmap)
 
 
 def encode(options) -> int:
-    """`encode`: pictures from images of registers."""
-    from .images import IMAGE_LIMIT, BadImage, picture_of, read_image
+    """`encode`: pictures from images of registers, plates from black and white ones."""
+    from .images import IMAGE_LIMIT, BadImage, read_image
     from .library import LibraryMissing, Refused
-    from .pictures import open_picture, write
 
-    form = FORM_NAMES[options.form]
-    words, tables = options.palette, None
-    if options.like is not None:
-        try:
-            model = open_picture(options.like)
-        except Refused as refusal:
-            refuse(refusal, options.like)
-            return REFUSED
-        words = words or model.palette
-        tables = model.tail if model.tail_present else None
+    try:
+        make = plate_encoder(options) if options.form == PLATE_FORM else picture_encoder(options)
+    except Refused as refusal:
+        refuse(refusal, options.like)
+        return REFUSED
     places = destinations(options)
     status = ACCEPTED
     for name in options.operands:
         try:
-            picture = picture_of(read_image(take(name, IMAGE_LIMIT + 1)), words, tables)
-            data = write(picture, picture.screen, form)
-            send(options, places[name], FORMS[form][picture.resolution], data)
+            send(options, places[name], *make(read_image(take(name, IMAGE_LIMIT + 1))))
         except (Refused, BadImage) as refusal:
             complain(refusal, name)
             status = max(status, REFUSED)
@@ -342,6 +352,31 @@ def encode(options) -> int:
             complain(error, name)
             status = WRONG
     return status
+
+
+def picture_encoder(options):
+    """What makes an image a picture's file, with the palette and tail that the options name."""
+    from .images import picture_of
+    from .pictures import Plate, read_any
+
+    words, tables = options.palette, None
+    if options.like is not None:
+        data = take(options.like)
+        model = read_any(data, find_kind(data, options.like).kind)
+        if isinstance(model, Plate):
+            raise WrongUse(f"{shown(options.like)}: {NO_PICTURE}")
+        words = words or model.palette
+        tables = model.tail if model.tail_present else None
+    return lambda image: picture_file(picture_of(image, words, tables), FORM_NAMES[options.form])
+
+
+def plate_encoder(options):
+    """What makes an image a plate's file."""
+    from .images import plate_of
+
+    if options.palette is not None or options.like is not None:
+        raise WrongUse(NO_PICTURE)
+    return lambda image: plate_file(plate_of(image))
 
 
 def on_screen(count, picture, area, what: str, *more):
@@ -447,64 +482,26 @@ def check(options) -> int:
     return run(options, legend_of(options))
 
 
-KIND = Option(
-    ("--kind",), "KIND", "degas, neo or tiny; default: found by content, then by extension", choice(list(KIND_NAMES))
-)
-QUIET = Option(("-q", "--quiet"), None, "do not say which kind was found")
-OUTPUT_FILE = Option(("-o", "--output"), "FILE", "where the result goes; default: standard output")
-FOLDER = Option(("-d", "--folder"), "FOLDER", "one result for each file, named after it, in this folder")
-FORM = Option(("--form",), "FORM", ", ".join(FORM_NAMES), choice(list(FORM_NAMES)), True)
-RECTANGLE = Option(("--rectangle",), "L,T,C,N", "left, top, columns, lines; default: the whole screen", parse_rectangle)
-LEGEND = Option(("--legend",), "FILE", "16 lines `class confidence [owner [name]]`, register 0 first")
-NEEDED_LEGEND = LEGEND._replace(required=True)
-PALETTE = Option(("--palette",), "WORDS", "16 hexadecimal words; default: the PNG's palette", parse_palette)
-LIKE = Option(("--like",), "PICTURE", "take palette and tail from this picture file")
-CLASS = Option(("--class",), "CLASS", "0 to 255", parse_class, True)
-FLOOR = Option(("--floor",), "CONFIDENCE", "0 to 100; pixels below it are unsure", parse_confidence, True)
-LIST = Option(("--list",), "FILE", "CSV with the columns name, rectangle, class and floor", None, True)
-JSON = Option(("--json",), "FILE", "a line of JSON for each file")
-CSV = Option(("--csv",), "FILE", "a table of the files")
-REPORT = Option(("--report",), "PAGE", "one HTML page with pictures, refusals and duplicates")
-JOBS = Option(("--jobs",), "N", "processes; default: one for each core", parse_jobs)
-RESUME = Option(("--resume",), None, "take up an interrupted run that had the same --json")
-
-SOURCES = (KIND, QUIET)
-TO_FILES = (KIND, QUIET, OUTPUT_FILE, FOLDER)
-
 COMMANDS = {
-    "check": Command(
-        check,
-        "judge all files of a box: lines, JSON, CSV, a report page",
-        "FOLDER+",
-        (KIND, JSON, CSV, REPORT, LEGEND, JOBS, RESUME),
+    "check": Command(check, "judge all files of a box: lines, JSON, CSV, a report page", "FOLDER+", TO_CHECK),
+    "summary": Command(
+        summary, "resolution, counts, tail and tally, as text; of a plate counts and tally", "FILE", SOURCES
     ),
-    "summary": Command(summary, "resolution, counts, tail and tally, as text", "FILE", SOURCES),
     "palette": Command(palette, "the 16 palette words and their colours", "FILE", SOURCES),
     "tail": Command(tail, "the animation tail's tables", "FILE", SOURCES),
-    "png": Command(png, "an indexed PNG whose pixel values are the registers", "FILE", TO_FILES),
-    "envi": Command(
-        envi, "an ENVI classification: registers, class names and colours", "FILE", (*TO_FILES, LEGEND)
-    ),
+    "png": Command(png, "an indexed PNG whose pixel values are the registers, or a plate's bits", "FILE", TO_FILES),
+    "pbm": Command(pbm, "a PBM of a MacPaint plate", "FILE", TO_FILES),
+    "envi": Command(envi, "an ENVI classification: registers, class names and colours", "FILE", TO_ENVI),
     "registers": Command(registers, "a PGM with one register a byte", "FILE", TO_FILES),
     "colours": Command(
         colours_command, "a PPM with colours alone: never turn one back into classes", "FILE", TO_FILES
     ),
-    "convert": Command(convert, "the picture in another form", "FILE", (FORM, *TO_FILES)),
+    "convert": Command(convert, "the picture in another form, or the plate with its least body", "FILE", TO_FORM),
     "encode": Command(
-        encode,
-        "a picture from an indexed PNG or a PGM of registers",
-        "IMAGE",
-        (FORM, PALETTE, LIKE, OUTPUT_FILE, FOLDER),
+        encode, "a picture from an indexed PNG or a PGM of registers, a plate from a PBM", "IMAGE", TO_ENCODE
     ),
-    "tally": Command(tally_command, "the pixels of each register", "FILE", (RECTANGLE, *SOURCES)),
-    "pond": Command(
-        pond_command,
-        "the sure, unsure and other pixels of a class",
-        "FILE",
-        (NEEDED_LEGEND, CLASS, FLOOR, RECTANGLE, *SOURCES),
-    ),
-    "ponds": Command(
-        ponds_command, "many ponds of many maps, as CSV", "MAP", (NEEDED_LEGEND, LIST, OUTPUT_FILE, *SOURCES)
-    ),
+    "tally": Command(tally_command, "the pixels of each register", "FILE", TO_TALLY),
+    "pond": Command(pond_command, "the sure, unsure and other pixels of a class", "FILE", TO_READ_POND),
+    "ponds": Command(ponds_command, "many ponds of many maps, as CSV", "MAP", TO_READ_PONDS),
     "levels": Command(levels_command, "the eight colour levels, their bits and the values shown", None, ()),
 }

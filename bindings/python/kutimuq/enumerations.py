@@ -8,11 +8,12 @@ from . import files
 
 
 class Kind(IntEnum):
-    """A kind of file, by the number that the library reads it under."""
+    """A kind of file, by the number that the library reads it under; it has a function of its own for MAC."""
 
     DEGAS = files.KIND_DEGAS
     NEO = files.KIND_NEO
     TINY = files.KIND_TINY
+    MAC = files.KIND_MAC
 
 
 class Form(IntEnum):
@@ -43,9 +44,10 @@ class RefusalNumber(IntEnum):
     UNKNOWN_RESOLUTION = 5, "resolution above 2"
     INPUT_ENDS = 6, "input ends before the screen or row is full"
     RECORD_CROSSES = 7, "a record crosses its row's end"
-    WRONG_TAIL = 8, "after the body not exactly 32 bytes"
-    NO_PACKED_BODY = 9, "no packed body below 32,000 exists"
+    WRONG_TAIL = 8, "bytes after the body not as the format has them"
+    NO_PACKED_BODY = 9, "no packed body below the format's limit exists"
     OUT_OF_RANGE = 10, "a number out of range"
     UNDEFINED_CONTROL = 11, "a control byte or a count that is not defined"
     RUN_TOO_LONG = 12, "a count cut short, or a run past the words to make or the data"
     SIZE_MISMATCH = 13, "data left or words missing after the last run"
+    WRONG_VERSION = 20, "MacPaint version neither 0 nor 2"

@@ -11,6 +11,7 @@ from itertools import count
 KIND_DEGAS = 1
 KIND_NEO = 2
 KIND_TINY = 3
+KIND_MAC = 0x100  # none of these numbers, which are bytes: plates have a function of their own
 UNKNOWN = 0  # no kind has this number: the library refuses it
 
 # Forms of file, by the numbers that the library writes them under; `Form` in enumerations.py is made of them.
@@ -20,18 +21,24 @@ FORM_PACKED = 3  # DEGAS Elite, packed
 FORM_NEO = 4  # NEOchrome
 
 # Their names at the command line.
-KIND_NAMES = {"degas": KIND_DEGAS, "neo": KIND_NEO, "tiny": KIND_TINY}
+KIND_NAMES = {"mac": KIND_MAC, "degas": KIND_DEGAS, "neo": KIND_NEO, "tiny": KIND_TINY}
 FORM_NAMES = {"plain": FORM_PLAIN, "elite": FORM_ELITE, "packed": FORM_PACKED, "neo": FORM_NEO}
+PLATE_FORM = "mac"  # the one form of a plate
 
 RAW_EXTENSIONS = (".pi1", ".pi2", ".pi3")
 PACKED_EXTENSIONS = (".pc1", ".pc2", ".pc3")
 NEO_EXTENSIONS = (".neo", ".neo", ".neo")
 TINY_EXTENSIONS = (".tny", ".tn1", ".tn2", ".tn3", ".tn4", ".tn5", ".tn6")
+PLATE_EXTENSIONS = (".mac", ".pntg", ".pnt")
 
 # Of a Tiny file: where its control bytes start, without and with rotation bytes, and the largest count of a section.
 TINY_HEADER = 37
 TINY_ROTATED_HEADER = 41
 TINY_LARGEST_COUNT = 0xFFFF
+
+# Of a MacPaint file: the longest that is accepted, and the versions in its first long.
+LONGEST_PLATE_FILE = 51_711
+PLATE_VERSIONS = (0, 2)
 
 # The extensions of each form, by resolution.
 FORMS: dict[int, tuple[str, ...]] = {
@@ -82,11 +89,30 @@ def _is_tiny(head: bytes, length: int) -> bool:
     return length == start + controls + 2 * words
 
 
+def _has_plate_version(data: bytes) -> bool:
+    """A version that MacPaint has; also a NEOchrome file or a raw DEGAS file may begin so."""
+    return int.from_bytes(data[:4], "big") in PLATE_VERSIONS
+
+
+def _is_plate(data: bytes, length: int) -> bool:
+    """A version of MacPaint, and rows that the library accepts to the last byte: the format has no mark of its own."""
+    if not _has_plate_version(data):
+        return False
+    from .library import Refused
+    from .pictures import read_plate
+
+    try:
+        read_plate(data)
+    except Refused:
+        return False
+    return True
+
+
 class Traits(namedtuple("Traits", "title extensions longest is_content")):
     """A kind's name, its extensions, the longest file that is judged by more than its length, and whether the
     content names it.
 
-    `is_content(head, length)` is true only where the file's first bytes and its length leave no doubt.
+    `is_content(data, length)` is true only where the file's bytes and its length leave no doubt.
     """
 
     __slots__ = ()
@@ -95,7 +121,9 @@ class Traits(namedtuple("Traits", "title extensions longest is_content")):
     longest: int
 
 
+# In the order in which content is looked at: a plate may have the length of a raw DEGAS file.
 KINDS: dict[int, Traits] = {
+    KIND_MAC: Traits("MacPaint", PLATE_EXTENSIONS, LONGEST_PLATE_FILE, _is_plate),
     KIND_DEGAS: Traits("DEGAS", (*RAW_EXTENSIONS, *PACKED_EXTENSIONS), 32_066, _is_degas),
     KIND_NEO: Traits("NEOchrome", NEO_EXTENSIONS, 32_128, _is_neo),
     KIND_TINY: Traits("Tiny", TINY_EXTENSIONS, TINY_ROTATED_HEADER + 3 * TINY_LARGEST_COUNT, _is_tiny),
@@ -133,14 +161,14 @@ def kind_titled(name: str) -> int:
 
 def find_kind(data: bytes, name: str = "") -> Found:
     """The kind that a file's content names; where that leaves doubt, the one its extension names."""
-    for kind, traits in KINDS.items():
-        if traits.is_content(data, len(data)):
-            return Found(kind, "content")
     extension = os.path.splitext(name)[1].lower()
-    for kind, traits in KINDS.items():
-        if extension in traits.extensions:
-            return Found(kind, "extension")
-    return Found(UNKNOWN, "nothing")
+    named = next((kind for kind, traits in KINDS.items() if extension in traits.extensions), UNKNOWN)
+    # Where extension and version are MacPaint's, the length of another kind is no proof: a damaged plate may have it.
+    tried = (KIND_MAC,) if named == KIND_MAC and _has_plate_version(data) else KINDS
+    for kind in tried:
+        if KINDS[kind].is_content(data, len(data)):
+            return Found(kind, "content")
+    return Found(named, "extension" if named else "nothing")
 
 
 def number_of(choice, names: dict[str, int]) -> int:

@@ -1,12 +1,24 @@
-"""Images: indexed PNG, ENVI classification and PGM keep the registers; PPM shows colours alone."""
+"""Images: indexed PNG, ENVI and PGM keep the registers, PPM shows colours alone; PBM and indexed PNG of plates."""
 
 from __future__ import annotations
 
 import zlib
 from collections import namedtuple
 
-from .index import colours
-from .pictures import Picture, Tail, resolution_of, screen_in, screen_out, shape
+from .index import Colour, colours
+from .pictures import (
+    PLATE_BYTES,
+    PLATE_HEIGHT,
+    PLATE_WIDTH,
+    Picture,
+    Plate,
+    Tail,
+    register_rows,
+    resolution_of,
+    screen_in,
+    screen_out,
+    shape,
+)
 
 IMAGE_LIMIT = 1 << 22  # no PNG or PGM of a screen is longer
 SIGNATURE = b"\x89PNG\r\n\x1a\n"
@@ -14,10 +26,12 @@ GREY, INDEXED = 0, 3  # PNG colour types
 PALETTE_KEYWORD = b"Atari ST palette"
 TAIL_KEYWORD = b"Atari ST tail"
 COMMENT = b"Comment\0Pixel values are colour registers."
+PLATE_COLOURS = [Colour(255, 255, 255), Colour(0, 0, 0)]  # of the bits 0 and 1
+DIGITS = bytes.maketrans(b"\0\1", b"01")
 
 
 class BadImage(ValueError):
-    """An image that no picture can be made of."""
+    """An image that no picture or plate can be made of."""
 
 
 class Image(namedtuple("Image", "width height pixels colours palette tail", defaults=(None, None, None))):
@@ -31,17 +45,26 @@ class Image(namedtuple("Image", "width height pixels colours palette tail", defa
 
 def png_of(picture: Picture) -> bytes:
     """An indexed PNG: its pixel values are the registers, its palette their colours."""
-    width, height, _ = shape(picture.resolution)
-    pixels = screen_out(picture.screen, picture.resolution)
-    rows = b"".join(b"\0" + pixels[start : start + width] for start in range(0, len(pixels), width))
-    header = width.to_bytes(4, "big") + height.to_bytes(4, "big") + bytes((8, INDEXED, 0, 0, 0))
-    palette = b"".join(map(bytes, colours(picture.resolution, picture.palette)))
-    made = [SIGNATURE, chunk(b"IHDR", header), chunk(b"PLTE", palette), chunk(b"tEXt", COMMENT)]
-    made.append(chunk(b"tEXt", PALETTE_KEYWORD + b"\0" + hex_words(picture.palette)))
+    rows = register_rows(picture.screen, picture.resolution)
+    texts = [COMMENT, PALETTE_KEYWORD + b"\0" + hex_words(picture.palette)]
     if picture.tail_present:
         tail = [word for table in picture.tail for word in table]
-        made.append(chunk(b"tEXt", TAIL_KEYWORD + b"\0" + hex_words(tail)))
-    return b"".join([*made, chunk(b"IDAT", zlib.compress(rows)), chunk(b"IEND", b"")])
+        texts.append(TAIL_KEYWORD + b"\0" + hex_words(tail))
+    return indexed_png(len(rows[0]), 8, rows, colours(picture.resolution, picture.palette), texts)
+
+
+def plate_png_of(plate: Plate) -> bytes:
+    """An indexed PNG of one bit a pixel: 0 white, 1 black."""
+    return indexed_png(PLATE_WIDTH, 1, plate.rows(), PLATE_COLOURS, [])
+
+
+def indexed_png(width: int, depth: int, rows: list[bytes], palette: list[Colour], texts: list[bytes]) -> bytes:
+    """A PNG of these rows, so many bits a pixel, without filters."""
+    header = width.to_bytes(4, "big") + len(rows).to_bytes(4, "big") + bytes((depth, INDEXED, 0, 0, 0))
+    made = [SIGNATURE, chunk(b"IHDR", header), chunk(b"PLTE", b"".join(map(bytes, palette)))]
+    made += [chunk(b"tEXt", text) for text in texts]
+    body = b"".join(b"\0" + row for row in rows)
+    return b"".join([*made, chunk(b"IDAT", zlib.compress(body)), chunk(b"IEND", b"")])
 
 
 def chunk(name: bytes, data: bytes) -> bytes:
@@ -100,6 +123,11 @@ def netpbm_header(mark: str, picture: Picture) -> bytes:
     return f"{mark}\n{width} {height}\n255\n".encode("ascii")
 
 
+def bitmap_of(plate: Plate) -> bytes:
+    """A portable bitmap (P4): the plate's bits as they are."""
+    return f"P4\n{PLATE_WIDTH} {PLATE_HEIGHT}\n".encode("ascii") + b"".join(plate.rows())
+
+
 def picture_of(image: Image, palette=None, tail: Tail | None = None) -> Picture:
     """The picture whose registers are an image's pixel values; refused with 10 where a value is no register.
 
@@ -123,22 +151,55 @@ def picture_of(image: Image, palette=None, tail: Tail | None = None) -> Picture:
     return Picture(resolution, tuple(words), tail is not None, Tail() if tail is None else tail, screen)
 
 
+def plate_of(image: Image) -> Plate:
+    """The plate whose bits are an image's pixel values, 0 white and 1 black."""
+    if (image.width, image.height) != (PLATE_WIDTH, PLATE_HEIGHT):
+        raise BadImage(f"a plate has {PLATE_WIDTH} x {PLATE_HEIGHT} pixels, not {image.width} x {image.height}")
+    if image.colours is None or image.colours[:2] != PLATE_COLOURS or max(image.pixels) > 1:
+        raise BadImage("a plate is white where its values are 0 and black where they are 1")
+    return Plate(int(image.pixels.translate(DIGITS), 2).to_bytes(PLATE_BYTES, "big"))
+
+
 def read_image(data: bytes) -> Image:
-    """The pixel values of an indexed or 8 bit grey PNG, or of a PGM (P5)."""
+    """The pixel values of an indexed or 8 bit grey PNG, of a PGM (P5) or of a PBM (P4)."""
     if len(data) > IMAGE_LIMIT:
         raise BadImage(f"longer than {IMAGE_LIMIT} bytes")
     if data.startswith(SIGNATURE):
         return read_png(data)
     if data.startswith(b"P5"):
         return read_greymap(data)
-    raise BadImage("neither a PNG nor a PGM (P5)")
+    if data.startswith(b"P4"):
+        return read_bitmap(data)
+    raise BadImage("neither a PNG nor a PGM (P5) or PBM (P4)")
 
 
 def read_greymap(data: bytes) -> Image:
     """The values of a PGM as they stand."""
+    (width, height, largest), place = netpbm_numbers(data, "PGM", ("width", "height", "largest value"))
+    pixels = data[place : place + width * height]
+    if len(pixels) < width * height:
+        raise BadImage("the PGM ends before its last pixel")
+    if largest > 255:
+        raise BadImage("a PGM of one byte a pixel is needed")
+    return Image(width, height, pixels)
+
+
+def read_bitmap(data: bytes) -> Image:
+    """The bits of a PBM."""
+    (width, height), place = netpbm_numbers(data, "PBM", ("width", "height"))
+    row_bytes = (width + 7) // 8
+    end = place + row_bytes * height
+    if len(data) < end:
+        raise BadImage("the PBM ends before its last pixel")
+    rows = [data[start : start + row_bytes] for start in range(place, end, row_bytes or 1)]
+    return Image(width, height, spread(rows, 1, width), PLATE_COLOURS)
+
+
+def netpbm_numbers(data: bytes, title: str, fields: tuple[str, ...]) -> tuple[list[int], int]:
+    """The numbers in the header of a PGM or PBM, and where its pixels start."""
     place = 2
     numbers: list[int] = []
-    while len(numbers) < 3:
+    while len(numbers) < len(fields):
         end = place
         while data[end : end + 1].isdigit():
             end += 1
@@ -150,14 +211,10 @@ def read_greymap(data: bytes) -> Image:
         elif data[place : place + 1].isspace():
             place += 1
         else:
-            raise BadImage("a PGM's header is width, height and largest value")
-    width, height, largest = numbers
-    pixels = data[place + 1 : place + 1 + width * height]
-    if not data[place : place + 1].isspace() or len(pixels) < width * height:
-        raise BadImage("the PGM ends before its last pixel")
-    if largest > 255:
-        raise BadImage("a PGM of one byte a pixel is needed")
-    return Image(width, height, pixels)
+            raise BadImage(f"a {title}'s header is {', '.join(fields[:-1])} and {fields[-1]}")
+    if not data[place : place + 1].isspace():
+        raise BadImage(f"the {title} ends before its last pixel")
+    return numbers, place + 1
 
 
 def read_png(data: bytes) -> Image:
@@ -179,13 +236,20 @@ def read_png(data: bytes) -> Image:
     depth, colour_type, _, _, interlace = header[8:]
     if interlace or (colour_type, depth) not in ((GREY, 8), (INDEXED, 1), (INDEXED, 2), (INDEXED, 4), (INDEXED, 8)):
         raise BadImage("an indexed PNG, not interlaced, is needed: colours are no registers")
+    check_size(width, height)
+    rows = unfiltered(b"".join(body), (width * depth + 7) // 8, height)
+    pixels = spread(rows, depth, width)
+    return Image(width, height, pixels, palette, texts.get(PALETTE_KEYWORD), texts.get(TAIL_KEYWORD))
+
+
+def check_size(width: int, height: int) -> None:
+    """Only the sizes of screens and plates are unpacked."""
+    if (width, height) == (PLATE_WIDTH, PLATE_HEIGHT):
+        return
     try:
         resolution_of(width, height)
     except ValueError as error:
         raise BadImage(str(error)) from None
-    rows = unfiltered(b"".join(body), (width * depth + 7) // 8, height)
-    pixels = b"".join(spread(row, depth)[:width] for row in rows)
-    return Image(width, height, pixels, palette, texts.get(PALETTE_KEYWORD), texts.get(TAIL_KEYWORD))
 
 
 def chunks(data: bytes):
@@ -249,11 +313,11 @@ def paeth(left: int, up: int, corner: int) -> int:
     return min((left, up, corner), key=lambda value: abs(guess - value))
 
 
-def spread(row: bytes, depth: int) -> bytes:
-    """One byte a pixel from 1, 2, 4 or 8 bits a pixel."""
+def spread(rows: list[bytes], depth: int, width: int) -> bytes:
+    """One byte a pixel from rows of 1, 2, 4 or 8 bits a pixel."""
     if depth == 8:
-        return row
+        return b"".join(rows)
     mask = (1 << depth) - 1
     shifts = range(8 - depth, -1, -depth)
     table = [bytes(value >> shift & mask for shift in shifts) for value in range(256)]
-    return b"".join(table[value] for value in row)
+    return b"".join(b"".join([table[value] for value in row])[:width] for row in rows)

@@ -108,6 +108,10 @@ class WriteAnswer(Structure):
     _fields_ = [("refusal", Refusal), ("length", c_size_t), ("body", c_size_t), ("records", c_size_t)]
 
 
+class BodyAnswer(Structure):
+    _fields_ = [("refusal", Refusal), ("body", c_size_t), ("records", c_size_t)]
+
+
 class Rectangle(Structure):
     _fields_ = [("left", c_size_t), ("top", c_size_t), ("columns", c_size_t), ("lines", c_size_t)]
 
@@ -147,6 +151,8 @@ FUNCTIONS = {
     "kutimuq_pond": (PondAnswer, (*INPUT, c_uint16, Rectangle, c_uint8, c_uint8, Legend)),
     "kutimuq_read": (ReadAnswer, (c_uint8, *INPUT, *OUTPUT)),
     "kutimuq_write": (WriteAnswer, (c_uint8, Picture, *INPUT, *OUTPUT)),
+    "kutimuq_read_plate": (BodyAnswer, (*INPUT, *OUTPUT)),
+    "kutimuq_write_plate": (WriteAnswer, (*INPUT, *OUTPUT)),
 }
 
 _library: ctypes.CDLL | None = None
@@ -247,7 +253,8 @@ class Refused(Exception):
     """The input was judged and refused; nothing was made from it.
 
     For numbers 6 and 7, plane_row is the row with the record at fault, from 0, and good_bytes are the bytes that it had
-    before that record; a row that is unpacked by itself is row 0. Both are 0 for every other number.
+    before that record; a row that is unpacked by itself is row 0, and a plate's rows are its plane rows. Both are 0 for
+    every other number.
     """
 
     def __init__(self, number: int, place: int = 0, plane_row: int = 0, good_bytes: int = 0):

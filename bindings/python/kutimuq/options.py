@@ -1,10 +1,12 @@
-"""Command line options: a small parser, since importing argparse alone takes longer than all else at start-up."""
+"""Command line options: a small parser, since importing argparse takes longer than all else, and each command's."""
 
 from __future__ import annotations
 
 from collections import namedtuple
 from keyword import iskeyword
 from types import SimpleNamespace
+
+from .files import FORM_NAMES, KIND_NAMES, PLATE_FORM
 
 
 class WrongUse(Exception):
@@ -117,7 +119,7 @@ def command_help(program: str, name: str, command: Command) -> str:
     operands = "" if command.operands is None else f" {command.operands.rstrip('+')}..."
     lines = [f"usage: {program} {name}{needed} [OPTION]...{operands}", "", command.about, ""]
     if command.operands is not None and not command.operands.endswith("+"):
-        lines += [f"Without a {command.operands} standard input is read.", ""]
+        lines += [f"Without {command.operands} standard input is read.", ""]
     rows = [(option.shown, option.about or "") for option in command.options] + [("-h, --help", "this help")]
     return "\n".join(lines + columns(rows)) + "\n"
 
@@ -126,3 +128,83 @@ def columns(rows: list[tuple[str, str]]) -> list[str]:
     """Two columns of text."""
     width = max(len(left) for left, _ in rows)
     return [f"  {left:<{width}}  {right}".rstrip() for left, right in rows]
+
+
+# Values of options.
+
+
+def parse_rectangle(text: str):
+    from .index import rectangle_of
+
+    return rectangle_of(text)
+
+
+def parse_class(text: str) -> int:
+    from .index import number_within
+
+    return number_within(text, 255, "class")
+
+
+def parse_confidence(text: str) -> int:
+    from .index import CONFIDENCE_MAX, number_within
+
+    return number_within(text, CONFIDENCE_MAX, "confidence")
+
+
+def parse_palette(text: str) -> list[int]:
+    from .images import words_of
+
+    words = words_of(text.replace(",", " ").lower().encode("ascii", "replace"))
+    if words is None:
+        raise ValueError("16 words of four hexadecimal digits are needed")
+    return words
+
+
+def parse_jobs(text: str) -> int:
+    from .index import number_within
+
+    return max(1, number_within(text, 1024, "processes"))
+
+
+# The options.
+
+KIND = Option(
+    ("--kind",),
+    "KIND",
+    "degas, neo, tiny or mac; default: found by content, then by extension",
+    choice(list(KIND_NAMES)),
+)
+QUIET = Option(("-q", "--quiet"), None, "do not say which kind was found")
+OUTPUT_FILE = Option(("-o", "--output"), "FILE", "where the result goes; default: standard output")
+FOLDER = Option(("-d", "--folder"), "FOLDER", "one result for each file, named after it, in this folder")
+FORM = Option(
+    ("--form",),
+    "FORM",
+    f"{', '.join(FORM_NAMES)}, or {PLATE_FORM} for a plate",
+    choice([*FORM_NAMES, PLATE_FORM]),
+    True,
+)
+RECTANGLE = Option(("--rectangle",), "L,T,C,N", "left, top, columns, lines; default: the whole screen", parse_rectangle)
+LEGEND = Option(("--legend",), "FILE", "16 lines `class confidence [owner [name]]`, register 0 first")
+NEEDED_LEGEND = LEGEND._replace(required=True)
+PALETTE = Option(("--palette",), "WORDS", "16 hexadecimal words; default: the PNG's palette", parse_palette)
+LIKE = Option(("--like",), "PICTURE", "take palette and tail from this picture file")
+CLASS = Option(("--class",), "CLASS", "0 to 255", parse_class, True)
+FLOOR = Option(("--floor",), "CONFIDENCE", "0 to 100; pixels below it are unsure", parse_confidence, True)
+LIST = Option(("--list",), "FILE", "CSV with the columns name, rectangle, class and floor", None, True)
+JSON = Option(("--json",), "FILE", "a line of JSON for each file")
+CSV = Option(("--csv",), "FILE", "a table of the files")
+REPORT = Option(("--report",), "PAGE", "one HTML page with pictures, refusals and duplicates")
+JOBS = Option(("--jobs",), "N", "processes; default: one for each core", parse_jobs)
+RESUME = Option(("--resume",), None, "take up an interrupted run that had the same --json")
+
+# The options of the commands, by what the commands are for.
+SOURCES = (KIND, QUIET)
+TO_FILES = (KIND, QUIET, OUTPUT_FILE, FOLDER)
+TO_CHECK = (KIND, JSON, CSV, REPORT, LEGEND, JOBS, RESUME)
+TO_ENVI = (*TO_FILES, LEGEND)
+TO_FORM = (FORM, *TO_FILES)
+TO_ENCODE = (FORM, PALETTE, LIKE, OUTPUT_FILE, FOLDER)
+TO_TALLY = (RECTANGLE, *SOURCES)
+TO_READ_POND = (NEEDED_LEGEND, CLASS, FLOOR, RECTANGLE, *SOURCES)
+TO_READ_PONDS = (NEEDED_LEGEND, LIST, OUTPUT_FILE, *SOURCES)

@@ -1,4 +1,4 @@
-"""Pictures: read from files and written to files; single PackBits rows; screens and their registers."""
+"""Pictures and MacPaint plates: read from files and written to files; PackBits rows; screens and their registers."""
 
 from __future__ import annotations
 
@@ -8,7 +8,18 @@ import sys
 from collections import namedtuple
 
 from . import library as lib
-from .files import FORM_NAMES, KIND_NAMES, find_kind, form_named, number_of, put, take, take_from
+from .files import (
+    FORM_NAMES,
+    KIND_MAC,
+    KIND_NAMES,
+    LONGEST_PLATE_FILE,
+    find_kind,
+    form_named,
+    number_of,
+    put,
+    take,
+    take_from,
+)
 from .library import Refused, accepted, library
 
 SCREEN_BYTES = 32_000
@@ -135,7 +146,11 @@ def write(picture: Picture, screen, form: int) -> File:
     screen = lib.lent(screen)
     struct = picture_struct(picture)
     out = lib.room(FILE_BYTES)
-    answer = library().kutimuq_write(lib.byte(form), struct, screen, len(screen), out, len(out))
+    return file_of(library().kutimuq_write(lib.byte(form), struct, screen, len(screen), out, len(out)), out)
+
+
+def file_of(answer, out) -> File:
+    """The file that writing put to the front of this output."""
     file = File(out.raw[: accepted(answer).length])
     file.body = answer.body
     file.records = answer.records
@@ -152,6 +167,94 @@ def picture_struct(picture: Picture) -> lib.Picture:
     for table, values in zip(struct.tail, tables):
         table.words[:] = lib.words(values, 4)
     return struct
+
+
+# MacPaint plates.
+
+PLATE_WIDTH = 576
+PLATE_HEIGHT = 720
+PLATE_ROW_BYTES = 72
+PLATE_BYTES = PLATE_ROW_BYTES * PLATE_HEIGHT
+_PIXELS = bytes.maketrans(b"01", b"\0\1")
+
+
+class Plate(namedtuple("Plate", "bitmap body records", defaults=(0, 0))):
+    """A black and white plate of 576 x 720 pixels: a bitmap of 720 rows of 72 bytes, from the top.
+
+    The leftmost pixel is a byte's top bit; 0 is white, 1 black. body and records are what reading found; writing does
+    not look at them.
+    """
+
+    __slots__ = ()
+    bitmap: bytes
+    body: int
+    records: int
+
+    def __repr__(self) -> str:
+        return f"<kutimuq.Plate: {self.records} records, body {self.body}>"
+
+    def rows(self) -> list[bytes]:
+        """The rows from the top, eight pixels a byte; refused with 1 where bytes are missing."""
+        from .enumerations import RefusalNumber
+
+        if len(self.bitmap) < PLATE_BYTES:
+            raise Refused(RefusalNumber.AREA_TOO_SHORT)
+        return [self.bitmap[start : start + PLATE_ROW_BYTES] for start in range(0, PLATE_BYTES, PLATE_ROW_BYTES)]
+
+    def pixels(self) -> list[bytes]:
+        """The rows from the top, one byte a pixel: 0 white, 1 black."""
+        return [f"{int.from_bytes(row, 'big'):0{PLATE_WIDTH}b}".encode().translate(_PIXELS) for row in self.rows()]
+
+    def tally(self) -> tuple[int, int]:
+        """The white and the black pixels."""
+        black = bin(int.from_bytes(b"".join(self.rows()), "big")).count("1")
+        return PLATE_WIDTH * PLATE_HEIGHT - black, black
+
+    def pbm(self) -> bytes:
+        """A portable bitmap (P4)."""
+        from .images import bitmap_of
+
+        return bitmap_of(self)
+
+    def png(self) -> bytes:
+        """An indexed PNG of one bit a pixel: 0 white, 1 black."""
+        from .images import plate_png_of
+
+        return plate_png_of(self)
+
+    def save(self, path) -> File:
+        """Writes the plate to a MacPaint file, whole or not at all, and gives what was written."""
+        file = write_plate(self.bitmap)
+        put(path, file)
+        return file
+
+
+def open_plate(file) -> Plate:
+    """The plate in a MacPaint file, given by its path or open for bytes."""
+    return read_plate(take_from(file) if hasattr(file, "read") else take(file))
+
+
+def read_plate(data) -> Plate:
+    """The plate in a MacPaint file's bytes."""
+    data = lib.lent(data)
+    bitmap = lib.room(PLATE_BYTES)
+    answer = accepted(library().kutimuq_read_plate(data, len(data), bitmap, len(bitmap)))
+    return Plate(bitmap.raw, answer.body, answer.records)
+
+
+def write_plate(bitmap) -> File:
+    """The MacPaint file of a plate's bitmap, with a header of zeros and the least body."""
+    bitmap = lib.lent(bitmap)
+    out = lib.room(LONGEST_PLATE_FILE)
+    return file_of(library().kutimuq_write_plate(bitmap, len(bitmap), out, len(out)), out)
+
+
+def read_any(data, kind: int) -> Picture | Plate:
+    """The plate in a MacPaint file's bytes, or the picture in those of another kind."""
+    return read_plate(data) if kind == KIND_MAC else read(data, kind)
+
+
+# Single rows.
 
 
 class Row(bytes):
@@ -189,7 +292,7 @@ def _row(answer, made: bytes) -> Row:
 
 
 class Shape(namedtuple("Shape", "width height planes")):
-    """The pixels and planes of a resolution."""
+    """The pixels and planes of a resolution, or of a plate."""
 
     __slots__ = ()
     width: int
@@ -203,6 +306,7 @@ class Shape(namedtuple("Shape", "width height planes")):
 
 
 SHAPES = {0: Shape(320, 200, 4), 1: Shape(640, 200, 2), 2: Shape(640, 400, 1)}
+PLATE_SHAPE = Shape(PLATE_WIDTH, PLATE_HEIGHT, 1)
 
 # Stands in for an unknown resolution, so that the library is asked and refuses it.
 UNKNOWN_SHAPE = Shape(640, 1, 0)

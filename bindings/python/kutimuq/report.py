@@ -12,11 +12,11 @@ from importlib.resources import files as package_files
 
 from . import __version__
 from .box import Check, least_rewriting, spread_over
-from .files import kind_titled, shown, take
-from .images import png_of
+from .files import KIND_MAC, kind_titled, shown, take
+from .images import PLATE_COLOURS
 from .index import colours
 from .library import Refused, good_part
-from .pictures import read, shape
+from .pictures import PLATE_SHAPE, Shape, read_any, shape
 
 TITLES = ("low", "medium", "high")
 GOOD_NOTE = (
@@ -87,7 +87,7 @@ def good_columns(record: dict) -> dict:
     plane_row, good_bytes = record["plane_row"], record["good_bytes"]
     if plane_row is None:
         return {"good_rows": None, "good_pixels": None}
-    width, height, planes = shape(record["resolution"])
+    width, height, planes = shape_of(record)
     line, plane = divmod(plane_row, planes)
     good = line * width + (8 * good_bytes if plane == planes - 1 else 0)
     tenths = 1000 * good // (width * height)
@@ -95,6 +95,20 @@ def good_columns(record: dict) -> dict:
         "good_rows": f"{good_part(plane_row, good_bytes)}: scan line {line}, plane {plane}",
         "good_pixels": f"{good} of {width * height} ({tenths // 10}.{tenths % 10} %)",
     }
+
+
+def is_plate(record: dict) -> bool:
+    return kind_titled(record["kind"]) == KIND_MAC
+
+
+def shape_of(record: dict) -> Shape:
+    """Width, height and planes of a picture or plate."""
+    return PLATE_SHAPE if is_plate(record) else shape(record["resolution"])
+
+
+def size_of(record: dict) -> str:
+    """A picture's resolution or a plate's size, in words."""
+    return f"{PLATE_SHAPE.width} x {PLATE_SHAPE.height}" if is_plate(record) else TITLES[record["resolution"]]
 
 
 def copies_of(records: list[dict]) -> dict[str, list[str]]:
@@ -120,39 +134,43 @@ def figures(records: list[dict], copies: dict[str, list[str]], jobs: int) -> str
     for record, image in zip(records, images):
         name = text(record["name"])
         more = f" and {len(copies[record['name']])} more" if record["name"] in copies else ""
-        about = f"{escape(record['kind'])}, {TITLES[record['resolution']]}{more}"
+        about = f"{escape(record['kind'])}, {size_of(record)}{more}"
         source = f"data:image/png;base64,{image}"
         picture = f'<img loading="lazy" alt="" src="{source}">' if image else "<p>changed since it was judged</p>"
         caption = f"<figcaption><b>{text(os.path.basename(record['name']))}</b> {about}</figcaption>"
-        made.append(f'<figure tabindex="0" title="{name}">{picture}{caption}</figure>')
+        mark = ' class="plate"' if is_plate(record) else ""
+        made.append(f'<figure{mark} tabindex="0" title="{name}">{picture}{caption}</figure>')
     return "\n".join(made) or "<p>None.</p>"
 
 
 def image_of(name: str, kind: str, digest: str) -> str:
-    """A picture as base64 of an indexed PNG; empty if the file is not what was judged."""
+    """A picture or plate as base64 of an indexed PNG; empty if the file is not what was judged."""
     try:
-        picture = read(take(name), kind_titled(kind))
+        picture = read_any(take(name), kind_titled(kind))
     except (OSError, Refused):
         return ""
     if sha256(least_rewriting(picture)[1]).hexdigest() != digest:
         return ""
-    return b64encode(png_of(picture)).decode("ascii")
+    return b64encode(picture.png()).decode("ascii")
 
 
 def data_of(records: list[dict], legend) -> str:
     """What the page's program shows beside a picture."""
     pictures = []
     for record in records:
-        width, height, _ = shape(record["resolution"])
+        width, height, _ = shape_of(record)
+        plate = is_plate(record)
+        unit = "" if plate else " resolution"
         pictures.append(
             {
                 "name": shown(record["name"]),
+                "plate": plate,
                 "width": width,
                 "height": height,
                 "tally": record["tally"],
-                "palette": [f"{word:04x}" for word in record["palette"]],
-                "colours": colours(record["resolution"], record["palette"]),
-                "facts": f"{record['kind']}, {TITLES[record['resolution']]} resolution, SHA-256 {record['sha256']}",
+                "palette": [] if plate else [f"{word:04x}" for word in record["palette"]],
+                "colours": PLATE_COLOURS if plate else colours(record["resolution"], record["palette"]),
+                "facts": f"{record['kind']}, {size_of(record)}{unit}, SHA-256 {record['sha256']}",
             }
         )
     entries = None

@@ -33,9 +33,9 @@ PROGRAM = shlex.join(support.PROGRAM)
 
 
 COMMANDS = (
-    "check summary palette tail png envi registers colours convert encode tally pond ponds levels".split()
+    "check summary palette tail png pbm envi registers colours convert encode tally pond ponds levels".split()
 )
-MEANING_8 = "after the body not exactly 32 bytes"
+MEANING_8 = "bytes after the body not as the format has them"
 GREY_16 = b"P5\n320 200\n255\n" + bytes(63_999) + b"\x10"
 
 
@@ -362,7 +362,7 @@ class Refusals(unittest.TestCase):
                 ["pond", *pond], ["png"], ["envi", "-o", "/nowhere.img"], ["palette"], ["tail"],
             ):
                 done = command(*arguments, "-q", data=BLANK[:-1])
-                line = b"kutimuq: standard input: refused 8 at 1634: after the body not exactly 32 bytes\n"
+                line = b"kutimuq: standard input: refused 8 at 1634: bytes after the body not as the format has them\n"
                 self.assertEqual((done.stdout, done.stderr, done.returncode), (b"", line, 1))
 
     def refused(self, line, name, *arguments, data):
@@ -373,7 +373,7 @@ class Refusals(unittest.TestCase):
 
     def test_summary_writes_the_refusal_too(self):
         # Document 01 gives the summary's line for a refusal.
-        line = "8 at 1634: after the body not exactly 32 bytes"
+        line = "8 at 1634: bytes after the body not as the format has them"
         self.assertEqual(self.refused(line, "summary", data=BLANK[:-1]), b"refused 8 at 1634\n")
         line = "3 at 0: file length not allowed"
         self.assertEqual(self.refused(line, "summary", "--kind", "degas", data=b""), b"refused 3 at 0\n")
@@ -405,7 +405,7 @@ class Refusals(unittest.TestCase):
 
     def test_no_packed_body(self):
         raw = b"\0\0" + bytes(32) + noise()
-        line = "9 at 0: no packed body below 32,000 exists"
+        line = "9 at 0: no packed body below the format's limit exists"
         self.assertEqual(self.refused(line, "convert", "--form", "packed", data=raw), b"")
 
     def test_neo(self):

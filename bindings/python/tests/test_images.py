@@ -281,7 +281,8 @@ class Filters(unittest.TestCase):
 
     def test_every_depth(self):
         for depth, expected in ((1, [1, 0, 1, 0, 0, 1, 0, 1]), (2, [2, 2, 1, 1]), (4, [10, 5]), (8, [0xA5])):
-            self.assertEqual(images.spread(b"\xa5", depth), bytes(expected))
+            self.assertEqual(images.spread([b"\xa5"] * 2, depth, len(expected)), bytes(expected) * 2)
+        self.assertEqual(images.spread([b"\xa5"] * 2, 1, 5), bytes([1, 0, 1, 0, 0]) * 2)
 
 
 class Damaged(unittest.TestCase):

@@ -57,7 +57,7 @@ class Structures(unittest.TestCase):
             source.write_text(program())
             subprocess.run(["gcc", "-o", f"{folder}/layout", str(source)], check=True)
             printed = subprocess.run([f"{folder}/layout"], capture_output=True, text=True)
-        self.assertEqual(len(structs()), 12)
+        self.assertEqual(len(structs()), 13)
         self.assertEqual(printed.stdout.splitlines(), layout())
 
 
@@ -72,8 +72,7 @@ class Numbers(unittest.TestCase):
     def test_meanings_as_documented(self):
         rows = dict(re.findall(r"^\| (\d+) \| ([^|]+) \| [^|]+ \|$", FORMATS.read_text(), re.MULTILINE))
         for refusal in kutimuq.RefusalNumber:
-            meaning = refusal.meaning.replace("32,000 exists", "32,000 bytes exists")
-            self.assertEqual(meaning, rows[str(refusal.value)])
+            self.assertEqual(refusal.meaning, rows.get(str(refusal.value)))
 
     def test_a_number_of_a_later_library(self):
         self.assertEqual(str(kutimuq.Refused(200, 7)), "refused 200 at 7: unknown refusal")
@@ -81,7 +80,7 @@ class Numbers(unittest.TestCase):
     def test_the_numbers_as_the_library_gives_them(self):
         refusal = kutimuq.Refused(8, 34, 3, 5)
         self.assertEqual((refusal.plane_row, refusal.good_bytes, refusal.in_row), (3, 5, False))
-        self.assertEqual(str(refusal), "refused 8 at 34: after the body not exactly 32 bytes")
+        self.assertEqual(str(refusal), "refused 8 at 34: bytes after the body not as the format has them")
 
 
 class Finding(unittest.TestCase):

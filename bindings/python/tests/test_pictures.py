@@ -75,9 +75,9 @@ class Reading(Case):
     def test_meaning(self):
         with self.assertRaises(kutimuq.Refused) as caught:
             kutimuq.read(BLANK[:-1], Kind.DEGAS)
-        self.assertEqual(caught.exception.meaning, "after the body not exactly 32 bytes")
+        self.assertEqual(caught.exception.meaning, "bytes after the body not as the format has them")
         self.assertEqual(
-            str(caught.exception), "refused 8 at 1634: after the body not exactly 32 bytes"
+            str(caught.exception), "refused 8 at 1634: bytes after the body not as the format has them"
         )
 
 

@@ -66,7 +66,7 @@ class Page(unittest.TestCase):
             ">Duplicates</h2>", "B.PI2: ", ">Pictures</h2>", "<img ",
         )]
         self.assertEqual(places, sorted(places))
-        self.assertIn("<td>after the body not exactly 32 bytes</td>", page)
+        self.assertIn("<td>bytes after the body not as the format has them</td>", page)
 
     def test_self_contained(self):
         page = self.page()
@@ -107,7 +107,7 @@ class Page(unittest.TestCase):
             rows = f"plane row {plane_row}, {good_bytes} bytes good: scan line {line}, plane {plane}"
             page = self.page()
             self.assertIn(f"row&#x27;s end</td><td>{rows}</td><td>{pixels}</td></tr>", page)
-            self.assertIn("after the body not exactly 32 bytes</td><td></td><td></td></tr>", page)
+            self.assertIn("bytes after the body not as the format has them</td><td></td><td></td></tr>", page)
         self.assertIn("<th>meaning</th><th>good rows</th><th>good pixels</th></tr>", page)
 
     def test_no_map_that_broke_in_a_row(self):
@@ -134,6 +134,14 @@ class Page(unittest.TestCase):
         colour = " ".join(map(str, kutimuq.colour(1, PALETTE, register)))
         shown = self.shown(self.page(), 1, 555, 150)
         self.assertEqual(self.text(shown, "pointer"), f"x 555, y 150: register {register}, no legend, colour  {colour}")
+
+    @unittest.skipUnless(shutil.which("chromium"), "chromium is not installed")
+    def test_a_plate_in_a_browser(self):
+        self.put("P.MAC", kutimuq.write_plate(bytes(51_839) + b"\1"))
+        shown = self.shown(self.page(), 2, 575, 719)
+        self.assertEqual(self.text(shown, "pointer"), "x 575, y 719: black, colour  0 0 0")
+        self.assertRegex(shown, r"<tr[^>]*><td>0</td><td>414719</td>")
+        self.assertRegex(shown, r'<tr class="under"><td>1</td><td>1</td>')
 
     def shown(self, page, number, x, y):
         """The page's content after a browser ran it and pointed at a pixel."""

@@ -47,6 +47,14 @@ pub struct WriteAnswer {
 
 #[repr(C)]
 #[derive(Clone, Copy, Debug, Default, PartialEq, Eq)]
+pub struct BodyAnswer {
+    pub refusal: Refusal,
+    pub body: usize,
+    pub records: usize,
+}
+
+#[repr(C)]
+#[derive(Clone, Copy, Debug, Default, PartialEq, Eq)]
 pub struct Rectangle {
     pub left: usize,
     pub top: usize,
@@ -164,6 +172,18 @@ extern "C" {
         picture: Picture,
         screen: *const u8,
         screen_len: usize,
+        out: *mut u8,
+        out_len: usize,
+    ) -> WriteAnswer;
+    pub fn kutimuq_read_plate(
+        file: *const u8,
+        file_len: usize,
+        plate: *mut u8,
+        plate_len: usize,
+    ) -> BodyAnswer;
+    pub fn kutimuq_write_plate(
+        plate: *const u8,
+        plate_len: usize,
         out: *mut u8,
         out_len: usize,
     ) -> WriteAnswer;

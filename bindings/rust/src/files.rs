@@ -52,7 +52,7 @@ pub struct Reading {
     pub records: usize,
 }
 
-/// The file's length, and as in `Reading` its body and records.
+/// The file's length, and as in `Reading` or `PlateReading` its body and records.
 #[derive(Clone, Copy, Debug, PartialEq, Eq)]
 pub struct Written {
     pub length: usize,

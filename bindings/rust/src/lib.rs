@@ -1,4 +1,5 @@
-//! Atari ST pictures (DEGAS, DEGAS Elite, NEOchrome, Tiny) by way of the proved Kutimuq library.
+//! Atari ST pictures (DEGAS, DEGAS Elite, NEOchrome, Tiny) and MacPaint plates by way of the proved
+//! Kutimuq library.
 //!
 //! Every function takes every input. A refusal gives a number and a place, and then no byte of
 //! any slice lent to the call has changed.
@@ -28,6 +29,7 @@
 pub mod ffi;
 mod files;
 mod pixels;
+mod plates;
 pub mod refusal;
 mod resolution;
 mod rows;
@@ -37,6 +39,7 @@ pub use files::{read, write, Form, Kind, Picture, Reading, Tail, Written};
 pub use pixels::{
     colour, line_in, line_out, pond, screen_in, screen_out, tally, Colour, PondReading,
 };
+pub use plates::{read_plate, write_plate, PlateReading};
 pub use refusal::Refusal;
 pub use resolution::{Resolution, Shape};
 pub use rows::{pack_row, unpack_row, PackedRow};
@@ -63,3 +66,18 @@ pub const WIDEST_ROW: usize = 128;
 
 /// The output that packing a row needs.
 pub const PACK_AREA_BYTES: usize = 129;
+
+/// A plate: 720 rows of 72 bytes, the leftmost pixel a byte's top bit, 0 white and 1 black.
+pub const PLATE_BYTES: usize = 51_840;
+
+/// A plate's row.
+pub const PLATE_ROW_BYTES: usize = 72;
+
+/// The pixels of a plate's row.
+pub const PLATE_WIDTH: usize = 576;
+
+/// The rows of a plate.
+pub const PLATE_HEIGHT: usize = 720;
+
+/// The longest MacPaint file that reading accepts, and the output that writing one needs.
+pub const LONGEST_PLATE_FILE: usize = 51_711;

@@ -6,7 +6,8 @@ use std::fmt;
 /// Why an operation refused its input; all zero in the answer of one that accepted it.
 ///
 /// The place is an offset for 6, 7, 8, 11 and 12, and else 0. Plane row and good bytes come with 6
-/// and 7 only and are else 0: `read` gives both, `unpack_row` good bytes, and plane row 0.
+/// and 7 only and are else 0: `read` and `read_plate` give both, `unpack_row` good bytes, and plane
+/// row 0.
 #[repr(C)]
 #[derive(Clone, Copy, Debug, Default, PartialEq, Eq)]
 pub struct Refusal {
@@ -37,12 +38,13 @@ numbers! {
     UNKNOWN_RESOLUTION = 5, "resolution above 2";
     INPUT_ENDS = 6, "input ends before the screen or row is full";
     RECORD_CROSSES = 7, "a record crosses its row's end";
-    WRONG_TAIL = 8, "after the body not exactly 32 bytes";
-    NO_PACKED_BODY = 9, "no packed body below 32,000 exists";
+    WRONG_TAIL = 8, "bytes after the body not as the format has them";
+    NO_PACKED_BODY = 9, "no packed body below the format's limit exists";
     OUT_OF_RANGE = 10, "a number out of range";
     UNDEFINED_CONTROL = 11, "a control byte or a count that is not defined";
     RUN_TOO_LONG = 12, "a count cut short, or a run past the words to make or the data";
     SIZE_MISMATCH = 13, "data left or words missing after the last run";
+    WRONG_VERSION = 20, "MacPaint version neither 0 nor 2";
 }
 
 impl Refusal {

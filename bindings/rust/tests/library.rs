@@ -306,3 +306,105 @@ fn noise_has_no_packed_body() {
     assert_eq!(refused(answer), (refusal::NO_PACKED_BODY, 0));
     assert!(out.iter().all(|byte| *byte == UNTOUCHED));
 }
+
+const PLATE_HEADER: usize = 512;
+const BLANK_ROW: [u8; 2] = [(257 - PLATE_ROW_BYTES) as u8, 0];
+
+/// A MacPaint file of this version and body.
+fn plate_file(version: u32, body: &[u8]) -> Vec<u8> {
+    let mut file = version.to_be_bytes().to_vec();
+    file.resize(PLATE_HEADER, 0xA5);
+    file.extend(body);
+    file
+}
+
+/// A row whose least body is so much shorter than the worst row's: equal bytes, two more than that,
+/// and then no two neighbours equal.
+fn row_saving(saved: usize) -> Vec<u8> {
+    let mut row = vec![7; saved + 2];
+    row.extend((row.len()..PLATE_ROW_BYTES).map(|place| 1 + (place % 2) as u8));
+    row
+}
+
+#[test]
+fn a_blank_plate() {
+    for (version, nothing) in [(0, &[][..]), (2, &[0x80])] {
+        let file = plate_file(version, &[nothing, &BLANK_ROW.repeat(PLATE_HEIGHT)].concat());
+        let mut plate = [UNTOUCHED; PLATE_BYTES + 1];
+        let found = read_plate(&file, &mut plate).expect("a plate");
+        let (body, records) = (1440 + nothing.len(), 720 + nothing.len());
+        assert_eq!(found, PlateReading { body, records });
+        assert!(plate[..PLATE_BYTES].iter().all(|byte| *byte == 0));
+        assert_eq!(plate[PLATE_BYTES], UNTOUCHED);
+    }
+}
+
+#[test]
+fn a_plate_reads_back() {
+    assert_eq!((PLATE_ROW_BYTES * PLATE_HEIGHT, PLATE_ROW_BYTES * 8), (PLATE_BYTES, PLATE_WIDTH));
+    let plate: Vec<u8> = (0..PLATE_BYTES).map(|place| (place / 9 + place / 72) as u8).collect();
+    let mut out = [UNTOUCHED; LONGEST_PLATE_FILE];
+    let written = write_plate(&plate, &mut out).expect("a file");
+    let (file, past) = out.split_at(written.length);
+    assert_eq!(written.length, PLATE_HEADER + written.body);
+    assert!(file[..PLATE_HEADER].iter().all(|byte| *byte == 0));
+    assert!(past.iter().all(|byte| *byte == UNTOUCHED));
+    let mut area = [UNTOUCHED; PLATE_BYTES];
+    let found = read_plate(file, &mut area).expect("a plate");
+    assert_eq!(found, PlateReading { body: written.body, records: written.records });
+    assert_eq!(area[..], plate[..]);
+}
+
+#[test]
+fn a_plate_is_refused() {
+    let blank = plate_file(0, &BLANK_ROW.repeat(PLATE_HEIGHT));
+    let mut plate = [UNTOUCHED; PLATE_BYTES];
+    let too_long = vec![0; LONGEST_PLATE_FILE + 1];
+    assert_eq!(refused(read_plate(&[], &mut plate[1..])), (refusal::AREA_TOO_SHORT, 0));
+    for file in [&blank[..PLATE_HEADER - 1], &too_long] {
+        assert_eq!(refused(read_plate(file, &mut plate)), (refusal::WRONG_LENGTH, 0));
+    }
+    for version in [1, 3, 0x0002_0000, 0x0200_0000] {
+        let file = plate_file(version, &[]);
+        assert_eq!(refused(read_plate(&file, &mut plate)), (refusal::WRONG_VERSION, 0));
+    }
+    let left = [&blank[..], &[0x80]].concat();
+    assert_eq!(refused(read_plate(&left, &mut plate)), (refusal::WRONG_TAIL, blank.len()));
+    assert!(plate.iter().all(|byte| *byte == UNTOUCHED));
+}
+
+#[test]
+fn a_plate_says_which_row_broke() {
+    let mut plate = [UNTOUCHED; PLATE_BYTES];
+    for (plane_row, good_bytes) in [(0, 0), (26, 11), (PLATE_HEIGHT - 1, PLATE_ROW_BYTES - 1)] {
+        for (number, fault) in [
+            (refusal::INPUT_ENDS, &[][..]),
+            (refusal::INPUT_ENDS, &[0x00]),
+            (refusal::RECORD_CROSSES, &[(PLATE_ROW_BYTES - good_bytes) as u8]),
+        ] {
+            let rows = [BLANK_ROW.repeat(plane_row), [0x00, 7].repeat(good_bytes)].concat();
+            let place = PLATE_HEADER + rows.len();
+            let file = plate_file(0, &[&rows, fault].concat());
+            let refused = read_plate(&file, &mut plate).expect_err("a refusal");
+            assert_eq!(refused, Refusal { number, place, plane_row, good_bytes });
+        }
+    }
+    assert!(plate.iter().all(|byte| *byte == UNTOUCHED));
+}
+
+#[test]
+fn a_plate_is_written_exactly_where_a_body_below_the_limit_exists() {
+    // 720 rows of 71 packed bytes are 51,120; each row that saves one less adds one.
+    let plate = |longer: usize| {
+        let rows = [row_saving(1).repeat(longer), row_saving(2).repeat(PLATE_HEIGHT - longer)];
+        rows.concat()
+    };
+    let mut out = [UNTOUCHED; LONGEST_PLATE_FILE];
+    assert_eq!(refused(write_plate(&plate(80), &mut out)), (refusal::NO_PACKED_BODY, 0));
+    let whole = plate(79);
+    assert_eq!(refused(write_plate(&whole[1..], &mut out)), (refusal::AREA_TOO_SHORT, 0));
+    assert_eq!(refused(write_plate(&whole, &mut out[1..])), (refusal::AREA_TOO_SHORT, 0));
+    assert!(out.iter().all(|byte| *byte == UNTOUCHED));
+    let written = write_plate(&whole, &mut out).expect("a file");
+    assert_eq!(written, Written { length: LONGEST_PLATE_FILE, body: 51_199, records: 1440 });
+}
