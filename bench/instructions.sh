@@ -3,8 +3,9 @@
 #
 # Usage: instructions.sh [OPERATION...]
 #
-# OPERATION is an operation of the table of times, or pack-row alone; ten are counted where none is named. The
-# environment variable SCREEN is a screen of that table, by default map; 64 screens in turn count as one call.
+# OPERATION is an operation of the tables of times, or pack-row alone; twelve are counted where none is named. The
+# environment variable SCREEN is a screen of the first table, by default map; 64 screens in turn count as one call.
+# An operation on plates is counted on each plate.
 set -eu
 
 # Valgrind counts each byte of a rep movsb as one instruction: here no copy is long enough for one.
@@ -15,19 +16,18 @@ cargo build -q --release --offline --manifest-path "$here/Cargo.toml"
 bench=${CARGO_TARGET_DIR:-$here/target}/release/kutimuq-bench
 screen=${SCREEN:-map}
 
-# All instructions of a run: OPERATION SIZE N.
+# All instructions of a run: OPERATION SCREEN SIZE N.
 collected() {
-    valgrind --tool=callgrind --callgrind-out-file=/dev/null "$bench" --once "$1" "$screen" "$2" "$3" 2>&1 |
-        sed -n 's/.*Collected : //p'
+    valgrind --tool=callgrind --callgrind-out-file=/dev/null "$bench" --once "$@" 2>&1 | sed -n 's/.*Collected : //p'
 }
 
-# Instructions of one operation: OPERATION SIZE. An unknown name ends the script with the program's own message.
+# Instructions of one operation: OPERATION SCREEN SIZE. An unknown name ends the script with the program's own message.
 instructions() {
-    "$bench" --once "$1" "$screen" "$2" 1 || exit
+    "$bench" --once "$@" 1 || exit
     twice=$(collected "$@" 2)
     once=$(collected "$@" 1)
     if [ "$twice" -le "$once" ]; then
-        echo "no count of: $1 $screen $2" >&2
+        echo "no count of: $*" >&2
         exit 1
     fi
     echo $((twice - once))
@@ -51,7 +51,7 @@ picture_line() {
     counts=
     for by in "" rust-; do
         for resolution in low medium high; do
-            count=$(instructions "$by$1" $resolution)
+            count=$(instructions "$by$1" "$screen" $resolution)
             counts="$counts $count"
         done
     done
@@ -65,25 +65,76 @@ picture_lines() {
     for operation; do
         picture_line "$operation"
     done
-    copy=$(instructions memcpy low)
+    copy=$(instructions memcpy "$screen" low)
     echo
     echo "memcpy of a screen: $copy"
+}
+
+# A line of the table of plates: OPERATION.
+plate_line() {
+    counts=
+    for by in "" rust-; do
+        for plate in text blank noise worst worst-blank-end; do
+            count=$(instructions "$by$1" $plate plate)
+            counts="$counts $count"
+        done
+    done
+    # shellcheck disable=SC2086 # one word a count
+    columns "$1" $counts
+}
+
+plate_lines() {
+    plates="text | blank | noise | worst | worst-blank-end"
+    echo "| operation | $plates | Rust $(echo "$plates" | sed 's/ | / | Rust /g') | ratio |"
+    echo "|---|---|---|---|---|---|---|---|---|---|---|---|"
+    for operation; do
+        plate_line "$operation"
+    done
+    copy=$(instructions memcpy blank plate)
+    echo
+    echo "memcpy of a plate: $copy"
 }
 
 row_lines() {
     echo "| width of a row packed | library | Rust | ratio |"
     echo "|---|---|---|---|"
     for width in 1 2 4 8 16 32 48 64 80 96 112 128; do
-        library=$(instructions pack-row $width)
-        rust=$(instructions rust-pack-row $width)
+        library=$(instructions pack-row "$screen" $width)
+        rust=$(instructions rust-pack-row "$screen" $width)
         columns $width "$library" "$rust"
     done
 }
 
-echo "instructions per call, screen $screen; ratio: library / Rust"
-echo
+pictures=
+plates=
 case "$*" in
-"") picture_lines packed-read tiny-read form3-write lines-in lines-out screen-in screen-out tally pond raw-read ;;
-pack-row) row_lines ;;
-*) picture_lines "$@" ;;
+"")
+    pictures="packed-read tiny-read form3-write lines-in lines-out screen-in screen-out tally pond raw-read"
+    plates="plate-read plate-write"
+    ;;
+pack-row) ;;
+*)
+    for operation; do
+        case $operation in
+        plate-*) plates="$plates $operation" ;;
+        *) pictures="$pictures $operation" ;;
+        esac
+    done
+    ;;
 esac
+
+echo "instructions per call, screen $screen; ratio: library / Rust"
+if [ "$*" = pack-row ]; then
+    echo
+    row_lines
+fi
+# shellcheck disable=SC2086 # one word an operation
+if [ -n "$pictures" ]; then
+    echo
+    picture_lines $pictures
+fi
+# shellcheck disable=SC2086
+if [ -n "$plates" ]; then
+    echo
+    plate_lines $plates
+fi

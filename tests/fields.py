@@ -1,11 +1,36 @@
 """Prints the fields of each struct that C sees, with their types, in the order of declaration: `fields.py rattle CRATES`
-reads the Rattle sources, `fields.py c HEADER` the C header. A struct's layout is fixed by its fields' types in order."""
+reads the Rattle sources, `fields.py c HEADER` the C header. A struct's layout is fixed by its fields' types in order.
+
+`fields.py sizes CRATES` prints Rattle's sizes as `kutimuq-tests --layout` prints Rust's."""
 
 import pathlib
 import re
 import sys
 
 C_TYPES = {"u8": "uint8_t", "u16": "uint16_t", "u32": "uint32_t", "usize": "size_t", "bool": "bool"}
+
+GROUP_PIXELS = 16
+GROUP_BYTES = 2
+
+# The header's name: the crate, Rattle's constant there, and what one of its units counts.
+SIZES = {
+    "SCREEN_BYTES": ("resolution", "SCREEN_BYTES", 1),
+    "WRITE_AREA_BYTES": ("picture", "FILE_BYTES", 1),
+    "WIDEST_ROW": ("packbits", "MAX_WIDTH", 1),
+    "PACK_AREA_BYTES": ("pack", "MAX_BODY", 1),
+    "PLATE_BYTES": ("macpaint", "PLATE_BYTES", 1),
+    "LONGEST_PLATE_FILE": ("macpaint", "LONGEST_FILE", 1),
+    "PLATE_WIDTH": ("macpaint", "PLATE_GROUPS", GROUP_PIXELS),
+    "PLATE_HEIGHT": ("macpaint", "PLATE_ROWS", 1),
+    "PLATE_ROW_BYTES": ("macpaint", "PLATE_GROUPS", GROUP_BYTES),
+}
+
+
+def rattle_sizes(crates):
+    for name, (crate, constant, unit) in SIZES.items():
+        text = (pathlib.Path(crates) / crate / "src/lib.rt").read_text()
+        (value,) = re.findall(rf"^pub const {constant}: \w+ = (\d+);", text, re.M)
+        yield f"{name} is {unit * int(value)}"
 
 
 def rattle_fields(crates):
@@ -26,7 +51,15 @@ def c_fields(header):
             yield f"{name} {kind} {field}"
 
 
+def by_struct(fields):
+    """By struct, the order of fields kept; the header's shapes are for C alone."""
+    return sorted((line for line in fields if not line.startswith("Shape ")), key=lambda line: line.split()[0])
+
+
 if __name__ == "__main__":
-    fields = {"rattle": rattle_fields, "c": c_fields}[sys.argv[1]](sys.argv[2])
-    # by struct, the order of fields kept; the header's shapes are for C alone
-    print("\n".join(sorted((line for line in fields if not line.startswith("Shape ")), key=lambda line: line.split()[0])))
+    lines = {
+        "rattle": lambda crates: by_struct(rattle_fields(crates)),
+        "c": lambda header: by_struct(c_fields(header)),
+        "sizes": rattle_sizes,
+    }[sys.argv[1]](sys.argv[2])
+    print("\n".join(lines))

@@ -60,6 +60,11 @@ static void print_files(void)
     FIELD(WriteAnswer, length);
     FIELD(WriteAnswer, body);
     FIELD(WriteAnswer, records);
+
+    STRUCT(BodyAnswer);
+    REFUSAL(BodyAnswer);
+    FIELD(BodyAnswer, body);
+    FIELD(BodyAnswer, records);
 }
 
 static void print_pixels(void)
@@ -112,6 +117,7 @@ static const char *name_of(enum KutimuqNumber number)
         NAME(UNDEFINED_CONTROL);
         NAME(RUN_TOO_LONG);
         NAME(SIZE_MISMATCH);
+        NAME(WRONG_VERSION);
     }
     return NULL;
 }
@@ -143,6 +149,11 @@ static void print_constants(void)
     CONSTANT(WIDEST_LINE);
     CONSTANT(WIDEST_ROW);
     CONSTANT(PACK_AREA_BYTES);
+    CONSTANT(PLATE_BYTES);
+    CONSTANT(LONGEST_PLATE_FILE);
+    CONSTANT(PLATE_WIDTH);
+    CONSTANT(PLATE_HEIGHT);
+    CONSTANT(PLATE_ROW_BYTES);
     for (unsigned resolution = 0; resolution <= UINT16_MAX; resolution++) {
         KutimuqShape shape = kutimuq_shape((uint16_t)resolution);
         if (shape.width + shape.height + shape.planes + shape.row_bytes != 0) {

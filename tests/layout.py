@@ -1,7 +1,22 @@
-"""Prints Python's version and refusals as `kutimuq-tests --layout` prints Rust's; loads no library."""
+"""Prints Python's version, refusals and sizes as `kutimuq-tests --layout` prints Rust's; loads no library."""
 
 import kutimuq
+from kutimuq import pictures
+
+# The header's names.
+SIZES = {
+    "SCREEN_BYTES": pictures.SCREEN_BYTES,
+    "WRITE_AREA_BYTES": pictures.FILE_BYTES,
+    "PACK_AREA_BYTES": pictures.LONGEST_PACKED_ROW,
+    "PLATE_BYTES": pictures.PLATE_BYTES,
+    "LONGEST_PLATE_FILE": pictures.LONGEST_PLATE_FILE,
+    "PLATE_WIDTH": pictures.PLATE_WIDTH,
+    "PLATE_HEIGHT": pictures.PLATE_HEIGHT,
+    "PLATE_ROW_BYTES": pictures.PLATE_ROW_BYTES,
+}
 
 print("version", kutimuq.__version__)
 for refusal in kutimuq.RefusalNumber:
     print(f"{refusal.name} number {refusal.value}: {refusal.meaning}")
+for name, size in SIZES.items():
+    print(f"{name} is {size}")

@@ -1,7 +1,7 @@
 #!/bin/sh
-# Compares what the C header declares with the Rust side, the structs' fields and the refusal numbers with
-# Rattle's, and those numbers, their meanings and the version with Python's. KUTIMUQ_INCLUDE names the
-# header's folder, default include/ of the repository.
+# Compares what the C header declares with the Rust side, the structs' fields, the refusal numbers and sizes
+# with Rattle's, and those numbers, their meanings, the version and sizes with Python's. KUTIMUQ_INCLUDE names
+# the header's folder, default include/ of the repository.
 set -eu
 
 here=$(cd "$(dirname "$0")" && pwd)
@@ -29,12 +29,17 @@ equal "C and Rust" "$work/c" "$work/rust"
 sed -n '/^ACCEPTED /d; s/ number \([0-9]*\):.*/ \1/p' "$work/rust" > "$work/numbers"
 sed -n 's/^pub const \([A-Z_0-9]*\): u8 = \([0-9]*\);.*/\1 \2/p' "$root/crates/outcome/src/lib.rt" > "$work/rattle"
 equal "the refusal numbers of Rust and Rattle" "$work/numbers" "$work/rattle"
-grep '^version \| number [0-9]*: ' "$work/rust" > "$work/named"
+sizes='\(SCREEN\|WRITE_AREA\|PACK_AREA\|PLATE\|LONGEST_PLATE\)_[A-Z_]*'
+grep "^version \| number [0-9]*: \|^$sizes is " "$work/rust" > "$work/named"
 PYTHONPATH=$root/bindings/python python3 "$here/layout.py" > "$work/python"
 equal "Rust and Python" "$work/named" "$work/python"
 
 python3 "$here/fields.py" rattle "$root/crates" > "$work/rattle-fields"
 python3 "$here/fields.py" c "$include/kutimuq.h" > "$work/c-fields"
 equal "the fields of Rattle's structs and C's" "$work/rattle-fields" "$work/c-fields"
+
+python3 "$here/fields.py" sizes "$root/crates" > "$work/rattle-sizes"
+sed 's/^\(.*\) is .*/^\1 is /' "$work/rattle-sizes" | grep -f - "$work/rust" > "$work/rust-sizes"
+equal "the sizes of Rust and Rattle" "$work/rust-sizes" "$work/rattle-sizes"
 
 echo "layout: $passed passed, 0 failed"

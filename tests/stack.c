@@ -15,12 +15,14 @@ enum {
     STACK_BYTES = 1 << 17,
     PAINT = 0xA5,
     /* Limits: a raw file read, or a file refused before its body or runs are unpacked;
-       a packed or Tiny file unpacked; any other operation. */
+       a packed or Tiny file unpacked; a MacPaint file unpacked; any other operation. */
     NOT_UNPACKED = 1000,
     UNPACKED = 35000,
+    PLATE_UNPACKED = 55000,
     NOT_READ = 3000,
 
     LONG_AREA = KUTIMUQ_SCREEN_BYTES + 1,
+    LONG_PLATE = KUTIMUQ_PLATE_BYTES + 1,
     PIXELS = 640 * 400,
     LINE_BYTES = 160,
     RESOLUTIONS = 3,
@@ -34,7 +36,9 @@ enum {
     DATA = 43,
     UNDEFINED = 128,
     HALF = 8000,
-    DATA_BYTES = 2 + 2 * HALF
+    DATA_BYTES = 2 + 2 * HALF,
+    /* MacPaint: the last byte of the version. */
+    VERSION = 3
 };
 
 static uint8_t painted[STACK_BYTES];
@@ -46,6 +50,8 @@ static uint8_t number;
 static uint8_t screen[KUTIMUQ_SCREEN_BYTES];
 static uint8_t area[LONG_AREA];
 static uint8_t file[KUTIMUQ_WRITE_AREA_BYTES];
+static uint8_t plate[LONG_PLATE];
+static uint8_t plate_file[KUTIMUQ_LONGEST_PLATE_FILE];
 static uint8_t registers[PIXELS];
 static KutimuqPicture picture;
 static KutimuqLegend legend;
@@ -93,6 +99,19 @@ static void screen_in(void)
 {
     number = kutimuq_screen_in(area, sizeof area, picture.resolution, registers, sizeof registers)
                  .number;
+}
+
+static void read_plate(void)
+{
+    number = kutimuq_read_plate(plate_file, file_len, plate, area_len).refusal.number;
+}
+
+static void write_plate(void)
+{
+    KutimuqWriteAnswer answer =
+        kutimuq_write_plate(plate, sizeof plate, plate_file, sizeof plate_file);
+    file_len = answer.length;
+    number = answer.refusal.number;
 }
 
 /* ---- the measure */
@@ -150,6 +169,14 @@ static void check_writing(const char *what, uint8_t of_form)
 {
     form = of_form;
     check(what, write_file, NOT_READ, KUTIMUQ_ACCEPTED);
+}
+
+/* Reads the MacPaint file into an area of a plate's length and into a longer one. */
+static void check_plate(const char *what, size_t limit, uint8_t expected)
+{
+    for (area_len = KUTIMUQ_PLATE_BYTES; area_len <= LONG_PLATE; area_len++) {
+        check(what, read_plate, limit, expected);
+    }
 }
 
 /* ---- the calls */
@@ -210,6 +237,20 @@ static void tiny_files(void)
                   KUTIMUQ_UNKNOWN_RESOLUTION);
 }
 
+static void plates(void)
+{
+    check("plate written", write_plate, NOT_READ, KUTIMUQ_ACCEPTED);
+    check_plate("plate read", PLATE_UNPACKED, KUTIMUQ_ACCEPTED);
+    file_len--;
+    check_plate("plate cut", PLATE_UNPACKED, KUTIMUQ_INPUT_ENDS);
+    plate_file[VERSION] = 1;
+    check_plate("plate of no version", NOT_UNPACKED, KUTIMUQ_WRONG_VERSION);
+    file_len = 0;
+    check_plate("plate without a header", NOT_UNPACKED, KUTIMUQ_WRONG_LENGTH);
+    area_len = KUTIMUQ_PLATE_BYTES - 1;
+    check("plate too short", read_plate, NOT_UNPACKED, KUTIMUQ_AREA_TOO_SHORT);
+}
+
 static void pixels(void)
 {
     KutimuqShape shape = kutimuq_shape(picture.resolution);
@@ -238,6 +279,8 @@ int main(int argc, char **argv)
         tiny_files();
         pixels();
     }
+    picture.resolution = 0;
+    plates();
     printf("stack: %d passed, %d failed\n", passed, failed);
     return failed != 0;
 }

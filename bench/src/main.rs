@@ -5,11 +5,13 @@
 //!
 //! The second form does one operation N times, for a count of instructions, each time for every
 //! picture of the series. OPERATION is a name of the table, `rust-` and such a name, or
-//! `memcpy`; or `pack-row` or `rust-pack-row`, with a row width in place of the resolution.
+//! `memcpy`; or `pack-row` or `rust-pack-row`, with a row width in place of the resolution. With
+//! `plate` in place of the resolution OPERATION is one on plates or `memcpy`, and SCREEN a plate.
 
 mod operations;
 mod pictures;
 mod plain;
+mod plates;
 mod times;
 
 use std::process::ExitCode;
@@ -17,6 +19,7 @@ use std::process::ExitCode;
 use kutimuq_tests::reference::PACK_AREA_BYTES;
 use operations::{By, OPERATIONS};
 use pictures::{Subject, RESOLUTIONS, SERIES};
+use plates::{PlateSubject, PLATES, PLATE_OPERATIONS};
 
 fn main() -> ExitCode {
     let arguments: Vec<String> = std::env::args().skip(1).collect();
@@ -38,11 +41,14 @@ fn main() -> ExitCode {
 
 fn once(operation: &str, screen: &str, size: &str, times: &str) -> Option<()> {
     let times: usize = times.parse().ok()?;
-    let series = named(&SERIES, screen)?;
     let (name, by) = match operation.strip_prefix("rust-") {
         Some(name) => (name, By::Plain),
         None => (operation, By::Library),
     };
+    if size == "plate" {
+        return once_a_plate(name, by, screen, times);
+    }
+    let series = named(&SERIES, screen)?;
     if name == "pack-row" {
         let row = Subject::new(series, 0).row(size.parse().ok()?);
         let mut out = [0; PACK_AREA_BYTES];
@@ -56,6 +62,17 @@ fn once(operation: &str, screen: &str, size: &str, times: &str) -> Option<()> {
     }
     let operation = named(OPERATIONS, name)?;
     (0..times).for_each(|_| operations::run(operation, by, &mut subject));
+    Some(())
+}
+
+fn once_a_plate(name: &str, by: By, plate: &str, times: usize) -> Option<()> {
+    let mut subject = PlateSubject::new(named(&PLATES, plate)?);
+    if name == "memcpy" {
+        (0..times).for_each(|_| plates::copy(&mut subject));
+        return Some(());
+    }
+    let operation = named(PLATE_OPERATIONS, name)?;
+    (0..times).for_each(|_| plates::run(operation, by, &mut subject));
     Some(())
 }
 

@@ -82,12 +82,12 @@ impl Part {
 }
 
 /// What becomes of each call's answer and of the area that it wrote to.
-trait Sink {
+pub trait Sink {
     fn take(&mut self, answer: impl Debug, area: &[u8]);
 }
 
 /// Keeps the compiler from leaving a call out.
-struct Unseen;
+pub struct Unseen;
 
 impl Sink for Unseen {
     fn take(&mut self, answer: impl Debug, area: &[u8]) {
@@ -98,7 +98,7 @@ impl Sink for Unseen {
 
 /// Keeps all, to compare.
 #[derive(Default, PartialEq, Eq)]
-struct Record(Vec<(String, Vec<u8>)>);
+pub struct Record(Vec<(String, Vec<u8>)>);
 
 impl Sink for Record {
     fn take(&mut self, answer: impl Debug, area: &[u8]) {

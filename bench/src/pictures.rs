@@ -12,7 +12,7 @@ use kutimuq_tests::reference::{
 
 use crate::plain;
 
-const SEED: u64 = 1988;
+pub const SEED: u64 = 1988;
 const BLANK_END_LINES: usize = 6;
 
 #[derive(Clone, Copy, PartialEq, Eq)]

@@ -6,12 +6,15 @@ mod counts;
 mod degas;
 mod lines;
 mod packing;
+mod plates;
 mod screens;
 mod tiny;
+mod unpacking;
 
 pub use counts::{pond, tally};
 pub use lines::{line_in, line_out};
 pub use packing::{pack_row, write_packed};
+pub use plates::{read_plate, write_plate};
 pub use screens::{screen_in, screen_out};
 
 use kutimuq::ffi::ReadAnswer;

@@ -6,6 +6,7 @@ use kutimuq_tests::reference::PACK_AREA_BYTES;
 
 use crate::operations::{self, By, Operation, OPERATIONS};
 use crate::pictures::{Subject, RESOLUTIONS, SERIES};
+use crate::plates::{self, PlateOperation, PlateSubject, PLATES, PLATE_OPERATIONS};
 
 const ROUNDS: usize = 400;
 /// The least rounds, for a call over many pictures, which is long itself.
@@ -36,13 +37,15 @@ fn least_times<const JOBS: usize>(rounds: usize, mut job: impl FnMut(usize)) -> 
 struct Measured {
     operation: &'static str,
     screen: &'static str,
-    /// A resolution, or a row's width.
+    /// A resolution, a row's width, or "plate".
     size: String,
     ratio: f64,
 }
 
 pub fn print_tables() {
     let mut all = print_pictures();
+    println!();
+    all.extend(print_plates());
     println!();
     all.extend(print_rows());
     println!();
@@ -83,6 +86,40 @@ fn times_of(operation: Operation, subject: &mut Subject) -> [f64; 3] {
         _ => operations::copy(subject),
     });
     nanoseconds.map(|time| time / pictures as f64 / 1000.0)
+}
+
+/// Every operation on each plate.
+fn print_plates() -> Vec<Measured> {
+    println!("microseconds per plate; ratio: library / Rust");
+    println!();
+    println!("| operation | plate | library | Rust | memcpy | ratio |");
+    println!("|---|---|---|---|---|---|");
+    let operations =
+        PLATE_OPERATIONS.iter().flat_map(|operation| PLATES.map(|plate| (operation, plate)));
+    operations
+        .map(|((operation, operation_name), (series, plate))| {
+            let mut subject = PlateSubject::new(series);
+            let agreed = plates::agree(*operation, &mut subject);
+            assert!(agreed, "{operation_name}, {plate}: library and plain Rust differ");
+            let [library, plain, copy] = plate_times(*operation, &mut subject);
+            let ratio = library / plain;
+            let times = format!("{library:.3} | {plain:.3} | {copy:.3}");
+            println!("| {operation_name} | {plate} | {times} | {ratio:.2} |");
+            Measured { operation: operation_name, screen: plate, size: "plate".to_string(), ratio }
+        })
+        .collect()
+}
+
+/// Microseconds a plate: library, plain Rust, memcpy.
+fn plate_times(operation: PlateOperation, subject: &mut PlateSubject) -> [f64; 3] {
+    let plates = subject.inputs.len();
+    let rounds = FEWEST_ROUNDS.max(ROUNDS / plates);
+    let nanoseconds: [f64; 3] = least_times(rounds, |number| match number {
+        0 => plates::run(operation, By::Library, subject),
+        1 => plates::run(operation, By::Plain, subject),
+        _ => plates::copy(subject),
+    });
+    nanoseconds.map(|time| time / plates as f64 / 1000.0)
 }
 
 /// Row pack over the row's width: the time grows with it linearly.

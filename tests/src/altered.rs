@@ -1,17 +1,25 @@
 //! The reference altered: wrong versions that the checks must find.
 
+mod plates;
+
+pub use plates::{
+    ReadPlate, WritePlate, RARELY_WRONG_PLATE_READINGS, WRONG_PLATE_READINGS, WRONG_PLATE_WRITINGS,
+};
+
 use crate::operations::{Operations, Reference};
 use crate::reference::{Shape, SCREEN_BYTES};
 use kutimuq::ffi::*;
 use kutimuq::refusal::{self, Refusal};
 
 pub enum Altered {
-    /// Each refusal of the row unpacker and the file reader altered.
+    /// Each refusal of the row unpacker and the file readers altered.
     Refusals(fn(Refusal) -> Refusal),
     /// The lines of a whole screen from the bottom, out and in.
     LinesBottomUp,
     /// Entries past the last pixel of a whole screen judged.
     AllEntriesJudged,
+    PlateReading(ReadPlate),
+    PlateWriting(WritePlate),
 }
 
 impl Altered {
@@ -117,5 +125,20 @@ impl Operations for Altered {
 
     fn write(&self, form: u8, picture: Picture, screen: &[u8], out: &mut [u8]) -> WriteAnswer {
         Reference.write(form, picture, screen, out)
+    }
+
+    fn read_plate(&self, file: &[u8], plate: &mut [u8]) -> BodyAnswer {
+        let answer = match self {
+            Altered::PlateReading(read_plate) => read_plate(file, plate),
+            _ => Reference.read_plate(file, plate),
+        };
+        BodyAnswer { refusal: self.refusal(answer.refusal), ..answer }
+    }
+
+    fn write_plate(&self, plate: &[u8], out: &mut [u8]) -> WriteAnswer {
+        match self {
+            Altered::PlateWriting(write_plate) => write_plate(plate, out),
+            _ => Reference.write_plate(plate, out),
+        }
     }
 }

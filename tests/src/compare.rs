@@ -5,7 +5,7 @@
 //! and the library must leave its inputs as they were.
 
 use crate::operations::Operations;
-use crate::reference;
+use crate::reference::{self, PLATE_HEADER_BYTES};
 use crate::report::Report;
 use kutimuq::ffi::*;
 use std::fmt::Debug;
@@ -241,6 +241,29 @@ impl<'a> Comparison<'a> {
             let screen = shown(screen);
             format!("form {form}, {picture:04X?}, screen {screen}, output of {out_len}")
         });
+    }
+
+    /// Compares, and gives back what the library answered.
+    pub fn read_plate(&mut self, file: &[u8], area_len: usize) -> BodyAnswer {
+        self.prepare(file, area_len);
+        let expected = reference::read_plate(file, self.expected_area.lent());
+        let actual = self.library.read_plate(&self.input, self.actual_area.lent());
+        self.judge(expected, actual, file, || {
+            let (header, body) = file.split_at(file.len().min(PLATE_HEADER_BYTES));
+            format!("header {}, body {}, area of {area_len}", shown(header), shown(body))
+        });
+        actual
+    }
+
+    /// Compares, and gives back what the library answered.
+    pub fn write_plate(&mut self, plate: &[u8], out_len: usize) -> WriteAnswer {
+        self.prepare(plate, out_len);
+        let expected = reference::write_plate(plate, self.expected_area.lent());
+        let actual = self.library.write_plate(&self.input, self.actual_area.lent());
+        self.judge(expected, actual, plate, || {
+            format!("plate {}, output of {out_len}", shown(plate))
+        });
+        actual
     }
 }
 

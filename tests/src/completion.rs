@@ -10,13 +10,93 @@ use crate::generate::*;
 use crate::operations::Operations;
 use crate::random::Random;
 use crate::reference::{
-    Shape, DEGAS_HEADER_BYTES, KIND_DEGAS, LONGEST_PACKED_FILE, SCREEN_BYTES, TAIL_BYTES,
-    WIDEST_ROW,
+    DEGAS_HEADER_BYTES, KIND_DEGAS, LONGEST_PACKED_FILE, LONGEST_PLATE_FILE, PLATE_BYTES,
+    PLATE_HEADER_BYTES, PLATE_ROW_BYTES, SCREEN_BYTES, TAIL_BYTES, WIDEST_ROW,
 };
 use crate::report::Report;
+use kutimuq::ffi::{BodyAnswer, ReadAnswer};
 use kutimuq::refusal::{self, Refusal};
 
 const ROUNDS_A_FILE: usize = 40;
+
+/// A format of packed files.
+#[derive(Clone, Copy, Debug)]
+enum Format {
+    Degas(u16),
+    MacPaint,
+}
+
+impl Format {
+    fn recorded_file(self, random: &mut Random) -> RecordedBody {
+        match self {
+            Format::Degas(resolution) => recorded_file(random, resolution),
+            Format::MacPaint => recorded_plate_file(random),
+        }
+    }
+
+    fn width(self) -> usize {
+        match self {
+            Format::Degas(resolution) => shape_of(resolution).row_bytes,
+            Format::MacPaint => PLATE_ROW_BYTES,
+        }
+    }
+
+    /// The bytes of all rows.
+    fn area_bytes(self) -> usize {
+        match self {
+            Format::Degas(_) => SCREEN_BYTES,
+            Format::MacPaint => PLATE_BYTES,
+        }
+    }
+
+    fn header_bytes(self) -> usize {
+        match self {
+            Format::Degas(_) => DEGAS_HEADER_BYTES,
+            Format::MacPaint => PLATE_HEADER_BYTES,
+        }
+    }
+
+    /// The bytes after the body.
+    fn tail_bytes(self) -> usize {
+        match self {
+            Format::Degas(_) => TAIL_BYTES,
+            Format::MacPaint => 0,
+        }
+    }
+
+    fn longest_file(self) -> usize {
+        match self {
+            Format::Degas(_) => LONGEST_PACKED_FILE,
+            Format::MacPaint => LONGEST_PLATE_FILE,
+        }
+    }
+
+    /// The area's content, of rows one after another.
+    fn area_of_rows(self, rows: &[u8]) -> Vec<u8> {
+        match self {
+            Format::Degas(resolution) => {
+                let width = self.width();
+                let row_of = |number| rows[number * width..][..width].to_vec();
+                screen_of_rows(&shape_of(resolution), row_of)
+            }
+            Format::MacPaint => rows.to_vec(),
+        }
+    }
+
+    /// The refusal of a reading, and the body.
+    fn read(self, operations: &dyn Operations, file: &[u8], area: &mut [u8]) -> (Refusal, usize) {
+        match self {
+            Format::Degas(_) => {
+                let ReadAnswer { refusal, body, .. } = operations.read(KIND_DEGAS, file, area);
+                (refusal, body)
+            }
+            Format::MacPaint => {
+                let BodyAnswer { refusal, body, .. } = operations.read_plate(file, area);
+                (refusal, body)
+            }
+        }
+    }
+}
 
 struct Completion<'a> {
     operations: &'a dyn Operations,
@@ -33,7 +113,15 @@ pub fn run(operations: &dyn Operations, report: &mut Report, seed: u64, files: u
     let name = operations.name();
     completion.report.section(&format!("broken files completed: {name}"));
     for resolution in RESOLUTIONS.into_iter().cycle().take(files) {
-        completion.broken_files(resolution);
+        completion.broken_files(Format::Degas(resolution));
+    }
+}
+
+pub fn run_plates(operations: &dyn Operations, report: &mut Report, seed: u64, files: usize) {
+    report.section(&format!("broken plates completed: {}", operations.name()));
+    let mut completion = Completion { operations, report, random: Random::seeded(seed) };
+    for _ in 0..files {
+        completion.broken_files(Format::MacPaint);
     }
 }
 
@@ -121,32 +209,32 @@ impl Completion<'_> {
     }
 
     /// A file broken at records chosen at random, and damaged anyhow.
-    fn broken_files(&mut self, resolution: u16) {
-        let body = recorded_file(&mut self.random, resolution);
-        let shape = shape_of(resolution);
+    fn broken_files(&mut self, format: Format) {
+        let body = format.recorded_file(&mut self.random);
+        let (header, records) = body.bytes.split_at(format.header_bytes());
         for _ in 0..ROUNDS_A_FILE {
             let record = self.random.pick(&body.records);
             for fault in body.faults(&mut self.random, &record) {
-                self.file(&fault.bytes, &shape);
+                self.file(&fault.bytes, format);
             }
-            let mut damaged = body.bytes[DEGAS_HEADER_BYTES..].to_vec();
+            let mut damaged = records.to_vec();
             damage(&mut self.random, &mut damaged);
-            self.file(&[&body.bytes[..DEGAS_HEADER_BYTES], &damaged].concat(), &shape);
+            self.file(&[header, &damaged].concat(), format);
         }
     }
 
-    fn file(&mut self, file: &[u8], shape: &Shape) {
-        let mut area = vec![0; SCREEN_BYTES];
-        let refusal = self.operations.read(KIND_DEGAS, file, &mut area).refusal;
+    fn file(&mut self, file: &[u8], format: Format) {
+        let mut area = vec![0; format.area_bytes()];
+        let (refusal, _) = format.read(self.operations, file, &mut area);
         if !is_of_a_record(refusal) {
             return;
         }
-        let good = good_part(refusal, file, DEGAS_HEADER_BYTES, shape.row_bytes);
-        self.report.check(good.is_some(), || format!("{shape:?}: {refusal:?}"));
+        let good = good_part(refusal, file, format.header_bytes(), format.width());
+        self.report.check(good.is_some(), || format!("{format:?}: {refusal:?}"));
         let Some(good) = good else { return };
         let before = &file[..refusal.place];
-        self.completed_file(before, &good, shape, row);
-        self.completed_file(before, &good, shape, |random, width| vec![random.byte(); width]);
+        self.completed_file(before, &good, format, row);
+        self.completed_file(before, &good, format, |random, width| vec![random.byte(); width]);
     }
 
     /// The file's bytes before the fault, completed by rows that `make_row` gives.
@@ -154,29 +242,27 @@ impl Completion<'_> {
         &mut self,
         before: &[u8],
         good: &[u8],
-        shape: &Shape,
+        format: Format,
         make_row: impl Fn(&mut Random, usize) -> Vec<u8>,
     ) {
-        let mut plane_rows = good.to_vec();
+        let mut rows = good.to_vec();
         let mut completed = before.to_vec();
-        while plane_rows.len() < SCREEN_BYTES {
-            let left = shape.row_bytes - plane_rows.len() % shape.row_bytes;
+        while rows.len() < format.area_bytes() {
+            let left = format.width() - rows.len() % format.width();
             let row = make_row(&mut self.random, left);
             put_packed(&row, &mut completed);
-            plane_rows.extend_from_slice(&row);
+            rows.extend_from_slice(&row);
         }
-        let body = completed.len() - DEGAS_HEADER_BYTES;
-        completed.extend(self.random.bytes(TAIL_BYTES));
-        if completed.len() > LONGEST_PACKED_FILE {
+        let body = completed.len() - format.header_bytes();
+        completed.extend(self.random.bytes(format.tail_bytes()));
+        if completed.len() > format.longest_file() {
             return;
         }
-        let row_of = |number| plane_rows[number * shape.row_bytes..][..shape.row_bytes].to_vec();
-        let expected = screen_of_rows(shape, row_of);
-        let mut area = vec![0; SCREEN_BYTES];
-        let answer = self.operations.read(KIND_DEGAS, &completed, &mut area);
-        let accepted = answer.refusal == Refusal::default() && answer.body == body;
-        self.report.check(accepted && area == expected, || {
-            format!("{shape:?}, completed after {} bytes: {:?}", before.len(), answer.refusal)
+        let mut area = vec![0; format.area_bytes()];
+        let answer = format.read(self.operations, &completed, &mut area);
+        let accepted = answer == (Refusal::default(), body);
+        self.report.check(accepted && area == format.area_of_rows(&rows), || {
+            format!("{format:?}, completed after {} bytes: {answer:?}", before.len())
         });
     }
 }

@@ -1,6 +1,7 @@
-//! Every example of document 01, as a check of its own, on one implementation; then Tiny files and
-//! rows at fault.
+//! Every example of document 01, as a check of its own, on one implementation; then Tiny files,
+//! rows at fault and MacPaint plates.
 
+mod macpaint;
 mod row_at_fault;
 mod tiny;
 
@@ -51,6 +52,13 @@ pub fn run(operations: &dyn Operations, report: &mut Report) {
     tiny::run(&mut examples);
     examples.report.section(&format!("examples of faults: {}", operations.name()));
     row_at_fault::run(&mut examples);
+    run_plates(operations, report);
+}
+
+/// Only the examples of MacPaint plates.
+pub fn run_plates(operations: &dyn Operations, report: &mut Report) {
+    report.section(&format!("examples of plates: {}", operations.name()));
+    macpaint::run(&mut Examples { operations, report });
 }
 
 impl Examples<'_> {

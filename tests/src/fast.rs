@@ -6,7 +6,7 @@
 //! literal comes before any repeat. One backward pass finds the costs and the
 //! choices, one forward pass writes the records.
 
-use crate::reference::{Shape, WIDEST_ROW};
+use crate::reference::{Shape, PLATE_ROW_BYTES, WIDEST_ROW};
 
 /// The record chosen at a position of the row.
 #[derive(Clone, Copy)]
@@ -89,6 +89,19 @@ pub fn pack_screen(shape: &Shape, screen: &[u8], out: &mut [u8]) -> (usize, usiz
             end += row_end;
             records += row_records;
         }
+    }
+    (end, records)
+}
+
+/// Packs every row of a plate to the front of `out`, which must hold 52,560
+/// bytes; bytes and records made.
+pub fn pack_plate(plate: &[u8], out: &mut [u8]) -> (usize, usize) {
+    let mut end = 0;
+    let mut records = 0;
+    for row in plate.chunks(PLATE_ROW_BYTES) {
+        let (row_end, row_records) = pack_row(row, &mut out[end..]);
+        end += row_end;
+        records += row_records;
     }
     (end, records)
 }

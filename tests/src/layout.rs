@@ -46,6 +46,7 @@ pub fn table() -> Vec<String> {
     describe!(lines, Picture { resolution, palette, tail_present, tail });
     describe_answer!(lines, ReadAnswer { picture, body, records });
     describe_answer!(lines, WriteAnswer { length, body, records });
+    describe_answer!(lines, BodyAnswer { body, records });
     describe!(lines, Rectangle { left, top, columns, lines });
     describe_answer!(lines, TallyAnswer { counts });
     describe_answer!(lines, ColourAnswer { red, green, blue });
@@ -78,6 +79,11 @@ fn constants() -> Vec<String> {
         ("WIDEST_LINE", widest_line.unwrap_or_default()),
         ("WIDEST_ROW", WIDEST_ROW),
         ("PACK_AREA_BYTES", PACK_AREA_BYTES),
+        ("PLATE_BYTES", PLATE_BYTES),
+        ("LONGEST_PLATE_FILE", LONGEST_PLATE_FILE),
+        ("PLATE_WIDTH", PLATE_WIDTH),
+        ("PLATE_HEIGHT", PLATE_HEIGHT),
+        ("PLATE_ROW_BYTES", PLATE_ROW_BYTES),
     ];
     constants.map(|(name, value)| format!("{name} is {value}")).to_vec()
 }

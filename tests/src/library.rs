@@ -114,4 +114,12 @@ impl Operations for Library {
             kutimuq_write(form, picture, screen.as_ptr(), screen.len(), out.as_mut_ptr(), out.len())
         }
     }
+
+    fn read_plate(&self, file: &[u8], plate: &mut [u8]) -> BodyAnswer {
+        unsafe { kutimuq_read_plate(file.as_ptr(), file.len(), plate.as_mut_ptr(), plate.len()) }
+    }
+
+    fn write_plate(&self, plate: &[u8], out: &mut [u8]) -> WriteAnswer {
+        unsafe { kutimuq_write_plate(plate.as_ptr(), plate.len(), out.as_mut_ptr(), out.len()) }
+    }
 }

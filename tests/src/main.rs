@@ -53,6 +53,9 @@ fn check_library(report: &mut Report, seed: u64) {
     rewriting::run(&Library, report, seed + 2, 60);
     completion::run(&Library, report, seed + 3, 30);
     screens::run(&Library, report, seed + 4, 20);
+    roundtrip::run_plates(&Library, report, seed + 5, 300);
+    rewriting::run_plates(&Library, report, seed + 6, 60);
+    completion::run_plates(&Library, report, seed + 7, 6);
     cases::run_all(&mut Comparison::new(&Library, report), seed);
 }
 

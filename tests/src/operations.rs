@@ -26,6 +26,8 @@ pub trait Operations {
     ) -> PondAnswer;
     fn read(&self, kind: u8, file: &[u8], area: &mut [u8]) -> ReadAnswer;
     fn write(&self, form: u8, picture: Picture, screen: &[u8], out: &mut [u8]) -> WriteAnswer;
+    fn read_plate(&self, file: &[u8], plate: &mut [u8]) -> BodyAnswer;
+    fn write_plate(&self, plate: &[u8], out: &mut [u8]) -> WriteAnswer;
 }
 
 /// The reference implementation.
@@ -92,5 +94,13 @@ impl Operations for Reference {
 
     fn write(&self, form: u8, picture: Picture, screen: &[u8], out: &mut [u8]) -> WriteAnswer {
         reference::write(form, picture, screen, out)
+    }
+
+    fn read_plate(&self, file: &[u8], plate: &mut [u8]) -> BodyAnswer {
+        reference::read_plate(file, plate)
+    }
+
+    fn write_plate(&self, plate: &[u8], out: &mut [u8]) -> WriteAnswer {
+        reference::write_plate(plate, out)
     }
 }

@@ -1,6 +1,9 @@
-//! Packed DEGAS files read and written again: one file for each picture.
+//! Packed DEGAS files and MacPaint files read and written again: one file for each picture or plate.
 
-use crate::generate::{packed_file, RESOLUTIONS};
+use crate::generate::{
+    packed_file, padded_plate_file, plate_file, plate_header, plate_with_body, version, DO_NOTHING,
+    RESOLUTIONS,
+};
 use crate::operations::Operations;
 use crate::random::Random;
 use crate::reference::*;
@@ -37,7 +40,7 @@ fn one_file(operations: &dyn Operations, report: &mut Report, random: &mut Rando
     report.check(once == twice, || "a second rewriting differs".to_string());
 
     let mut packed_otherwise = file.to_vec();
-    packed_otherwise.insert(DEGAS_HEADER_BYTES, 0x80);
+    packed_otherwise.insert(DEGAS_HEADER_BYTES, DO_NOTHING);
     packed_otherwise[0] ^= 0x7f;
     packed_otherwise[1] ^= 0xfc;
     let same = rewritten(operations, &packed_otherwise);
@@ -53,4 +56,63 @@ fn one_file(operations: &dyn Operations, report: &mut Report, random: &mut Rando
     other[place] ^= 1 << random.below(8);
     let differs = rewritten(operations, &other).is_some_and(|other| once != Some(other));
     report.check(differs, || format!("two pictures, different at {place}, have one rewriting"));
+}
+
+pub fn run_plates(operations: &dyn Operations, report: &mut Report, seed: u64, rounds: usize) {
+    report.section(&format!("plates rewritten: {}", operations.name()));
+    let mut random = Random::seeded(seed);
+    for round in 0..rounds {
+        let file = match round % 4 {
+            0 => padded_plate_file(&mut random, PLATE_BODY_LIMIT - 1 - round),
+            1 => longest_least_file(&mut random),
+            _ => plate_file(&mut random, true).bytes,
+        };
+        one_plate_file(operations, report, &mut random, &file);
+    }
+}
+
+/// A file whose body is its plate's least one and as long as can be.
+fn longest_least_file(random: &mut Random) -> Vec<u8> {
+    let version = version(random);
+    let (body, _) = least_plate_body(&plate_with_body(random, PLATE_BODY_LIMIT - 1));
+    [plate_header(random, version), body].concat()
+}
+
+/// The plate read, and its file written again; nothing if either is refused.
+fn plate_rewritten(operations: &dyn Operations, file: &[u8]) -> Option<(Vec<u8>, Vec<u8>)> {
+    let mut plate = vec![0; PLATE_BYTES];
+    let found = operations.read_plate(file, &mut plate);
+    let mut out = vec![0; LONGEST_PLATE_FILE];
+    let written = operations.write_plate(&plate, &mut out);
+    out.truncate(written.length);
+    (found.refusal.number == 0 && written.refusal.number == 0).then_some((plate, out))
+}
+
+fn one_plate_file(
+    operations: &dyn Operations,
+    report: &mut Report,
+    random: &mut Random,
+    file: &[u8],
+) {
+    let once = plate_rewritten(operations, file);
+    let no_longer = once.as_ref().is_some_and(|(_, once)| once.len() <= file.len());
+    report.check(no_longer, || format!("a file of {} bytes grows or is refused", file.len()));
+    let twice = once.as_ref().and_then(|(_, once)| plate_rewritten(operations, once));
+    report.check(once == twice, || "a second rewriting differs".to_string());
+
+    let version = version(random);
+    let mut packed_otherwise = plate_header(random, version);
+    let nothings = (LONGEST_PLATE_FILE - file.len()).min(random.below(3));
+    packed_otherwise.resize(PLATE_HEADER_BYTES + nothings, DO_NOTHING);
+    packed_otherwise.extend_from_slice(&file[PLATE_HEADER_BYTES..]);
+    let same = plate_rewritten(operations, &packed_otherwise);
+    report.check(once == same, || "one plate has two rewritings".to_string());
+
+    let mut other = file.to_vec();
+    let last = other.len() - 1;
+    other[last] ^= 1 << random.below(8);
+    let other = plate_rewritten(operations, &other);
+    let differs = once.zip(other).is_some_and(|((_, once), (_, other))| once != other);
+    report
+        .check(differs, || "two plates, different in the last row, have one rewriting".to_string());
 }

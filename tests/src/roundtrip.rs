@@ -1,6 +1,6 @@
-//! Writing a picture and reading it back, within one implementation.
+//! Writing a picture or a plate and reading it back, within one implementation.
 
-use crate::generate::{picture, screen, RESOLUTIONS};
+use crate::generate::{picture, plate, screen, RESOLUTIONS};
 use crate::operations::Operations;
 use crate::random::Random;
 use crate::reference::*;
@@ -19,6 +19,14 @@ pub fn run(operations: &dyn Operations, report: &mut Report, seed: u64, rounds: 
                 one_form(operations, report, form, picture, &screen);
             }
         }
+    }
+}
+
+pub fn run_plates(operations: &dyn Operations, report: &mut Report, seed: u64, rounds: usize) {
+    report.section(&format!("plates written then read: {}", operations.name()));
+    let mut random = Random::seeded(seed);
+    for _ in 0..rounds {
+        one_plate(operations, report, &plate(&mut random));
     }
 }
 
@@ -56,4 +64,22 @@ fn one_form(
     let holds =
         written.refusal == Refusal::default() && found == expected && area == screen && lengths_fit;
     report.check(holds, || format!("form {form}: {written:?}, then {found:?}, not {expected:?}"));
+}
+
+fn one_plate(operations: &dyn Operations, report: &mut Report, plate: &[u8]) {
+    let mut out = vec![0xEE; LONGEST_PLATE_FILE];
+    let written = operations.write_plate(plate, &mut out);
+    if written.refusal.number == refusal::NO_PACKED_BODY {
+        let kept = out.iter().all(|byte| *byte == 0xEE);
+        report.check(written.length == 0 && kept, || format!("{written:?}, output kept: {kept}"));
+        return;
+    }
+    let mut area = vec![0; PLATE_BYTES];
+    let found = operations.read_plate(&out[..written.length], &mut area);
+    let WriteAnswer { body, records, .. } = written;
+    let expected = BodyAnswer { body, records, ..BodyAnswer::default() };
+    let lengths_fit = written.length == PLATE_HEADER_BYTES + body && body < PLATE_BODY_LIMIT;
+    let holds =
+        written.refusal == Refusal::default() && found == expected && area == plate && lengths_fit;
+    report.check(holds, || format!("{written:?}, then {found:?}, same plate: {}", area == plate));
 }

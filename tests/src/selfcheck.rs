@@ -1,16 +1,19 @@
 //! Checks that need no library: the reference against itself and the fast packer.
 
-use crate::generate::{row, screen, shape_of, RESOLUTIONS};
+use crate::generate::{plate, row, screen, shape_of, RESOLUTIONS};
 use crate::random::Random;
-use crate::reference::{least_body, least_row_body, WIDEST_ROW};
+use crate::reference::{least_body, least_plate_body, least_row_body, WIDEST_ROW};
 use crate::report::Report;
-use crate::{completion, examples, fast, operations::Reference, roundtrip, screens};
+use crate::{completion, examples, fast, operations::Reference, rewriting, roundtrip, screens};
 
 pub fn run(report: &mut Report, seed: u64) {
     examples::run(&Reference, report);
     roundtrip::run(&Reference, report, seed, 30);
     completion::run(&Reference, report, seed, 12);
     screens::run(&Reference, report, seed, 4);
+    roundtrip::run_plates(&Reference, report, seed, 20);
+    rewriting::run_plates(&Reference, report, seed, 12);
+    completion::run_plates(&Reference, report, seed, 2);
     fast_packer(report, seed);
 }
 
@@ -37,5 +40,14 @@ fn fast_packer(report: &mut Report, seed: u64) {
         let expected = least_body(&shape, &screen);
         let holds = (&out[..bytes], records) == (expected.0.as_slice(), expected.1);
         report.check(holds, || format!("screen {round}"));
+    }
+    report.section("fast packer: plates");
+    for round in 0..20 {
+        let plate = plate(&mut random);
+        let mut out = vec![0; 53_000];
+        let (bytes, records) = fast::pack_plate(&plate, &mut out);
+        let expected = least_plate_body(&plate);
+        let holds = (&out[..bytes], records) == (expected.0.as_slice(), expected.1);
+        report.check(holds, || format!("plate {round}"));
     }
 }

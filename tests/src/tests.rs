@@ -1,6 +1,8 @@
 //! The reference's own tests.
 
-use crate::altered::Altered;
+use crate::altered::{
+    Altered, RARELY_WRONG_PLATE_READINGS, WRONG_PLATE_READINGS, WRONG_PLATE_WRITINGS,
+};
 use crate::compare::Comparison;
 use crate::operations::Reference;
 use crate::random::Random;
@@ -257,6 +259,64 @@ fn judging_order_of_reading() {
 }
 
 #[test]
+fn judging_order_of_plates() {
+    let mut area = vec![0; PLATE_BYTES];
+    let number_of = |file: &[u8], area: &mut [u8]| read_plate(file, area).refusal.number;
+    assert_eq!(number_of(&[1; 511], &mut area[..51_839]), 1);
+    assert_eq!(number_of(&[1; 511], &mut area), 3);
+    assert_eq!(number_of(&[1; 51_712], &mut area), 3);
+    assert_eq!(number_of(&[1; 512], &mut area), 20);
+    assert_eq!(number_of(&[1; 51_711], &mut area), 20);
+    assert_eq!(number_of(&[0; 512], &mut area), 6);
+    let mut file = generate::even_plate_file(0);
+    file[512] -= 1;
+    assert_eq!(number_of(&file, &mut area), 7);
+    file[512] += 1;
+    file.push(0);
+    assert_eq!(number_of(&file, &mut area), 8);
+    assert!(area.iter().all(|byte| *byte == 0));
+
+    let worst = generate::worst_plate(&mut Random::seeded(15));
+    let mut out = vec![0; LONGEST_PLATE_FILE];
+    assert_eq!(write_plate(&worst[1..], &mut out).refusal.number, 1);
+    assert_eq!(write_plate(&worst, &mut out[1..]).refusal.number, 1);
+    assert_eq!(write_plate(&worst, &mut out).refusal.number, 9);
+    assert_eq!(write_plate(&area, &mut out).length, 512 + 2 * 720);
+}
+
+#[test]
+fn plates_have_the_body_asked_for() {
+    let mut random = Random::seeded(16);
+    for body in (51_195..=51_205).chain([51_100, 52_559, 52_560]) {
+        let plate = generate::plate_with_body(&mut random, body);
+        assert_eq!(least_plate_body(&plate).0.len(), body);
+        for order in [generate::CostlyRows::First, generate::CostlyRows::Mixed] {
+            let plate = generate::plate_of_costly_rows(&mut random, body, order);
+            assert_eq!(least_plate_body(&plate).0.len(), body);
+        }
+        let file = generate::padded_plate_file(&mut random, body);
+        assert_eq!(file.len(), 512 + body);
+        let number = read_plate(&file, &mut vec![0; PLATE_BYTES]).refusal.number;
+        assert_eq!(number, if body < 51_200 { 0 } else { refusal::WRONG_LENGTH });
+    }
+    let page = generate::page_of_text(&mut random);
+    let body = least_plate_body(&page).0.len();
+    assert!((10_000..40_000).contains(&body), "a page of text has a body of {body}");
+}
+
+#[test]
+fn plate_files_read_back() {
+    let mut random = Random::seeded(17);
+    for with_nothing in [false, true] {
+        let generate::PackedFile { bytes, starts } =
+            generate::plate_file(&mut random, with_nothing);
+        let answer = read_plate(&bytes, &mut vec![0; PLATE_BYTES]);
+        let (body, records) = (bytes.len() - PLATE_HEADER_BYTES, starts.len());
+        assert_eq!(answer, BodyAnswer { body, records, ..BodyAnswer::default() });
+    }
+}
+
+#[test]
 fn rectangles_add_up_as_whole_numbers() {
     let screen = vec![0; SCREEN_BYTES];
     let number_of = |left, columns| {
@@ -284,9 +344,29 @@ fn neo_header_as_written() {
 }
 
 #[test]
+fn sizes_of_the_binding() {
+    let sizes = [
+        (kutimuq::SCREEN_BYTES, SCREEN_BYTES),
+        (kutimuq::LONGEST_FILE, NEO_FILE_BYTES),
+        (kutimuq::LONGEST_TINY_FILE, LONGEST_TINY_FILE),
+        (kutimuq::WRITE_AREA_BYTES, WRITE_AREA_BYTES),
+        (kutimuq::WIDEST_ROW, WIDEST_ROW),
+        (kutimuq::PACK_AREA_BYTES, PACK_AREA_BYTES),
+        (kutimuq::PLATE_BYTES, PLATE_BYTES),
+        (kutimuq::LONGEST_PLATE_FILE, LONGEST_PLATE_FILE),
+        (kutimuq::PLATE_WIDTH, PLATE_WIDTH),
+        (kutimuq::PLATE_HEIGHT, PLATE_HEIGHT),
+        (kutimuq::PLATE_ROW_BYTES, PLATE_ROW_BYTES),
+    ];
+    for (of_binding, of_reference) in sizes {
+        assert_eq!(of_binding, of_reference);
+    }
+}
+
+#[test]
 fn layout_names_every_struct() {
     let table = layout::table();
-    assert_eq!(table.iter().filter(|line| line.contains(" align ")).count(), 12);
+    assert_eq!(table.iter().filter(|line| line.contains(" align ")).count(), 13);
 }
 
 /// The comparison itself, with the reference in the library's place.
@@ -375,6 +455,26 @@ fn wrong_whole_screens_are_found() {
         assert_found(|report| screens::run(altered, report, 13, 1), version);
         let compare = |report: &mut Report| {
             cases::run_screens(&mut Comparison::new(altered, report), 14);
+        };
+        assert_found(compare, version);
+    }
+}
+
+#[test]
+fn wrong_plates_are_found() {
+    let readings = WRONG_PLATE_READINGS.map(Altered::PlateReading);
+    let writings = WRONG_PLATE_WRITINGS.map(Altered::PlateWriting);
+    for (version, altered) in readings.iter().chain(&writings).enumerate() {
+        assert_found(|report| examples::run_plates(altered, report), version);
+    }
+}
+
+#[test]
+fn rarely_wrong_plates_are_found() {
+    for (version, read_plate) in RARELY_WRONG_PLATE_READINGS.into_iter().enumerate() {
+        let altered = Altered::PlateReading(read_plate);
+        let compare = |report: &mut Report| {
+            cases::run_plate_reading(&mut Comparison::new(&altered, report), 18);
         };
         assert_found(compare, version);
     }

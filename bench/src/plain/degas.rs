@@ -1,5 +1,6 @@
 //! DEGAS files, read.
 
+use super::unpacking::{judge_body, unpack_row};
 use super::{refused, refused_at, word};
 use kutimuq::ffi::{Picture, ReadAnswer};
 use kutimuq::refusal::{self, Refusal};
@@ -41,7 +42,7 @@ fn read_packed(
     if file.len() > LONGEST_PACKED_FILE {
         return Err(refused(refusal::WRONG_LENGTH));
     }
-    let (end, records) = judge_body(file, shape)?;
+    let (end, records) = judge_body(file, DEGAS_HEADER_BYTES, shape.row_bytes, shape.plane_rows())?;
     if file.len() - end != TAIL_BYTES {
         return Err(refused_at(refusal::WRONG_TAIL, end));
     }
@@ -52,35 +53,6 @@ fn read_packed(
         records,
         ..ReadAnswer::default()
     })
-}
-
-/// Where the body ends, and its records.
-fn judge_body(file: &[u8], shape: &Shape) -> Result<(usize, usize), Refusal> {
-    let mut at = DEGAS_HEADER_BYTES;
-    let mut records = 0;
-    for plane_row in 0..shape.plane_rows() {
-        let mut room = shape.row_bytes;
-        while room > 0 {
-            let good_bytes = shape.row_bytes - room;
-            let fault = |number| Refusal { number, place: at, plane_row, good_bytes };
-            let control = *file.get(at).ok_or(fault(refusal::INPUT_ENDS))?;
-            let (made, taken) = match control {
-                0..=127 => (usize::from(control) + 1, usize::from(control) + 2),
-                128 => (0, 1),
-                129..=255 => (257 - usize::from(control), 2),
-            };
-            if made > room {
-                return Err(fault(refusal::RECORD_CROSSES));
-            }
-            if taken > file.len() - at {
-                return Err(fault(refusal::INPUT_ENDS));
-            }
-            room -= made;
-            at += taken;
-            records += 1;
-        }
-    }
-    Ok((at, records))
 }
 
 /// Unpacks a body that was judged.
@@ -96,30 +68,6 @@ fn unpack_body(mut body: &[u8], shape: &Shape, screen: &mut [u8]) {
             }
         }
     }
-}
-
-/// Unpacks one row that was judged; the body after it.
-fn unpack_row<'a>(mut body: &'a [u8], row: &mut [u8]) -> &'a [u8] {
-    let mut at = 0;
-    while at < row.len() {
-        let control = usize::from(body[0]);
-        match control {
-            0..=127 => {
-                let length = control + 1;
-                row[at..at + length].copy_from_slice(&body[1..1 + length]);
-                at += length;
-                body = &body[1 + length..];
-            }
-            128 => body = &body[1..],
-            _ => {
-                let times = 257 - control;
-                row[at..at + times].fill(body[1]);
-                at += times;
-                body = &body[2..];
-            }
-        }
-    }
-    body
 }
 
 /// The picture of a DEGAS file; `tail` is empty where there is none.

@@ -85,7 +85,7 @@ pub fn pack_row(row: &[u8], out: &mut [u8]) -> RowAnswer {
 }
 
 /// Bytes and records made of a row of at most 128 bytes.
-fn pack(row: &[u8], out: &mut [u8]) -> (usize, usize) {
+pub fn pack(row: &[u8], out: &mut [u8]) -> (usize, usize) {
     let controls = choose_controls(row);
     let mut at = 0;
     let mut end = 0;

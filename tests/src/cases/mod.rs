@@ -4,6 +4,7 @@ mod colours;
 mod counts;
 mod degas;
 mod lines;
+mod macpaint;
 mod neochrome;
 mod reading;
 mod row_at_fault;
@@ -42,6 +43,13 @@ pub fn run_all(comparison: &mut Comparison, seed: u64) {
     reading::read(comparison, &mut random);
     writing::write(comparison, &mut random);
     row_at_fault::run(comparison, &mut random);
+    macpaint::read(comparison, &mut random);
+    macpaint::write(comparison, &mut random);
+}
+
+/// Only the inputs for reading MacPaint plates.
+pub fn run_plate_reading(comparison: &mut Comparison, seed: u64) {
+    macpaint::read(comparison, &mut Random::seeded(seed));
 }
 
 /// Only the inputs for the registers of a whole screen.

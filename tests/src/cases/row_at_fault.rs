@@ -39,7 +39,7 @@ fn file_refused(comparison: &mut Comparison, fault: &Faulty) {
     as_built(comparison, fault, refusal);
 }
 
-fn as_built(comparison: &mut Comparison, fault: &Faulty, refusal: Refusal) {
+pub fn as_built(comparison: &mut Comparison, fault: &Faulty, refusal: Refusal) {
     comparison.check(refusal == fault.refusal, || {
         let length = fault.bytes.len();
         format!("{length} bytes built for {:?} get {refusal:?}", fault.refusal)
@@ -108,7 +108,7 @@ fn rows_zeros(comparison: &mut Comparison, random: &mut Random) {
     }
 }
 
-fn refused_with_zeros(comparison: &mut Comparison, found: Refusal, number: u8, place: usize) {
+pub fn refused_with_zeros(comparison: &mut Comparison, found: Refusal, number: u8, place: usize) {
     let expected = Refusal { number, place, plane_row: 0, good_bytes: 0 };
     comparison.check(found == expected, || format!("found {found:?}, expected {expected:?}"));
 }

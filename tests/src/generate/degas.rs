@@ -1,6 +1,6 @@
 //! DEGAS files.
 
-use super::rows::put_row_body;
+use super::rows::{put_padded_rows, put_row_body, PackedFile};
 use super::shape_of;
 use crate::random::Random;
 use crate::reference::{DEGAS_HEADER_BYTES, PACKED_BIT, SCREEN_BYTES, TAIL_BYTES};
@@ -20,12 +20,6 @@ pub fn raw_file(random: &mut Random, first_word: u16, with_tail: bool) -> Vec<u8
         bytes.extend(random.bytes(TAIL_BYTES));
     }
     bytes
-}
-
-/// A file with the offsets of its records.
-pub struct PackedFile {
-    pub bytes: Vec<u8>,
-    pub starts: Vec<usize>,
 }
 
 /// A well-formed packed DEGAS file; few are above the allowed length.
@@ -60,17 +54,10 @@ pub fn blank_file() -> Vec<u8> {
 
 /// A packed file filled up by do-nothing records to a body of `body` bytes.
 pub fn padded_file(random: &mut Random, resolution: u16, body: usize) -> Vec<u8> {
-    let even = even_file(resolution, random.byte());
-    let records = (even.len() - DEGAS_HEADER_BYTES - TAIL_BYTES) / 2;
-    let mut pads = vec![0; records];
-    for _ in 0..body - 2 * records {
-        pads[random.below(records)] += 1;
-    }
-    let mut bytes = even[..DEGAS_HEADER_BYTES].to_vec();
-    for (record, pad) in even[DEGAS_HEADER_BYTES..].chunks(2).zip(pads) {
-        bytes.resize(bytes.len() + pad, 0x80);
-        bytes.extend_from_slice(record);
-    }
+    let shape = shape_of(resolution);
+    let mut bytes = (PACKED_BIT | resolution).to_be_bytes().to_vec();
+    bytes.resize(DEGAS_HEADER_BYTES, 0);
+    put_padded_rows(random, shape.row_bytes, shape.plane_rows(), body, &mut bytes);
     bytes.extend(random.bytes(TAIL_BYTES));
     bytes
 }

@@ -1,13 +1,15 @@
 //! Packed rows and files with one record at fault, and the refusal each is built to get.
 
 use super::degas::degas_header;
-use super::rows::put_record;
+use super::macpaint::{plate_header, version};
+use super::rows::{put_record, DO_NOTHING};
 use super::shape_of;
 use crate::random::Random;
-use crate::reference::{LONGEST_PACKED_FILE, PACKED_BIT, TAIL_BYTES};
+use crate::reference::{
+    LONGEST_PACKED_FILE, LONGEST_PLATE_FILE, PACKED_BIT, PLATE_HEIGHT, PLATE_ROW_BYTES, TAIL_BYTES,
+};
 use kutimuq::refusal::{self, Refusal};
 
-const DO_NOTHING: u8 = 0x80;
 /// The row bytes of the longest record.
 const LONGEST_RECORD: usize = 128;
 /// The do-nothing records put before a record at fault, at most.
@@ -53,6 +55,19 @@ pub fn recorded_file(random: &mut Random, resolution: u16) -> RecordedBody {
         (0..shape.plane_rows()).for_each(|plane_row| body.put_row(random, plane_row));
         body.bytes.extend(random.bytes(TAIL_BYTES));
         if body.bytes.len() + MOST_NOTHINGS <= LONGEST_PACKED_FILE {
+            return body;
+        }
+    }
+}
+
+/// A MacPaint file, short enough for do-nothing records to be put into it.
+pub fn recorded_plate_file(random: &mut Random) -> RecordedBody {
+    loop {
+        let version = version(random);
+        let bytes = plate_header(random, version);
+        let mut body = RecordedBody { bytes, records: Vec::new(), width: PLATE_ROW_BYTES };
+        (0..PLATE_HEIGHT).for_each(|row| body.put_row(random, row));
+        if body.bytes.len() + MOST_NOTHINGS <= LONGEST_PLATE_FILE {
             return body;
         }
     }

@@ -2,24 +2,27 @@
 //!
 //! A file format has a file of its own.
 
+mod costs;
 mod degas;
 mod faults;
+mod macpaint;
 mod neochrome;
 mod pictures;
 mod rows;
 mod screens;
 mod tiny;
 
-pub use degas::{
-    blank_file, degas_header, even_file, packed_file, padded_file, raw_file, PackedFile,
+pub use costs::CostlyRows;
+pub use degas::{blank_file, degas_header, even_file, packed_file, padded_file, raw_file};
+pub use faults::{recorded_file, recorded_plate_file, recorded_row, Faulty, RecordedBody};
+pub use macpaint::{
+    even_plate_file, padded_plate_file, page_of_text, plate, plate_file, plate_header,
+    plate_of_costly_rows, plate_of_rows, plate_with_body, version, worst_plate,
 };
-pub use faults::{recorded_file, recorded_row, Faulty, RecordedBody};
 pub use neochrome::neo_file;
 pub use pictures::picture;
-pub use rows::{put_row_body, row};
-pub use screens::{
-    registers, screen, screen_of_costly_rows, screen_of_rows, screen_with_body, CostlyRows,
-};
+pub use rows::{put_row_body, row, PackedFile, DO_NOTHING};
+pub use screens::{registers, screen, screen_of_costly_rows, screen_of_rows, screen_with_body};
 pub use tiny::{
     column_words, random_words, short_tiny_file, tiny_file, TinyFile, RESOLUTION_BYTES,
 };

@@ -2,6 +2,9 @@
 
 use crate::random::Random;
 
+/// The control byte of a record that makes and takes nothing.
+pub const DO_NOTHING: u8 = 0x80;
+
 /// A row in one of several styles, with runs of many lengths.
 pub fn row(random: &mut Random, width: usize) -> Vec<u8> {
     match random.below(6) {
@@ -46,6 +49,12 @@ pub fn row_with_cost(random: &mut Random, width: usize, cost: usize) -> Vec<u8> 
     row
 }
 
+/// A packed file with the offsets of its records.
+pub struct PackedFile {
+    pub bytes: Vec<u8>,
+    pub starts: Vec<usize>,
+}
+
 /// Records of any kind that together fill a row, appended to `body`.
 /// The records' offsets in `body` are appended to `starts`.
 pub fn put_row_body(
@@ -59,10 +68,30 @@ pub fn put_row_body(
     while left > 0 {
         starts.push(body.len());
         if with_nothing && random.once_in(8) {
-            body.push(0x80);
+            body.push(DO_NOTHING);
             continue;
         }
         left -= put_record(random, left, body);
+    }
+}
+
+/// `count` rows of one repeat each, of one byte, and do-nothing records before them at random:
+/// `length` bytes, appended to `body`.
+pub fn put_padded_rows(
+    random: &mut Random,
+    width: usize,
+    count: usize,
+    length: usize,
+    body: &mut Vec<u8>,
+) {
+    let record = [(257 - width) as u8, random.byte()];
+    let mut pads = vec![0; count];
+    for _ in 0..length - record.len() * count {
+        pads[random.below(count)] += 1;
+    }
+    for pad in pads {
+        body.resize(body.len() + pad, DO_NOTHING);
+        body.extend(record);
     }
 }
 

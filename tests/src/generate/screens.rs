@@ -1,5 +1,6 @@
 //! Screens, among them those whose least body has a chosen length.
 
+use super::costs::{CostlyRows, Rows};
 use super::rows::{row, row_of_runs, row_with_cost};
 use super::shape_of;
 use crate::random::Random;
@@ -47,31 +48,8 @@ pub fn registers(random: &mut Random, resolution: u16, judged: usize, length: us
 /// by up to three bytes per plane row, spread evenly.
 pub fn screen_with_body(random: &mut Random, resolution: u16, body: usize) -> Vec<u8> {
     let shape = shape_of(resolution);
-    let worst = shape.row_bytes + 1;
-    let mut costs = vec![worst; shape.plane_rows()];
-    for _ in body..worst * shape.plane_rows() {
-        let number = row_above(random, &costs, worst - 3);
-        costs[number] -= 1;
-    }
+    let costs = plane_rows(&shape).even_costs(random, body);
     screen_with_costs(random, &shape, &costs)
-}
-
-/// The number of a row that costs more than `least`, at random.
-fn row_above(random: &mut Random, costs: &[usize], least: usize) -> usize {
-    loop {
-        let number = random.below(costs.len());
-        if costs[number] > least {
-            return number;
-        }
-    }
-}
-
-/// Where the costly rows of a screen stand.
-#[derive(Clone, Copy, PartialEq, Eq)]
-pub enum CostlyRows {
-    First,
-    Last,
-    Mixed,
 }
 
 /// A screen whose least body has `body` bytes, of rows that cost as much as
@@ -83,28 +61,12 @@ pub fn screen_of_costly_rows(
     order: CostlyRows,
 ) -> Vec<u8> {
     let shape = shape_of(resolution);
-    let mut costs = vec![2; shape.plane_rows()];
-    let mut left = body - 2 * shape.plane_rows();
-    for cost in &mut costs {
-        let mut more = left.min(shape.row_bytes - 1);
-        if left - more == 1 {
-            more -= 1; // No row costs 3 bytes, so leave 2 for the next one.
-        }
-        *cost += more;
-        left -= more;
-    }
-    match order {
-        CostlyRows::First => {}
-        CostlyRows::Last => costs.reverse(),
-        CostlyRows::Mixed => shuffle(random, &mut costs),
-    }
+    let costs = plane_rows(&shape).costly_and_cheap(random, body, order);
     screen_with_costs(random, &shape, &costs)
 }
 
-fn shuffle(random: &mut Random, costs: &mut [usize]) {
-    for index in (1..costs.len()).rev() {
-        costs.swap(index, random.between(0, index));
-    }
+fn plane_rows(shape: &Shape) -> Rows {
+    Rows { width: shape.row_bytes, count: shape.plane_rows() }
 }
 
 fn screen_with_costs(random: &mut Random, shape: &Shape, costs: &[usize]) -> Vec<u8> {

@@ -26,7 +26,7 @@ pub fn unpack_body(file: &[u8], start: usize, width: usize, count: usize) -> Jud
 }
 
 /// The least body of rows, of any length, and its records.
-fn least_body_of_rows(rows: impl Iterator<Item = Vec<u8>>) -> (Vec<u8>, usize) {
+pub fn least_body_of_rows(rows: impl Iterator<Item = Vec<u8>>) -> (Vec<u8>, usize) {
     let mut body = Vec::new();
     let mut records = 0;
     for row in rows {

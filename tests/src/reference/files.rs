@@ -55,7 +55,12 @@ pub struct WrittenFile {
 }
 
 pub fn write(form: u8, picture: Picture, screen: &[u8], out: &mut [u8]) -> WriteAnswer {
-    match judge_write(form, picture, screen, out) {
+    write_answer(judge_write(form, picture, screen, out), out)
+}
+
+/// Puts an accepted file to the front of `out`, which is long enough for it.
+pub fn write_answer(judged: Judged<WrittenFile>, out: &mut [u8]) -> WriteAnswer {
+    match judged {
         Ok(WrittenFile { bytes, body, records }) => {
             out[..bytes.len()].copy_from_slice(&bytes);
             WriteAnswer { length: bytes.len(), body, records, ..WriteAnswer::default() }

@@ -11,6 +11,7 @@ mod degas;
 mod files;
 mod judging;
 mod lines;
+mod macpaint;
 mod neochrome;
 mod packbits;
 mod pond;
@@ -31,6 +32,10 @@ pub use files::{
     KIND_TINY, WRITE_AREA_BYTES,
 };
 pub use lines::{line_in, line_out, screen_in, screen_out};
+pub use macpaint::{
+    least_plate_body, read_plate, write_plate, LONGEST_PLATE_FILE, PLATE_BODY_LIMIT, PLATE_BYTES,
+    PLATE_HEADER_BYTES, PLATE_HEIGHT, PLATE_ROW_BYTES, PLATE_VERSIONS, PLATE_WIDTH,
+};
 pub use neochrome::NEO_FILE_BYTES;
 pub use packbits::{least_row_body, pack_row, unpack_row, PACK_AREA_BYTES, WIDEST_ROW};
 pub use pond::pond;

@@ -1,7 +1,11 @@
-//! Big-endian words.
+//! Big-endian words, and longs of two words.
 
 pub fn word_at(bytes: &[u8], offset: usize) -> u16 {
     u16::from_be_bytes([bytes[offset], bytes[offset + 1]])
+}
+
+pub fn long_at(bytes: &[u8], offset: usize) -> u32 {
+    u32::from(word_at(bytes, offset)) << 16 | u32::from(word_at(bytes, offset + 2))
 }
 
 pub fn put_word(bytes: &mut Vec<u8>, word: u16) {
