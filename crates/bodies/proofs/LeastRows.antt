@@ -9,7 +9,7 @@ use borrow.Rule.Slice.PartMut.{putMid}
 use lib.ListN.{length, getD, take, drop, length-append, length-drop}
 use Rattle.lists.specs.Over.{over}
 use Rattle.lists.specs.Wide.{Wide}
-use Rattle.lists.proofs.Pieces.{PartlyWritten, writing-start, writing-end, piece-fits, writing-more}
+use Rattle.lists.proofs.Pieces.{PartlyWritten, writing-end, piece-fits, writing-more}
 use Rattle.lists.proofs.Wide.{wide-at, wide-drop}
 use Rattle.pack.specs.Least.{least, leastRecords}
 use Rattle.pack.specs.LeastRows.{leastRows, leastRowsRecords}
@@ -104,15 +104,6 @@ module _ {list : List (List ℕ)} {count width : ℕ} {row : ℕ → List ℕ} (
         omega (arith, m .sum, ap length (leastRows-past list n past), e)
 
   -- ---- the body written, each row's to the part of the output from its present end on
-
-  pub rows-start : (out : List ℕ) → RowsWritten list out out 0 0 0
-  rows-start out =
-      record {
-        bound = omega arith;
-        few = omega arith;
-        counted = omega arith;
-        writing = writing-start (leastRows list) out;
-      }
 
   module _ {out₀ out : List ℕ} {n end records : ℕ} (narrow : width ≤ 128)
       (fits : length (leastRows list) ≤ length out₀) (w : RowsWritten list out₀ out n end records)

@@ -1,7 +1,7 @@
 -- A body packed below a limit: its cases, in the order of judging, and what is accepted.
-use mathlib.Core.Path.{_≡_, refl, sym, ap, _∙_}
+use mathlib.Core.Path.{_≡_, refl, sym, ap, _∙_, subst}
 use mathlib.Core.Bool.{true, false}
-use mathlib.Core.List.{List}
+use mathlib.Core.List.{List, _++_}
 use Prim.Native.Nat.{ℕ, _+_, _-_, _≤_, _<_}
 use native.Mathlib.Omega.{arith}
 use lib.ListN.{length, take, drop}
@@ -9,8 +9,10 @@ use lib.Dec.{ltb, leb}
 use borrow.Rule.Slice.PartMut.{putMid}
 use borrow.Author.Tests.{lt-ltb, le-ltb, ltb-false, leb-false}
 use Rattle.lists.specs.Over.{over, overAt}
+use Rattle.lists.specs.Written.{Written}
 use Rattle.lists.proofs.Cond.{cond-elim, cond-leb}
 use Rattle.lists.proofs.Parts.{over-put, kept-put}
+use Rattle.lists.proofs.Pieces.{written-before}
 use Rattle.outcome.specs.Outcome.{Outcome, accepted, refused, refuse, refuseIf, later, Judged}
 use Rattle.outcome.specs.Refusal.{areaTooShort, noPackedBody}
 use Rattle.outcome.proofs.Outcome.{passed}
@@ -101,6 +103,15 @@ pub record PackedAt (at limit : ℕ) (out after : List ℕ) (a : BodyAnswer) (o 
   pub below : a .body < limit
   pub there : after ≡ overAt at bytes out
   pub is : o ≡ accepted (record { body = a .body; records = a .records; bytes = bytes })
+
+-- a header put before them, of as many bytes as are kept free
+pub packed-behind : {at limit : ℕ} {out after : List ℕ} {a : BodyAnswer} {o : Outcome PackedBody}
+    (k : PackedAt at limit out after a o) (head then : List ℕ) (n : ℕ) → n ≡ at → at ≤ length out
+    → Written head after then n → Written (head ++ k .bytes) out then (n + a .body)
+packed-behind {out = out} k head then n size room h =
+    let place = k .there ∙ ap (λ (at : ℕ). overAt at (k .bytes) out) (sym size) in
+    subst (λ (l : ℕ). Written (head ++ k .bytes) out then (n + l)) (sym (k .size))
+    (written-before (k .bytes) out (omega arith) (subst (λ (l : List ℕ). Written head l then n) place h))
 
 module _ (r : Raster) (area : List ℕ) (limit at : ℕ) (out after : List ℕ) (a : BodyAnswer) where
   pub packed-at : (o : Outcome PackedBody) → Judged (Below r area limit) o → a ≡ packedAnswer o

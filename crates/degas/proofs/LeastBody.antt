@@ -7,8 +7,9 @@ use Prim.Native.Nat.{ℕ, _+_, _*_, _≤_, _<_}
 use native.Mathlib.Omega.{arith}
 use lib.ListN.{length}
 use Rattle.lists.specs.Bytes.{Bytes}
-use Rattle.outcome.specs.Outcome.{Outcome, accepted, refused, refuse, map}
+use Rattle.outcome.specs.Outcome.{Outcome, accepted, refuse, map}
 use Rattle.outcome.specs.Refusal.{noPackedBody}
+use Rattle.outcome.proofs.Outcome.{map-refused}
 use Rattle.raster.specs.Shape.{rowBytes, rows}
 use Rattle.resolution.specs.declared.Chosen.the-variants.{Known}
 use Rattle.resolution.specs.declared.Resolution.{Resolution}
@@ -67,17 +68,13 @@ module _ (r : Resolution) (p : Picture) (screen : List ℕ) (out : ℕ) (known :
   unfolding writePacked
   written = write-passed Packed p screen out (record { screen-fits = full; output-fits = room; known = known })
 
-  refused-body : (o : Outcome PackedBody) → map (packedWriting p) o ≡ refuse noPackedBody → o ≡ refuse noPackedBody
-  refused-body (accepted b) e = let z : _≡_ {A = ℕ} 0 1 = cc in absurd (omega arith)
-  refused-body (refused why) e = cc
-
   -- "the packed writer refuses, with 9, exactly when no byte string under 32,000 bytes unpacks to that screen at that
   -- resolution"
   pub packed-refused-exactly : Bytes screen → (writeDegas Packed p screen out ≡ refuse noPackedBody)
       ↔ ((body : List ℕ) (n : ℕ) → Bytes body → UnpacksImage (rasterOf r) body screen n → length body < bodyLimit → ⊥)
   packed-refused-exactly all =
       let exactly = refused-exactly (rasterOf r) screen (in-range r) bodyLimit all in (
-        λ e. exactly .0 (refused-body least (sym written ∙ e)),
+        λ e. exactly .0 (map-refused (packedWriting p) least _ (sym written ∙ e)),
         λ none. written ∙ ap (map (packedWriting p)) (exactly .1 none),
       )
 

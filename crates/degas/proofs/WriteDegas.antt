@@ -1,13 +1,12 @@
 -- Laws of writing a DEGAS file: what each test that the code makes comes to, and what its parts make.
-use mathlib.Core.Path.{_≡_, refl, sym, ap, _∙_, subst}
-use mathlib.Core.List.{List, _++_, append-assoc}
+use mathlib.Core.Path.{_≡_, refl, ap, _∙_}
+use mathlib.Core.List.{List, append-assoc}
 use Prim.Native.Nat.{ℕ, _+_, _-_, _≤_}
 use native.Mathlib.Omega.{arith}
 use borrow.Rule.Slice.PartMut.{putMid}
 use lib.ListN.{length, take, drop}
-use Rattle.lists.specs.Over.{overAt}
 use Rattle.lists.specs.Written.{Written}
-use Rattle.lists.proofs.Pieces.{written-as, written-before, written-more}
+use Rattle.lists.proofs.Pieces.{written-as, written-more}
 use Rattle.outcome.specs.declared.Refusal.{Refusal}
 use Rattle.outcome.specs.Outcome.{Outcome, refused, none}
 use Rattle.resolution.specs.declared.Resolution.{Resolution}
@@ -15,7 +14,7 @@ use Rattle.resolution.specs.Shapes.{screenBytes, rasterOf}
 use Rattle.bodies.specs.declared.BodyAnswer.{BodyAnswer}
 use Rattle.bodies.specs.Packing.{PackedBody, belowLimit, packBody, packedAnswer, packedOutput}
 use Rattle.bodies.proofs.Answers.{answer-refused}
-use Rattle.bodies.proofs.Packing.{PackedAt, below-judged, packed-at}
+use Rattle.bodies.proofs.Packing.{PackedAt, packed-behind, below-judged, packed-at}
 use Rattle.picture.specs.declared.Picture.{Picture}
 use Rattle.picture.specs.declared.WriteAnswer.{WriteAnswer}
 use Rattle.picture.specs.Tables.{tailBytes}
@@ -79,13 +78,7 @@ module _ {r : Resolution} {screen out after : List ℕ} {a : BodyAnswer} (p : Pi
         let k = packed-body in
         let head : List ℕ = header (packedBit + p .resolution) p in
         let tail : List ℕ = tailBytes (p .tail) in
-        let place : after ≡ overAt n (k .bytes) out = k .there ∙ ap (λ (o : ℕ). overAt o (k .bytes) out) (sym size) in
-        let first : Written head (overAt n (k .bytes) out) then n =
-        subst (λ (l : List ℕ). Written head l then n) place h in
-        let two : Written (head ++ k .bytes) out then (n + length (k .bytes)) =
-        written-before (k .bytes) out (omega (arith, size, b .room)) first in
-        let to : Written (head ++ k .bytes) out then (n + a .body) =
-        subst (λ (l : ℕ). Written (head ++ k .bytes) out then (n + l)) (sym (k .size)) two in
+        let to = packed-behind k head then n size (omega (arith, b .room)) h in
         let all =
         written-as (packedFile p (k .bytes)) (append-assoc head (k .bytes) tail)
         (written-more to tail last m (t .bytes) (t .all)) in

@@ -8,7 +8,7 @@ use lib.ListN.{length, getD, take, take-append-drop}
 use lib.Pow.{shr-shr}
 use lib.Arith.{digits-div, digits-mod}
 use Rattle.lists.specs.Bytes.{Bytes}
-use Rattle.lists.specs.Digits.{fromBits}
+use Rattle.lists.specs.Digits.{fromBits, fromBytes}
 use Rattle.lists.specs.Over.{overAt}
 use Rattle.lists.specs.Sum.{sum}
 use Rattle.lists.specs.Tabulate.{tabulate}
@@ -92,11 +92,6 @@ groupsLine-scanLine s r y bytes =
     groups-width High = refl
 
 -- ---- a column's registers, one to a byte
-
--- n bytes in one number, r 0 lowest
-unfoldable fromBytes : ℕ → (ℕ → ℕ) → ℕ
-fromBytes zero r = 0
-fromBytes (suc n) r = r 0 + fromBytes n (λ j. r (suc j)) * 256
 
 byteOf-bytes : (n : ℕ) (r : ℕ → ℕ) → ((j : ℕ) → r j < 256) → (k : ℕ) → k < n → byteOf (fromBytes n r) k ≡ r k
 unfolding fromBytes byteOf

@@ -1,7 +1,7 @@
 -- Laws of `sum`.
 use mathlib.Core.Path.{_≡_, refl, sym, ap, _∙_}
 use Prim.Native.Nat.{ℕ, zero, suc, _+_, _*_, _≤_, _<_}
-use native.Mathlib.Nat.{add-zero, add-suc, suc-mul, mul-add, mul-zero, le-refl}
+use native.Mathlib.Nat.{add-zero, add-suc, zero-mul, suc-mul, mul-add, mul-zero, le-refl}
 use native.Mathlib.Omega.{arith}
 use Rattle.lists.specs.Sum.{sum}
 
@@ -20,6 +20,15 @@ pub sum-split : (n m : ℕ) (f : ℕ → ℕ) → sum (n + m) f ≡ sum n f + su
 unfolding sum
 sum-split n zero f = ap (λ (i : ℕ). sum i f) (add-zero n) ∙ sym (add-zero (sum n f))
 sum-split n (suc m) f = ap (λ (i : ℕ). sum i f) (add-suc n m) ∙ omega (arith, sum-split n m f)
+
+-- n rows of m
+pub sum-rows : (n m : ℕ) (f : ℕ → ℕ) → sum (n * m) f ≡ sum n (λ i. sum m (λ k. f (i * m + k)))
+unfolding sum
+sum-rows zero m f = ap (λ (i : ℕ). sum i f) (zero-mul m)
+sum-rows (suc n) m f =
+    ap (λ (i : ℕ). sum i f) (suc-mul n m)
+    ∙ sum-split (n * m) m f
+    ∙ ap (λ (i : ℕ). i + sum m (λ k. f (n * m + k))) (sum-rows n m f)
 
 pub sum-const : (n b : ℕ) → sum n (λ k. b) ≡ n * b
 unfolding sum

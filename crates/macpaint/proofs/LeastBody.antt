@@ -8,10 +8,11 @@ use native.Mathlib.Omega.{arith}
 use lib.ListN.{length}
 use borrow.Author.Tests.{le-ltb}
 use Rattle.lists.specs.Bytes.{Bytes}
-use Rattle.outcome.specs.Outcome.{Outcome, accepted, refused, refuse, map}
+use Rattle.outcome.specs.Outcome.{accepted, refuse, map}
 use Rattle.outcome.specs.Refusal.{noPackedBody}
+use Rattle.outcome.proofs.Outcome.{map-refused}
 use Rattle.raster.specs.Shape.{rowBytes, rows}
-use Rattle.bodies.specs.Packing.{leastBody, PackedBody, belowLimit, alternating}
+use Rattle.bodies.specs.Packing.{leastBody, belowLimit, alternating}
 use Rattle.bodies.specs.Unpacks.{UnpacksImage, ShortestBody}
 use Rattle.bodies.proofs.Packing.{packed}
 use Rattle.bodies.proofs.Least.{refused-exactly, least-below, shortest-most, shortest-attained}
@@ -51,16 +52,12 @@ module _ (plate : List ℕ) (out : ℕ) (full : plateBytes ≤ length plate) (ro
   unfolding writePlate
   written = rw (le-ltb out longestFile room, le-ltb (length plate) plateBytes full)
 
-  refused-body : (o : Outcome PackedBody) → map plateWriting o ≡ refuse noPackedBody → o ≡ refuse noPackedBody
-  refused-body (accepted b) e = let z : _≡_ {A = ℕ} 0 1 = cc in absurd (omega arith)
-  refused-body (refused why) e = cc
-
   -- refused, with 9, exactly when no byte string under 51,200 bytes unpacks to the plate
   pub plate-refused-exactly : Bytes plate → (writePlate plate out ≡ refuse noPackedBody)
       ↔ ((body : List ℕ) (n : ℕ) → Bytes body → UnpacksImage plateRaster body plate n → length body < bodyLimit → ⊥)
   plate-refused-exactly all =
       let exactly = refused-exactly plateRaster plate in-range bodyLimit all in (
-        λ e. exactly .0 (refused-body (belowLimit plateRaster plate bodyLimit) (sym written ∙ e)),
+        λ e. exactly .0 (map-refused plateWriting _ _ (sym written ∙ e)),
         λ none. written ∙ ap (map plateWriting) (exactly .1 none),
       )
 

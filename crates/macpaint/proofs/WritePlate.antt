@@ -1,20 +1,18 @@
 -- Laws of writing a MacPaint file: the tests are those of packing its body; the header is put before the body.
-use mathlib.Core.Path.{_≡_, refl, sym, ap, _∙_, subst}
+use mathlib.Core.Path.{_≡_, refl, ap, _∙_}
 use mathlib.Core.Bool.{Bool, true, false}
 use mathlib.Core.List.{List}
 use Prim.Native.Nat.{ℕ, _+_, _≤_}
 use native.Mathlib.Omega.{arith}
 use lib.ListN.{length, length-replicate, length-append}
 use lib.Dec.{ltb}
-use Rattle.lists.specs.Over.{overAt}
 use Rattle.lists.specs.Written.{Written}
-use Rattle.lists.proofs.Pieces.{written-before}
 use Rattle.outcome.specs.Outcome.{Outcome, refused, none, refuseIf, map}
 use Rattle.outcome.specs.Refusal.{areaTooShort}
 use Rattle.bodies.specs.declared.BodyAnswer.{BodyAnswer}
 use Rattle.bodies.specs.Packing.{PackedBody, belowLimit, packBody, packedAnswer, packedOutput}
 use Rattle.bodies.proofs.Answers.{answer-refused}
-use Rattle.bodies.proofs.Packing.{PackedAt, packed-room, pack-judged, packed-at}
+use Rattle.bodies.proofs.Packing.{PackedAt, packed-behind, packed-room, pack-judged, packed-at}
 use Rattle.picture.specs.declared.WriteAnswer.{WriteAnswer}
 use Rattle.picture.specs.Writing.{writeAnswer, writeOutput}
 use Rattle.picture.proofs.Writing.{written-done}
@@ -77,11 +75,6 @@ module _ (plate out after : List ℕ) (a : BodyAnswer) where
       unfolding plateFile
       plate-written then n h size is =
           let k = plate-packed in
-          let place : after ≡ overAt n (k .bytes) out = k .there ∙ ap (λ (o : ℕ). overAt o (k .bytes) out) (sym size) in
-          let whole : Written (plateFile (k .bytes)) out then (n + length (k .bytes)) =
-          written-before (k .bytes) out (omega (arith, plate-room))
-          (subst (λ (l : List ℕ). Written zeroHeader l then n) place h) in
-          let all : Written (plateFile (k .bytes)) out then (n + a .body) =
-          subst (λ (l : ℕ). Written (plateFile (k .bytes)) out then (n + l)) (sym (k .size)) whole in
+          let all = packed-behind k zeroHeader then n size (omega (arith, plate-room)) h in
           let b : PackedBody = record { body = a .body; records = a .records; bytes = k .bytes } in
           rw (write-packed plate (length out), k .is) (written-done (plateWriting b) all is)

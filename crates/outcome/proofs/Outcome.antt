@@ -3,13 +3,19 @@ use mathlib.Core.Path.{_≡_, refl, subst}
 use mathlib.Core.Bool.{Bool, true, false}
 use Prim.Native.Nat.{ℕ}
 use native.Mathlib.Omega.{arith}
-use Rattle.outcome.specs.Outcome.{Outcome, accepted, refused, refuseIf, bind, later, refusalOf, Judged}
+use Rattle.outcome.specs.declared.Refusal.{Refusal}
+use Rattle.outcome.specs.Outcome.{Outcome, accepted, refused, refuseIf, map, bind, later, refusalOf, Judged}
 
 -- what is accepted was not refused by the first test
 pub passed : {A : Type 0} (t : Bool) (n : ℕ) (further : Outcome A) (a : A) → refuseIf t n further ≡ accepted a
     → (t ≡ false) × (further ≡ accepted a)
 passed true n further a e = let z : _≡_ {A = ℕ} 0 1 = cc in absurd (omega arith)
 passed false n further a e = (refl, e)
+
+-- what is made of an outcome is refused where the outcome is
+pub map-refused : {A B : Type 0} (f : A → B) (o : Outcome A) (why : Refusal) → map f o ≡ refused why → o ≡ refused why
+map-refused f (accepted a) why e = let z : _≡_ {A = ℕ} 0 1 = cc in absurd (omega arith)
+map-refused f (refused w) why e = cc
 
 -- a refusal leaves a lent area as it was
 pub kept : {A B : Type 0} (o : Outcome A) (gives : A → B) (was : B) → (refusalOf o .number ≡ 0 → ⊥)

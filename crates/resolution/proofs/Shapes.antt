@@ -1,15 +1,9 @@
 -- Laws of the three shapes, each by its three cases.
-use Prim.Native.Nat.{_≤_, _<_}
+use Prim.Native.Nat.{_≤_}
 use native.Mathlib.Omega.{arith}
 use Rattle.resolution.specs.declared.Resolution.{Resolution}
 use Rattle.resolution.specs.declared.Resolution.the-variants.{Low, Medium, High}
-use Rattle.resolution.specs.Shapes.{widthOf, heightOf, planesOf, lineBytesOf, registersOf}
-
--- no shape is empty
-pub planes-pos : (r : Resolution) → 0 < planesOf r
-planes-pos Low = omega arith
-planes-pos Medium = omega arith
-planes-pos High = omega arith
+use Rattle.resolution.specs.Shapes.{widthOf, heightOf, planesOf, registersOf}
 
 -- numbers that no shape exceeds
 pub width-le : (r : Resolution) → widthOf r ≤ 640
@@ -26,11 +20,6 @@ pub planes-le : (r : Resolution) → planesOf r ≤ 4
 planes-le Low = omega arith
 planes-le Medium = omega arith
 planes-le High = omega arith
-
-pub lineBytes-le : (r : Resolution) → lineBytesOf r ≤ 160
-lineBytes-le Low = omega arith
-lineBytes-le Medium = omega arith
-lineBytes-le High = omega arith
 
 pub registers-le : (r : Resolution) → registersOf r ≤ 16
 registers-le Low = omega arith

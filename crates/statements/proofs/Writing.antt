@@ -2,7 +2,7 @@
 use mathlib.Core.Path.{_≡_, sym, ap, _∙_, subst}
 use mathlib.Core.Logic.{_↔_}
 use mathlib.Core.List.{List, _++_, append-assoc}
-use Prim.Native.Nat.{ℕ, _+_, _≤_, _<_}
+use Prim.Native.Nat.{ℕ, _+_, _≤_}
 use native.Mathlib.Omega.{arith}
 use lib.ListN.{length, take, drop, length-append}
 use lib.Seq.{take-append-seam}
@@ -11,14 +11,12 @@ use Rattle.lists.specs.Over.{over}
 use Rattle.outcome.specs.declared.Refusal.{Refusal}
 use Rattle.outcome.specs.Outcome.{Outcome, accepted, refused, refuse}
 use Rattle.outcome.specs.Refusal.{noPackedBody}
-use Rattle.pack.specs.LeastRows.{LeastRowsOf}
-use Rattle.raster.specs.PlaneRows.{planeRows}
 use Rattle.resolution.specs.declared.Resolution.{Resolution}
 use Rattle.resolution.specs.declared.Resolution.the-variants.{Low, Medium, High}
 use Rattle.resolution.specs.Shapes.{planeRowsOf, rasterOf}
 use Rattle.bodies.specs.Packing.{leastBody, leastBodyRecords}
 use Rattle.bodies.proofs.Least.{least-shortest}
-use Rattle.bodies.specs.Unpacks.{ShortestBody}
+use Rattle.bodies.specs.Unpacks.{LeastBelow}
 use Rattle.picture.specs.declared.Picture.{Picture}
 use Rattle.picture.specs.Tables.{tailBytes}
 use Rattle.picture.specs.Whole.{WholePicture}
@@ -99,10 +97,8 @@ module _ (r : Resolution) (p : Picture) (screen out : List ℕ) (stated : Stated
             ap (λ (s : List ℕ). take (length (q .packed)) (drop headerLength s)) later
             ∙ body-place p whole (q .packed) _;
         total = omega (arith, ap (λ (o : Outcome Writing). writeAnswer o .length) e, q .all, body);
-        rows = subst (LeastRowsOf (q .packed) (planeRows screen (rasterOf r))) records (q .least .rows);
-        least = subst (ShortestBody (rasterOf r) screen (q .packed)) records (q .least .least);
+        least = subst (LeastBelow (rasterOf r) screen bodyLimit (q .packed)) records (q .least);
         body = body ∙ q .size;
-        below = subst (λ (n : ℕ). n < bodyLimit) (sym (body ∙ q .size)) (q .least .below);
       }
 
 -- the file that is answered is within the output

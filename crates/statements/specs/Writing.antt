@@ -7,11 +7,9 @@ use Rattle.lists.specs.Bytes.{Bytes}
 use Rattle.lists.specs.Over.{over}
 use Rattle.outcome.specs.Outcome.{none}
 use Rattle.outcome.specs.Refusal.{noPackedBody}
-use Rattle.pack.specs.LeastRows.{LeastRowsOf}
-use Rattle.raster.specs.PlaneRows.{planeRows}
 use Rattle.resolution.specs.declared.Resolution.{Resolution}
 use Rattle.resolution.specs.Shapes.{screenBytes, rasterOf}
-use Rattle.bodies.specs.Unpacks.{UnpacksImage, ShortestBody}
+use Rattle.bodies.specs.Unpacks.{UnpacksImage, ShortestBody, LeastBelow}
 use Rattle.picture.specs.declared.Picture.{Picture}
 use Rattle.picture.specs.declared.WriteAnswer.{WriteAnswer}
 use Rattle.picture.specs.Writing.{writeAnswer, writeOutput}
@@ -36,10 +34,9 @@ pub record WritesLeast (r : Resolution) (p : Picture) (screen : List ℕ) (a : W
   -- from offset 34 on, up to the file's last 32 bytes
   pub place : take (length packed) (drop headerLength after) ≡ packed
   pub total : a .length ≡ a .body + (headerLength + tailLength)
-  pub rows : LeastRowsOf packed (planeRows screen (rasterOf r)) (a .records)
-  pub least : ShortestBody (rasterOf r) screen packed (a .records)
+  -- the writer's row for each plane row in turn, a shortest body, below 32,000 bytes
+  pub least : LeastBelow (rasterOf r) screen bodyLimit packed (a .records)
   pub body : a .body ≡ length packed
-  pub below : a .body < bodyLimit
 
 -- "The least body of a screen is never above 32,800 bytes at low resolution or 32,400 at the other two."
 abbrev pub NeverAbove : Resolution → List ℕ → Type 0

@@ -12,9 +12,10 @@ use lib.ListN.{length, getD, replicate, List·getD-eq-default}
 use lib.Pow.{pow-mono, pow-pos}
 use borrow.Author.Tests.{eqb-true, eqb-false, ltb-true, ltb-false}
 use Rattle.lists.specs.Bytes.{Bytes}
+use Rattle.lists.specs.Digits.{fromBytes}
 use Rattle.lists.specs.Sum.{sum}
 use Rattle.lists.specs.Tabulate.{tabulate}
-use Rattle.lists.proofs.Sum.{sum-ext, sum-const}
+use Rattle.lists.proofs.Sum.{sum-ext, sum-const, sum-rows}
 use Rattle.lists.proofs.Tabulate.{length-tabulate, getD-tabulate, tabulate-ext}
 use Rattle.words.specs.Word.{wordAt}
 use Rattle.words.proofs.Word.{wordAt-lt}
@@ -27,7 +28,7 @@ use Rattle.lines.specs.Registers.{pixelBit, register}
 use Rattle.lines.specs.Columns.{byteOf}
 use Rattle.tally.specs.declared.Block.{Block}
 use Rattle.tally.specs.declared.Rectangle.{Rectangle}
-use Rattle.tally.specs.Blocks.{digit, fromBytes, reversed, planeBlock, blockAt, reversedBlock, blockRegister}
+use Rattle.tally.specs.Blocks.{digit, reversed, planeBlock, blockAt, reversedBlock, blockRegister}
 use Rattle.tally.specs.Blocks.{partRegister, blocksRegister, alike, registerSet, mostBlocks, Spaced}
 use Rattle.tally.specs.Rectangles.{lineSum, rectangleSum}
 use Rattle.tally.specs.Counts.{isRegister, counts, mostPixels, counted, countedLines}
@@ -35,7 +36,6 @@ use Rattle.tally.proofs.Counts.{isRegister-same, isRegister-other, isRe
 use Rattle.tally.proofs.Counts.{countedLines-counts}
 use Rattle.tally.proofs.Ones.{cat-above, cat-below, ones-zero, ones-digits, ones-part}
 use Rattle.tally.proofs.Ones.{and-digit, not-digit, all-digit}
-use Rattle.tally.proofs.Sums.{sum-rows}
 use Rattle.tally.proofs.Bytes.{swappedDigit, reversed-digit, reversed-lt, ones-swapped}
 
 -- ---- the pixels that have register v

@@ -6,12 +6,12 @@ use native.Mathlib.Omega.{arith}
 use lib.Arith.{digits-lt, digits-div, digits-mod}
 use lib.Count.{ones}
 use lib.Pow.{shr-shr}
+use Rattle.lists.specs.Digits.{fromBytes}
 use Rattle.lists.specs.Sum.{sum}
-use Rattle.lists.proofs.Sum.{sum-ext}
+use Rattle.lists.proofs.Sum.{sum-ext, sum-rows}
 use Rattle.lines.specs.Columns.{byteOf}
-use Rattle.tally.specs.Blocks.{digit, fromBytes, reversed, swapped}
+use Rattle.tally.specs.Blocks.{digit, reversed, swapped}
 use Rattle.tally.proofs.Ones.{digit-above, digit-below, cat-above, cat-below, ones-digits}
-use Rattle.tally.proofs.Sums.{sum-rows, sum-back}
 
 -- digit c of byte i
 fromBytes-digit : (n : ℕ) (r : ℕ → ℕ) → ((k : ℕ) → r k < 256) → (i c : ℕ) → i < n → c < 8
@@ -50,6 +50,11 @@ reversed-digit a j h =
 pub reversed-lt : (a : ℕ) → reversed a < 2 ^ 64
 unfolding reversed byteOf
 reversed-lt a = fromBytes-lt 8 (λ k. byteOf a (7 - k)) (λ k. omega arith)
+
+-- eight from the last
+sum-back : (f : ℕ → ℕ) → sum 8 (λ i. f (7 - i)) ≡ sum 8 f
+unfolding sum
+sum-back f = omega arith
 
 -- all digits, in either order of the bytes
 sum-swapped : (f : ℕ → ℕ) → sum 64 (λ k. f (swappedDigit (64 - 1 - k))) ≡ sum 64 (λ k. f (64 - 1 - k))

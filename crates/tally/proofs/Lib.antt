@@ -3,5 +3,4 @@ pub mod Bytes
 pub mod Counts
 pub mod Ones
 pub mod Rectangles
-pub mod Sums
 pub mod Totals

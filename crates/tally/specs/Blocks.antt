@@ -8,6 +8,7 @@ use mathlib.Core.List.{List}
 use mathlib.Core.Path.{_≡_}
 use lib.Bits.{bitAnd}
 use lib.Dec.{ltb}
+use Rattle.lists.specs.Digits.{fromBytes}
 use Rattle.words.specs.Word.{wordAt}
 use Rattle.lines.specs.Columns.{byteOf}
 use Rattle.tally.specs.declared.Block.{Block}
@@ -17,11 +18,6 @@ use Rattle.tally.specs.declared.Block.{Block}
 -- digit j of a number
 abbrev pub digit : ℕ → ℕ → ℕ
 digit a j = a / 2 ^ j % 2
-
--- the number of n bytes, the lowest first
-unfoldable pub fromBytes : ℕ → (ℕ → ℕ) → ℕ
-fromBytes zero r = 0
-fromBytes (suc n) r = fromBytes n (λ k. r (suc k)) * 256 + r 0
 
 -- eight bytes in reverse order
 unfoldable pub reversed : ℕ → ℕ

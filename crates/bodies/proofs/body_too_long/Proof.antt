@@ -62,9 +62,6 @@ loop-holds c =
     let start = most-start (plane-rows (now (s .args .area)) (s .args .r)) in
     (c .before .rows .ensures .0, omega arith, s .pre, rw (c .before .rows .ensures .0, c .row-bytes .ensures .0) start)
 
-least-row-len-requires : tie.Need-least-row-len-requires Inv-loop μ-loop
-least-row-len-requires c κs = (c .before .before .loop .inv .2, more-here (c .before))
-
 sub-most : tie.Need-sub-most Inv-loop μ-loop
 sub-most c = longest-here (c .before .before)
 
@@ -112,7 +109,7 @@ body-too-long-spec =
     (λ c. search needs)
     mul-most
     loop-holds
-    least-row-len-requires
+    (λ c κs. search needs)
     sub-most
     sub-most-2
     (λ c. search needs)

@@ -8,7 +8,7 @@ use Rattle.packbits.proofs.Row.{in-range}
 use Rattle.raster.specs.Shape.{rowBytes, rows}
 use Rattle.raster.specs.PlaneRows.{planeRows}
 use Rattle.bodies.specs.Body.{RowRoom, bodyDone}
-use Rattle.bodies.proofs.LeastRows.{RowsWritten, rows-start, row-room, row-bounds, row-written, rows-end}
+use Rattle.bodies.proofs.LeastRows.{RowsWritten, row-room, row-bounds, row-written, rows-end}
 use Rattle.bodies.proofs.PlaneRow.{plane-rows}
 use Rattle.bodies.proofs.put_body.Statement.{statement}
 use Rattle.bodies.proofs.put_body.Tie as tie
@@ -41,12 +41,6 @@ bounds-here c =
     let list = plane-rows (now (s .args .area)) (s .args .r) in
     rw (c .pack-plane-row .ensures .0)
     (row-bounds list (narrow-here i) (s .pre .1) (i .before .loop .inv .3) (more-here i))
-
-loop-holds : tie.Need-loop-holds Inv-loop μ-loop
-loop-holds c =
-    let s = c .before .before .before .before in
-    let a = s .args in
-    (c .rows .ensures .0, omega arith, s .pre .0, rows-start (plane-rows (now (a .area)) (a .r)) (now (a .out)))
 
 pack-plane-row-requires : tie.Need-pack-plane-row-requires Inv-loop μ-loop
 pack-plane-row-requires c κs =
@@ -98,7 +92,7 @@ put-body-spec =
     Inv-loop
     μ-loop
     (λ c κs. search needs)
-    loop-holds
+    (λ c. search needs)
     (λ c. search needs)
     (λ c. search needs)
     (λ c. search needs)

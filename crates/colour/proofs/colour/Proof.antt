@@ -5,9 +5,6 @@ use borrow.Author.Needs.{needs}
 use Rattle.colour.proofs.colour.Statement.{statement}
 use Rattle.colour.proofs.colour.Tie as tie
 
-enum-told : tie.Need-enum-told
-enum-told c = search needs
-
 returns : tie.Need-returns
 unfolding shown
 returns c =
@@ -28,7 +25,7 @@ colour-spec =
     (λ c κs. search needs)
     (λ c. search needs)
     (λ c κs. search needs)
-    enum-told
+    (λ c. search needs)
     (λ c κs. search needs)
     (λ c κs. search needs)
     returns

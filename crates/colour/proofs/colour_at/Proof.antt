@@ -18,9 +18,6 @@ returns c =
     let h : registersOf (a .r) ≤ a .register = omega arith in
     c .colour-refused .ensures ∙ rw (c .before .refuse .ensures, le-leb _ _ h)
 
-enum-told : tie.Need-enum-told
-enum-told c = search needs
-
 palette-colour-requires : tie.Need-palette-colour-requires
 palette-colour-requires c κs = omega (arith, registers-le (c .before .before .before .before .args .r))
 
@@ -56,7 +53,7 @@ colour-at-spec =
     (λ c κs. search needs)
     (λ c κs. search needs)
     returns
-    enum-told
+    (λ c. search needs)
     palette-colour-requires
     (λ c. search needs)
     palette-colour-requires-2

@@ -21,9 +21,6 @@ returns c =
     let file = now (c .before .before .before .args .file) in
     ap Refused (c .refuse .ensures) ∙ sym (ap openedAs (opening-short file (c .before .if1 .taken)))
 
-enum-told : tie.Need-enum-told
-enum-told c = search needs
-
 returns-2 : tie.Need-returns-2
 returns-2 c =
     let f = c .before .before .before in
@@ -47,7 +44,7 @@ open-file-spec =
     (λ c κs. search needs)
     (λ c κs. search needs)
     (λ c. search needs)
-    enum-told
+    (λ c. search needs)
     (λ c κs. search needs)
     returns-2
     returns-3)

@@ -1,7 +1,8 @@
 -- `lines::copy_groups` meets its contract: the loop has written the first g groups.
-use mathlib.Core.Path.{_≡_, refl, sym, ap, ap₂, _∙_}
+use mathlib.Core.Path.{_≡_, sym, ap, ap₂, _∙_}
 use native.Mathlib.Omega.{arith}
-use Prim.Native.Nat.{ℕ, _≤_, _<_, _+_, _*_, _-_, _/_, _%_}
+use Prim.Native.Nat.{ℕ, _≤_, _+_, _*_, _-_, _/_, _%_}
+use borrow.Author.Needs.{needs}
 use denote.Ref.{now}
 use lib.Arith.{digits-div, digits-mod}
 use lib.ListN.{length, take}
@@ -9,59 +10,36 @@ use Rattle.lists.specs.Over.{over}
 use Rattle.lists.specs.Tabulate.{tabulate}
 use Rattle.lists.proofs.Over.{length-overAt, over-done, tabulate-piece}
 use Rattle.lists.proofs.Tabulate.{length-tabulate}
-use Rattle.resolution.specs.Shapes.{screenBytes}
-use Rattle.lines.specs.Columns.{groupRegister, groupsLine, spread}
+use Rattle.lines.specs.Columns.{groupRegister, groupsLine}
 use Rattle.lines.proofs.Pieces.{piece-within, piece-next}
 use Rattle.lines.proofs.copy_groups.Statement.{statement}
 use Rattle.lines.proofs.copy_groups.Tie as tie
 
 abbrev Inv-loop : tie.InvT-loop
 Inv-loop table screen start planes groups out₀ g₀ out g =
-    (table ≡ tabulate 256 spread) × (screenBytes ≤ length screen) × (groups ≤ 40) × (groups * 16 ≤ length out₀)
-    × (0 < planes) × (planes ≤ 4) × (start + groups * (planes * 2) ≤ screenBytes)
-    × (g ≤ groups) × (length out ≡ length out₀)
+    (g ≤ groups) × (length out ≡ length out₀)
     × (out ≡ over (take (g * 16) (groupsLine screen start planes groups)) out₀)
 
 abbrev μ-loop : tie.MeasureT-loop
 μ-loop table screen start planes groups out₀ g₀ out g = groups - g
 
-loop-holds : tie.Need-loop-holds Inv-loop μ-loop
-loop-holds c =
-    let p = c .before .before .pre in
-    (p .0 .0, p .0 .1, p .0 .2, p .0 .3, p .1 .0, p .1 .1, p .1 .2, omega arith, refl, refl)
-
-mul-copy-group : tie.Need-mul-copy-group Inv-loop μ-loop
-mul-copy-group c = omega arith
+-- the next group ends within the scan line
+within-here : (c : tie.In-loop Inv-loop μ-loop) → let a = c .before .before .before .before .args in
+    c .before .loop .g * (a .planes * 2) + a .planes * 2 ≤ a .groups * (a .planes * 2)
+within-here c =
+    let a = c .before .before .before .before .args in
+    piece-within (c .before .loop .g) (a .groups) (a .planes * 2) (omega arith)
 
 mul-copy-group-2 : tie.Need-mul-copy-group-2 Inv-loop μ-loop
-mul-copy-group-2 c =
-    let l = c .before .loop in
-    let a = c .before .before .before .before .args in
-    let within = piece-within (l .g) (a .groups) (a .planes * 2) (omega arith) in
-    omega (arith, within)
+mul-copy-group-2 c = omega (arith, within-here c)
 
 add-copy-group : tie.Need-add-copy-group Inv-loop μ-loop
-add-copy-group c =
-    let l = c .before .loop in
-    let a = c .before .before .before .before .args in
-    let within = piece-within (l .g) (a .groups) (a .planes * 2) (omega arith) in
-    omega (arith, within)
-
-mul-copy-group-3 : tie.Need-mul-copy-group-3 Inv-loop μ-loop
-mul-copy-group-3 c = omega arith
+add-copy-group c = omega (arith, within-here c)
 
 copy-group-requires : tie.Need-copy-group-requires Inv-loop μ-loop
 copy-group-requires c κs =
-    let l = c .before .before .loop in
-    let a = c .before .before .before .before .before .args in
-    let within = piece-within (l .g) (a .groups) (a .planes * 2) (omega arith) in
-    (l .inv .0, omega (arith, within), omega arith, omega arith)
-
-add-g : tie.Need-add-g Inv-loop μ-loop
-add-g c = omega arith
-
-loop-less : tie.Need-loop-less Inv-loop μ-loop
-loop-less c = omega arith
+    let h = c .before .before .before .before .before .pre in
+    (h .0 .0, omega (arith, within-here (c .before)), omega arith, omega arith)
 
 loop-again : tie.Need-loop-again Inv-loop μ-loop
 unfolding groupsLine
@@ -76,26 +54,16 @@ loop-again c =
     let w : ℕ → ℕ = groupRegister s (at (l .g)) (a .planes) in
     let e = k .copy-group .ensures in
     let room : l .g * 16 + length (tabulate 16 w) ≤ length (l .out) = omega (arith, length-tabulate 16 w) in (
-      i .0,
-      i .1,
-      i .2,
-      i .3,
-      i .4,
-      i .5,
-      i .6,
       omega arith,
-      ap length e ∙ length-overAt (l .g * 16) (tabulate 16 w) (l .out) room ∙ i .8,
+      ap length e ∙ length-overAt (l .g * 16) (tabulate 16 w) (l .out) room ∙ i .1,
       e
-          ∙ tabulate-piece (a .groups * 16) 16 f w (now (a .out)) (l .out) (l .g * 16) (omega arith) (i .9)
+          ∙ tabulate-piece (a .groups * 16) 16 f w (now (a .out)) (l .out) (l .g * 16) (omega arith) (i .2)
           (λ j b.
           ap₂ (λ (g k : ℕ). groupRegister s (at g) (a .planes) k)
           (sym (digits-div (l .g) b))
           (sym (digits-mod (l .g) b)))
           ∙ ap (λ (n : ℕ). over (take n (tabulate (a .groups * 16) f)) (now (a .out))) (piece-next (l .g) 16),
     )
-
-same-length : tie.Need-same-length Inv-loop μ-loop
-same-length c = omega arith
 
 returns : tie.Need-returns Inv-loop μ-loop
 unfolding groupsLine
@@ -105,7 +73,7 @@ returns c =
     let at : ℕ → ℕ = λ g. a .start + g * (a .planes * 2) in
     let f : ℕ → ℕ = λ x. groupRegister (now (a .screen)) (at (x / 16)) (a .planes) (x % 16) in
     over-done (tabulate (a .groups * 16) f) (now (a .out)) (l .out) (l .g * 16)
-    (omega (arith, length-tabulate (a .groups * 16) f)) (l .inv .9)
+    (omega (arith, length-tabulate (a .groups * 16) f)) (l .inv .2)
 
 pub copy-groups-spec : {M : Type 1} → statement M
 copy-groups-spec =
@@ -113,14 +81,14 @@ copy-groups-spec =
     (tie.spec
     Inv-loop
     μ-loop
-    loop-holds
-    mul-copy-group
+    (λ c. search needs)
+    (λ c. search needs)
     mul-copy-group-2
     add-copy-group
-    mul-copy-group-3
+    (λ c. search needs)
     copy-group-requires
-    add-g
-    loop-less
+    (λ c. search needs)
+    (λ c. search needs)
     loop-again
-    same-length
+    (λ c. search needs)
     returns)

@@ -24,9 +24,6 @@ copied : (s : List ℕ) (r q : Resolution) (y : ℕ) (out : List ℕ) → r ≡ 
 copied s r q y out e bytes =
     ap (λ (l : List ℕ). over l out) (groupsLine-scanLine s q y bytes ∙ ap (λ (r : Resolution). scanLine s r y) (sym e))
 
-enum-told : tie.Need-enum-told
-enum-told c = search needs
-
 mul-copy-groups : tie.Need-mul-copy-groups
 mul-copy-groups c = omega (arith, height-le (c .before .before .before .before .args .r))
 
@@ -88,7 +85,7 @@ pub fill-line-spec : {M : Type 1} → statement M
 fill-line-spec =
     tie.close
     (tie.spec
-    enum-told
+    (λ c. search needs)
     mul-copy-groups
     copy-groups-requires
     (λ c. search needs)

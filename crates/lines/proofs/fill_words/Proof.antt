@@ -1,14 +1,15 @@
 -- `lines::fill_words` meets its contract: the loop has made the words of the first b blocks.
-use mathlib.Core.Path.{_≡_, refl, ap, _∙_}
+use mathlib.Core.Path.{_≡_, ap, _∙_}
 use native.Mathlib.Omega.{arith}
 use Prim.Native.Nat.{ℕ, _≤_, _+_, _-_, _*_}
+use borrow.Author.Needs.{needs}
 use denote.Ref.{now}
-use lib.ListN.{length, take, set}
+use lib.ListN.{take, set}
 use Rattle.lists.specs.Over.{over}
 use Rattle.lists.specs.Tabulate.{tabulate}
 use Rattle.lists.proofs.Over.{tabulate-turn, over-done}
 use Rattle.lists.proofs.Tabulate.{length-tabulate}
-use Rattle.lines.specs.Blocks.{isBlockWidth, lineWord}
+use Rattle.lines.specs.Blocks.{lineWord}
 use Rattle.lines.proofs.Blocks.{lineWord-left, lineWord-right}
 use Rattle.lines.proofs.Pieces.{piece-within}
 use Rattle.lines.proofs.fill_words.Statement.{statement}
@@ -16,16 +17,10 @@ use Rattle.lines.proofs.fill_words.Tie as tie
 
 abbrev Inv-loop : tie.InvT-loop
 Inv-loop words₀ registers width blocks b₀ words b =
-    isBlockWidth width × (blocks ≤ 10) × (blocks * width ≤ 640) × (blocks * width ≤ length registers) × (b ≤ blocks)
-    × (length words₀ ≡ 20) × (words ≡ over (take (b * 2) (tabulate (blocks * 2) (lineWord registers width))) words₀)
+    (b ≤ blocks) × (words ≡ over (take (b * 2) (tabulate (blocks * 2) (lineWord registers width))) words₀)
 
 abbrev μ-loop : tie.MeasureT-loop
 μ-loop words₀ registers width blocks b₀ words b = blocks - b
-
-loop-holds : tie.Need-loop-holds Inv-loop μ-loop
-loop-holds c =
-    let p = c .before .pre in
-    (p .1, p .2, p .3, p .4, omega arith, p .0, refl)
 
 within-here : (c : tie.In-loop Inv-loop μ-loop)
     → c .before .loop .b * c .before .before .before .args .width + c .before .before .before .args .width
@@ -38,16 +33,7 @@ mul-block-word : tie.Need-mul-block-word Inv-loop μ-loop
 mul-block-word c = omega (arith, within-here c)
 
 block-word-requires : tie.Need-block-word-requires Inv-loop μ-loop
-block-word-requires c κs = (omega (arith, within-here c), c .before .loop .inv .0)
-
-mul-words : tie.Need-mul-words Inv-loop μ-loop
-mul-words c = omega arith
-
-mul-words-2 : tie.Need-mul-words-2 Inv-loop μ-loop
-mul-words-2 c = omega arith
-
-element-write-words : tie.Need-element-write-words Inv-loop μ-loop
-element-write-words c = omega arith
+block-word-requires c κs = (omega (arith, within-here c), c .before .before .before .pre .1)
 
 mul-block-word-2 : tie.Need-mul-block-word-2 Inv-loop μ-loop
 mul-block-word-2 c = omega (arith, within-here (c .before))
@@ -56,30 +42,12 @@ add-block-word : tie.Need-add-block-word Inv-loop μ-loop
 add-block-word c = omega (arith, within-here (c .before))
 
 block-word-requires-2 : tie.Need-block-word-requires-2 Inv-loop μ-loop
-block-word-requires-2 c κs = (omega (arith, within-here (c .before)), c .before .before .loop .inv .0)
-
-mul-words-3 : tie.Need-mul-words-3 Inv-loop μ-loop
-mul-words-3 c = omega arith
-
-add-words : tie.Need-add-words Inv-loop μ-loop
-add-words c = omega arith
-
-mul-words-4 : tie.Need-mul-words-4 Inv-loop μ-loop
-mul-words-4 c = omega arith
-
-element-write-words-2 : tie.Need-element-write-words-2 Inv-loop μ-loop
-element-write-words-2 c = omega arith
-
-add-b : tie.Need-add-b Inv-loop μ-loop
-add-b c = omega arith
-
-loop-less : tie.Need-loop-less Inv-loop μ-loop
-loop-less c = omega arith
+block-word-requires-2 c κs =
+    (omega (arith, within-here (c .before)), c .before .before .before .before .pre .1)
 
 loop-again : tie.Need-loop-again Inv-loop μ-loop
 loop-again c =
     let l = c .before .before .before .loop in
-    let i = l .inv in
     let a = c .before .before .before .before .before .args in
     let s = now (a .registers) in
     let d = now (a .words) in
@@ -88,18 +56,13 @@ loop-again c =
     let f : ℕ → ℕ = lineWord s (a .width) in
     let left = c .before .block-word in
     let right = c .block-word2 in
-    let one = tabulate-turn n f d (l .words) k (left .result) (omega arith) (omega arith) (i .6)
+    let one = tabulate-turn n f d (l .words) k (left .result) (omega arith) (omega arith) (l .inv .1)
     (left .ensures ∙ lineWord-left s (a .width) (l .b)) in
     let w = set (l .words) k (left .result) in
     let two = tabulate-turn n f d w (k + 1) (right .result) (omega arith) (omega arith) one
     (right .ensures ∙ lineWord-right s (a .width) (l .b)) in
     let e : k + 1 + 1 ≡ (l .b + 1) * 2 = omega arith in (
-      i .0,
-      i .1,
-      i .2,
-      i .3,
       omega arith,
-      i .5,
       two ∙ ap (λ (m : ℕ). over (take m (tabulate n f)) d) e,
     )
 
@@ -109,7 +72,7 @@ returns c =
     let a = c .before .before .before .args in
     let f : ℕ → ℕ = lineWord (now (a .registers)) (a .width) in
     over-done (tabulate (a .blocks * 2) f) (now (a .words)) (l .words) (l .b * 2)
-    (omega (arith, length-tabulate (a .blocks * 2) f)) (l .inv .6)
+    (omega (arith, length-tabulate (a .blocks * 2) f)) (l .inv .1)
 
 pub fill-words-spec : {M : Type 1} → statement M
 fill-words-spec =
@@ -117,20 +80,20 @@ fill-words-spec =
     (tie.spec
     Inv-loop
     μ-loop
-    loop-holds
+    (λ c. search needs)
     mul-block-word
     block-word-requires
-    mul-words
-    mul-words-2
-    element-write-words
+    (λ c. search needs)
+    (λ c. search needs)
+    (λ c. search needs)
     mul-block-word-2
     add-block-word
     block-word-requires-2
-    mul-words-3
-    add-words
-    mul-words-4
-    element-write-words-2
-    add-b
-    loop-less
+    (λ c. search needs)
+    (λ c. search needs)
+    (λ c. search needs)
+    (λ c. search needs)
+    (λ c. search needs)
+    (λ c. search needs)
     loop-again
     returns)

@@ -1,7 +1,8 @@
 -- `lines::put_eight` meets its contract: the loop has written the first i bytes.
 use mathlib.Core.Path.{_≡_, refl, sym, _∙_}
 use native.Mathlib.Omega.{arith}
-use Prim.Native.Nat.{ℕ, _≤_, _+_, _-_}
+use Prim.Native.Nat.{ℕ, _≤_, _-_}
+use borrow.Author.Needs.{needs}
 use denote.Ref.{now}
 use lib.ListN.{length, take, length-set, take-append-drop}
 use Rattle.lists.specs.Over.{overAt}
@@ -14,7 +15,7 @@ use Rattle.lines.proofs.put_eight.Tie as tie
 
 abbrev Inv-loop : tie.InvT-loop
 Inv-loop v out₀ x i₀ out i =
-    (x + 8 ≤ length out₀) × (i ≤ 8) × (length out ≡ length out₀)
+    (i ≤ 8) × (length out ≡ length out₀)
     × (out ≡ overAt x (take i (tabulate 8 (byteOf v))) out₀)
 
 abbrev μ-loop : tie.MeasureT-loop
@@ -23,22 +24,7 @@ abbrev μ-loop : tie.MeasureT-loop
 loop-holds : tie.Need-loop-holds Inv-loop μ-loop
 loop-holds c =
     let a = c .before .args in
-    (omega arith, omega arith, refl, sym (take-append-drop (a .x) (now (a .out))))
-
-byte-of-requires : tie.Need-byte-of-requires Inv-loop μ-loop
-byte-of-requires c κs = omega arith
-
-add-out : tie.Need-add-out Inv-loop μ-loop
-add-out c = omega arith
-
-slice-write-out : tie.Need-slice-write-out Inv-loop μ-loop
-slice-write-out c = omega arith
-
-add-i : tie.Need-add-i Inv-loop μ-loop
-add-i c = omega arith
-
-loop-less : tie.Need-loop-less Inv-loop μ-loop
-loop-less c = omega arith
+    (omega arith, refl, sym (take-append-drop (a .x) (now (a .out))))
 
 loop-again : tie.Need-loop-again Inv-loop μ-loop
 loop-again c =
@@ -46,22 +32,18 @@ loop-again c =
     let a = c .before .before .before .before .args in
     let w : ℕ → ℕ = byteOf (a .v) in (
       omega arith,
-      omega arith,
       simp length-set (omega arith),
       overAt-turn (a .x) (tabulate 8 w) (now (a .out)) (l .out) (l .i) (c .byte-of .result) 0
-          (omega (arith, length-tabulate 8 w)) (omega arith) (l .inv .3)
+          (omega (arith, length-tabulate 8 w)) (omega arith) (l .inv .2)
           (c .byte-of .ensures ∙ sym (getD-tabulate 8 w (l .i) 0 (omega arith))),
     )
-
-same-length : tie.Need-same-length Inv-loop μ-loop
-same-length c = omega arith
 
 returns : tie.Need-returns Inv-loop μ-loop
 returns c =
     let l = c .before .loop in
     let a = c .before .before .before .args in
     let w : ℕ → ℕ = byteOf (a .v) in
-    overAt-done (a .x) (tabulate 8 w) (now (a .out)) (l .out) (l .i) (omega (arith, length-tabulate 8 w)) (l .inv .3)
+    overAt-done (a .x) (tabulate 8 w) (now (a .out)) (l .out) (l .i) (omega (arith, length-tabulate 8 w)) (l .inv .2)
 
 pub put-eight-spec : {M : Type 1} → statement M
 put-eight-spec =
@@ -70,11 +52,11 @@ put-eight-spec =
     Inv-loop
     μ-loop
     loop-holds
-    byte-of-requires
-    add-out
-    slice-write-out
-    add-i
-    loop-less
+    (λ c κs. search needs)
+    (λ c. search needs)
+    (λ c. search needs)
+    (λ c. search needs)
+    (λ c. search needs)
     loop-again
-    same-length
+    (λ c. search needs)
     returns)

@@ -44,9 +44,6 @@ module _ (r q : Resolution) (e : r ≡ q) where
       (tabulate-ext (lineBytesOf q) f (lineByte q line) is)
       ∙ ap (λ (p : Resolution). withLine s p y line) (sym e)
 
-enum-told : tie.Need-enum-told
-enum-told c = search needs
-
 line-words-requires : tie.Need-line-words-requires
 line-words-requires c κs =
     let a = c .before .before .before .before .args in
@@ -138,7 +135,7 @@ pub put-line-spec : {M : Type 1} → statement M
 put-line-spec =
     tie.close
     (tie.spec
-    enum-told
+    (λ c. search needs)
     line-words-requires
     mul-put-words
     put-words-requires

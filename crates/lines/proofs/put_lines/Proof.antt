@@ -1,76 +1,55 @@
 -- `lines::put_lines` meets its contract: the loop has made the first y scan lines.
-use mathlib.Core.Path.{_≡_, refl, ap, _∙_}
-use mathlib.Core.Bool.{true}
+use mathlib.Core.Path.{_≡_, ap, _∙_}
 use native.Mathlib.Omega.{arith}
 use Prim.Native.Nat.{ℕ, _≤_, _<_, _-_, _*_}
 use denote.Ref.{now}
 use borrow.Author.Needs.{needs}
 use lib.ListN.{length}
-use Rattle.resolution.specs.Shapes.{screenBytes, widthOf, heightOf}
-use Rattle.lines.specs.Screens.{pixelsOf, withLines, allFit}
+use Rattle.resolution.specs.Shapes.{heightOf}
+use Rattle.lines.specs.Screens.{withLines}
 use Rattle.lines.proofs.Lines.{length-withLine}
-use Rattle.lines.proofs.Screens.{pixels-le, line-place, part-room, part-fits, withLines-turn}
+use Rattle.lines.proofs.Screens.{line-place, part-room, part-fits, withLines-turn}
 use Rattle.lines.proofs.put_lines.Statement.{statement}
 use Rattle.lines.proofs.put_lines.Tie as tie
 
 abbrev Inv-loop : tie.InvT-loop
 Inv-loop screen₀ r registers width height y₀ screen y =
-    (screenBytes ≤ length screen₀) × (pixelsOf r ≤ length registers) × (width ≡ widthOf r) × (height ≡ heightOf r)
-    × (allFit r registers ≡ true) × (y ≤ height) × (length screen ≡ length screen₀)
-    × (screen ≡ withLines screen₀ r registers y)
+    (y ≤ height) × (length screen ≡ length screen₀) × (screen ≡ withLines screen₀ r registers y)
 
 abbrev μ-loop : tie.MeasureT-loop
 μ-loop screen₀ r registers width height y₀ screen y = height - y
 
 loop-holds : tie.Need-loop-holds Inv-loop μ-loop
 unfolding withLines
-loop-holds c =
-    let o = c .before .before .before .before in
-    (o .pre .0, o .pre .1, c .before .width .ensures, c .height .ensures, o .pre .2, omega arith, refl, refl)
+loop-holds c = search needs
+
+-- the next line's registers begin inside
+inside-here : (c : tie.In-loop Inv-loop μ-loop) → c .before .loop .y * c .before .before .before .width .result
+    ≤ length (now (c .before .before .before .before .before .before .args .registers))
+inside-here c =
+    let h = c .before .before in
+    let w = h .before .width in
+    let a = h .before .before .before .before .args in
+    omega (arith, line-place (a .r) (c .before .loop .y) (w .result) _ (w .ensures) (h .height .ensures) (omega arith))
 
 mul-put-line : tie.Need-mul-put-line Inv-loop μ-loop
-mul-put-line c =
-    let l = c .before .before .loop in
-    let i = l .inv in
-    let n = c .before .before .before .before .width .result in
-    let a = c .before .before .before .before .before .before .before .args in
-    let place = line-place (a .r) (l .y) n _ (i .2) (i .3) (omega arith) in
-    omega (arith, place, pixels-le (a .r))
+mul-put-line c = omega (arith, inside-here (c .before))
 
 sub-put-line : tie.Need-sub-put-line Inv-loop μ-loop
-sub-put-line c =
-    let l = c .before .before .loop in
-    let i = l .inv in
-    let n = c .before .before .before .before .width .result in
-    let a = c .before .before .before .before .before .before .before .args in
-    let place = line-place (a .r) (l .y) n _ (i .2) (i .3) (omega arith) in
-    omega (arith, place)
+sub-put-line c = inside-here (c .before)
 
 part-put-line-start : tie.Need-part-put-line-start Inv-loop μ-loop
-part-put-line-start c =
-    let l = c .before .before .loop in
-    let i = l .inv in
-    let n = c .before .before .before .before .width .result in
-    let a = c .before .before .before .before .before .before .before .args in
-    let place = line-place (a .r) (l .y) n _ (i .2) (i .3) (omega arith) in
-    let fits : l .y * n ≤ length (now (a .registers)) = omega (arith, place) in
-    fits
+part-put-line-start c = inside-here (c .before)
 
 put-line-requires : tie.Need-put-line-requires Inv-loop μ-loop
 put-line-requires c κs =
     let l = c .before .before .before .loop in
-    let i = l .inv in
-    let a = c .before .before .before .before .before .before .before .before .args in
-    let s = now (a .registers) in
-    let h : l .y < heightOf (a .r) = omega (arith, i .3) in
-    let e = ap (λ (m : ℕ). l .y * m) (i .2) in
-    ((omega arith, h, part-room (a .r) s (l .y) _ e h (i .1)), part-fits (a .r) s (l .y) _ e h (i .4))
-
-add-y : tie.Need-add-y Inv-loop μ-loop
-add-y c = omega arith
-
-loop-less : tie.Need-loop-less Inv-loop μ-loop
-loop-less c = omega arith
+    let o = c .before .before .before .before .before .before .before .before in
+    let r = o .args .r in
+    let s = now (o .args .registers) in
+    let h : l .y < heightOf r = omega arith in
+    let e = ap (λ (m : ℕ). l .y * m) (c .before .before .before .before .before .width .ensures) in
+    ((omega arith, h, part-room r s (l .y) _ e h (o .pre .1)), part-fits r s (l .y) _ e h (o .pre .2))
 
 loop-again : tie.Need-loop-again Inv-loop μ-loop
 loop-again c =
@@ -79,28 +58,20 @@ loop-again c =
     let i = l .inv in
     let a = p .before .before .before .before .before .before .before .before .before .args in
     let s = now (a .registers) in
-    let h : l .y < heightOf (a .r) = omega (arith, i .3) in
-    let e = ap (λ (m : ℕ). l .y * m) (i .2) in
+    let h : l .y < heightOf (a .r) = omega arith in
+    let e = ap (λ (m : ℕ). l .y * m) (p .before .before .before .before .before .before .width .ensures) in
     let made = p .put-line .ensures in (
-      i .0,
-      i .1,
-      i .2,
-      i .3,
-      i .4,
       omega arith,
-      ap length made ∙ length-withLine (l .screen) (a .r) (l .y) _ (omega arith) h ∙ i .6,
-      made ∙ withLines-turn (a .r) s (l .y) _ e (now (a .screen)) (l .screen) (i .7),
+      ap length made ∙ length-withLine (l .screen) (a .r) (l .y) _ (omega arith) h ∙ i .1,
+      made ∙ withLines-turn (a .r) s (l .y) _ e (now (a .screen)) (l .screen) (i .2),
     )
-
-same-length : tie.Need-same-length Inv-loop μ-loop
-same-length c = omega arith
 
 returns : tie.Need-returns Inv-loop μ-loop
 returns c =
     let l = c .before .loop in
     let a = c .before .before .before .before .before .before .args in
-    let all : l .y ≡ heightOf (a .r) = omega (arith, l .inv .3) in
-    l .inv .7 ∙ ap (withLines (now (a .screen)) (a .r) (now (a .registers))) all
+    let all : l .y ≡ heightOf (a .r) = omega arith in
+    l .inv .2 ∙ ap (withLines (now (a .screen)) (a .r) (now (a .registers))) all
 
 pub put-lines-spec : {M : Type 1} → statement M
 put-lines-spec =
@@ -116,8 +87,8 @@ put-lines-spec =
     part-put-line-start
     (λ c. search needs)
     put-line-requires
-    add-y
-    loop-less
+    (λ c. search needs)
+    (λ c. search needs)
     loop-again
-    same-length
+    (λ c. search needs)
     returns)

@@ -3,6 +3,7 @@ use mathlib.Core.Path.{_≡_, refl, sym, ap, ap₂, _∙_}
 use mathlib.Core.List.{List}
 use native.Mathlib.Omega.{arith}
 use Prim.Native.Nat.{ℕ, _≤_, _<_, _+_, _-_, _*_}
+use borrow.Author.Needs.{needs}
 use denote.Ref.{now}
 use lib.Arith.{digits-div, digits-mod}
 use lib.ListN.{length, getD, take, take-append-drop}
@@ -10,7 +11,6 @@ use Rattle.lists.specs.Over.{overAt}
 use Rattle.lists.specs.Tabulate.{tabulate}
 use Rattle.lists.proofs.Over.{length-overAt, overAt-done}
 use Rattle.lists.proofs.Tabulate.{length-tabulate}
-use Rattle.resolution.specs.Shapes.{screenBytes}
 use Rattle.lines.specs.Blocks.{blockByte, wordsByte}
 use Rattle.lines.proofs.Pieces.{overAt-piece}
 use Rattle.lines.proofs.put_words.Statement.{statement}
@@ -26,8 +26,7 @@ block-bytes words b i h =
 
 abbrev Inv-loop : tie.InvT-loop
 Inv-loop words screen₀ start blocks b₀ screen b =
-    (blocks ≤ 10) × (start + blocks * 16 ≤ screenBytes) × (screenBytes ≤ length screen₀) × (b ≤ blocks)
-    × (length screen ≡ length screen₀)
+    (b ≤ blocks) × (length screen ≡ length screen₀)
     × (screen ≡ overAt start (take (b * 16) (tabulate (blocks * 16) (wordsByte words))) screen₀)
 
 abbrev μ-loop : tie.MeasureT-loop
@@ -36,44 +35,7 @@ abbrev μ-loop : tie.MeasureT-loop
 loop-holds : tie.Need-loop-holds Inv-loop μ-loop
 loop-holds c =
     let a = c .before .args in
-    let p = c .before .pre in
-    (p .0, p .1, p .2, omega arith, refl, sym (take-append-drop (a .start) (now (a .screen))))
-
-mul-put-block : tie.Need-mul-put-block Inv-loop μ-loop
-mul-put-block c = omega arith
-
-mul-put-block-2 : tie.Need-mul-put-block-2 Inv-loop μ-loop
-mul-put-block-2 c = omega arith
-
-element-copy-out-put-block : tie.Need-element-copy-out-put-block Inv-loop μ-loop
-element-copy-out-put-block c = omega arith
-
-mul-put-block-3 : tie.Need-mul-put-block-3 Inv-loop μ-loop
-mul-put-block-3 c = omega arith
-
-add-put-block : tie.Need-add-put-block Inv-loop μ-loop
-add-put-block c = omega arith
-
-mul-put-block-4 : tie.Need-mul-put-block-4 Inv-loop μ-loop
-mul-put-block-4 c = omega arith
-
-element-copy-out-put-block-2 : tie.Need-element-copy-out-put-block-2 Inv-loop μ-loop
-element-copy-out-put-block-2 c = omega arith
-
-mul-put-block-5 : tie.Need-mul-put-block-5 Inv-loop μ-loop
-mul-put-block-5 c = omega arith
-
-add-put-block-2 : tie.Need-add-put-block-2 Inv-loop μ-loop
-add-put-block-2 c = omega arith
-
-put-block-requires : tie.Need-put-block-requires Inv-loop μ-loop
-put-block-requires c κs = omega arith
-
-add-b : tie.Need-add-b Inv-loop μ-loop
-add-b c = omega arith
-
-loop-less : tie.Need-loop-less Inv-loop μ-loop
-loop-less c = omega arith
+    (omega arith, refl, sym (take-append-drop (a .start) (now (a .screen))))
 
 loop-again : tie.Need-loop-again Inv-loop μ-loop
 loop-again c =
@@ -89,19 +51,13 @@ loop-again c =
     let e = p .put-block .ensures in
     let room : a .start + at + length (tabulate 16 w) ≤ length (l .screen) = omega (arith, length-tabulate 16 w) in
     let next : at + 16 ≡ (l .b + 1) * 16 = omega arith in (
-      i .0,
-      i .1,
-      i .2,
       omega arith,
-      ap length e ∙ length-overAt (a .start + at) (tabulate 16 w) (l .screen) room ∙ i .4,
+      ap length e ∙ length-overAt (a .start + at) (tabulate 16 w) (l .screen) room ∙ i .1,
       e
-          ∙ overAt-piece (a .start) (a .blocks * 16) 16 f w d (l .screen) at (omega arith) (omega arith) (i .5)
+          ∙ overAt-piece (a .start) (a .blocks * 16) 16 f w d (l .screen) at (omega arith) (omega arith) (i .2)
           (λ j h. block-bytes s (l .b) j h)
           ∙ ap (λ (n : ℕ). overAt (a .start) (take n (tabulate (a .blocks * 16) f)) d) next,
     )
-
-same-length : tie.Need-same-length Inv-loop μ-loop
-same-length c = omega arith
 
 returns : tie.Need-returns Inv-loop μ-loop
 returns c =
@@ -109,7 +65,7 @@ returns c =
     let a = c .before .before .before .args in
     let f : ℕ → ℕ = wordsByte (now (a .words)) in
     overAt-done (a .start) (tabulate (a .blocks * 16) f) (now (a .screen)) (l .screen) (l .b * 16)
-    (omega (arith, length-tabulate (a .blocks * 16) f)) (l .inv .5)
+    (omega (arith, length-tabulate (a .blocks * 16) f)) (l .inv .2)
 
 pub put-words-spec : {M : Type 1} → statement M
 put-words-spec =
@@ -118,18 +74,18 @@ put-words-spec =
     Inv-loop
     μ-loop
     loop-holds
-    mul-put-block
-    mul-put-block-2
-    element-copy-out-put-block
-    mul-put-block-3
-    add-put-block
-    mul-put-block-4
-    element-copy-out-put-block-2
-    mul-put-block-5
-    add-put-block-2
-    put-block-requires
-    add-b
-    loop-less
+    (λ c. search needs)
+    (λ c. search needs)
+    (λ c. search needs)
+    (λ c. search needs)
+    (λ c. search needs)
+    (λ c. search needs)
+    (λ c. search needs)
+    (λ c. search needs)
+    (λ c. search needs)
+    (λ c κs. search needs)
+    (λ c. search needs)
+    (λ c. search needs)
     loop-again
-    same-length
+    (λ c. search needs)
     returns)

@@ -10,9 +10,6 @@ returns : tie.Need-returns
 unfolding screenIn
 returns c = simp (lt-ltb _ _ (c .before .if1 .taken)) (c .refuse .ensures, refl)
 
-enum-told : tie.Need-enum-told
-enum-told c = search needs
-
 returns-2 : tie.Need-returns-2
 unfolding screenIn
 returns-2 c =
@@ -37,7 +34,7 @@ screen-in-spec =
     (λ c κs. search needs)
     (λ c. search needs)
     (λ c κs. search needs)
-    enum-told
+    (λ c. search needs)
     (λ c κs. search needs)
     (λ c. search needs)
     returns-2

@@ -21,9 +21,6 @@ returns-2 c =
     let w = c .before .before .word-at .ensures in
     ap Refused (c .refuse2 .ensures) ∙ sym (ap openedAs (opening-flag file (omega arith) (omega (arith, w))))
 
-enum-told : tie.Need-enum-told
-enum-told c = search needs
-
 returns-3 : tie.Need-returns-3
 returns-3 c =
     let file = now (c .before .before .before .before .before .before .before .before .before .args .file) in
@@ -57,7 +54,7 @@ open-file-spec =
     (λ c κs. search needs)
     (λ c κs. search needs)
     (λ c. search needs)
-    enum-told
+    (λ c. search needs)
     (λ c κs. search needs)
     returns-3
     returns-4)

@@ -8,9 +8,6 @@ use borrow.Author.Needs.{needs}
 use Rattle.neochrome.proofs.write.Statement.{statement}
 use Rattle.neochrome.proofs.write.Tie as tie
 
-enum-told : tie.Need-enum-told
-enum-told c = search needs
-
 put-file-requires : tie.Need-put-file-requires
 put-file-requires c κs =
     let a = c .before .before .before .before .before .before .args in
@@ -43,7 +40,7 @@ write-spec =
     tie.close
     (tie.spec
     (λ c κs. search needs)
-    enum-told
+    (λ c. search needs)
     put-file-requires
     (λ c κs. search needs)
     (λ c. search needs)

@@ -20,9 +20,6 @@ returns-2 c =
     ap Refused (c .refuse2 .ensures)
     ∙ sym (ap writableAs (judge-output (a .screen) (a .out) (a .resolution) (omega arith) (omega arith)))
 
-enum-told : tie.Need-enum-told
-enum-told c = search needs
-
 returns-3 : tie.Need-returns-3
 returns-3 c =
     let a = c .before .before .before .before .before .before .args in
@@ -50,7 +47,7 @@ judge-writing-spec =
     returns-2
     (λ c κs. search needs)
     (λ c. search needs)
-    enum-told
+    (λ c. search needs)
     (λ c κs. search needs)
     returns-3
     returns-4)

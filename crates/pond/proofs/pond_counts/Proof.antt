@@ -1,8 +1,8 @@
 -- `pond::pond_counts` meets its contract: the loop has added up the first v registers.
-use mathlib.Core.Path.{_≡_, refl, ap}
+use mathlib.Core.Path.{_≡_, ap}
 use native.Mathlib.Omega.{arith}
 use native.Mathlib.Numerals.{add-one}
-use Prim.Native.Nat.{ℕ, suc, _+_, _*_, _-_, _≤_}
+use Prim.Native.Nat.{suc, _+_, _*_, _-_, _≤_}
 use lib.ListN.{getD}
 use borrow.Author.Needs.{needs}
 use Rattle.lists.specs.Sum.{sum}
@@ -15,7 +15,7 @@ use Rattle.pond.proofs.pond_counts.Tie as tie
 
 abbrev Inv-loop : tie.InvT-loop
 Inv-loop legend class floor counts sure₀ unsure₀ other₀ v₀ sure unsure other v =
-    ((v : ℕ) → getD counts v 0 ≤ mostPixels) × (v ≤ 16)
+    (v ≤ 16)
     × (sure ≡ sum v (λ v. entryCounts legend class floor v (getD counts v 0) .sure))
     × (unsure ≡ sum v (λ v. entryCounts legend class floor v (getD counts v 0) .unsure))
     × (other ≡ sum v (λ v. entryCounts legend class floor v (getD counts v 0) .other))
@@ -25,13 +25,7 @@ abbrev μ-loop : tie.MeasureT-loop
 
 loop-holds : tie.Need-loop-holds Inv-loop μ-loop
 unfolding sum
-loop-holds c = (c .pre, search needs, refl, refl, refl)
-
-mul-entry-counts : tie.Need-mul-entry-counts Inv-loop μ-loop
-mul-entry-counts c = omega arith
-
-entry-counts-requires : tie.Need-entry-counts-requires Inv-loop μ-loop
-entry-counts-requires c κs = omega arith
+loop-holds c = search needs
 
 -- the sums with one register more
 sums-le : (c : tie.After-entry-counts Inv-loop μ-loop) → let l = c .before .before .loop in
@@ -41,12 +35,13 @@ sums-le : (c : tie.After-entry-counts Inv-loop μ-loop) → let l = c .before .b
 unfolding sum
 sums-le c =
     let l = c .before .before .loop in
-    let a = c .before .before .before .args in
+    let o = c .before .before .before in
+    let a = o .args in
     let e = c .entry-counts .ensures in
-    let n = entries-le (a .legend) (a .class) (a .floor) (a .t1) mostPixels (suc (l .v)) (l .inv .0) in (
-      omega (arith, l .inv .2, ap (λ (p : PondCounts). p .sure) e, n .0),
-      omega (arith, l .inv .3, ap (λ (p : PondCounts). p .unsure) e, n .1),
-      omega (arith, l .inv .4, ap (λ (p : PondCounts). p .other) e, n .2),
+    let n = entries-le (a .legend) (a .class) (a .floor) (a .t1) mostPixels (suc (l .v)) (o .pre) in (
+      omega (arith, l .inv .1, ap (λ (p : PondCounts). p .sure) e, n .0),
+      omega (arith, l .inv .2, ap (λ (p : PondCounts). p .unsure) e, n .1),
+      omega (arith, l .inv .3, ap (λ (p : PondCounts). p .other) e, n .2),
     )
 
 add-sure : tie.Need-add-sure Inv-loop μ-loop
@@ -58,22 +53,15 @@ add-unsure c = omega (arith, sums-le (c .before .before) .1)
 add-other : tie.Need-add-other Inv-loop μ-loop
 add-other c = omega (arith, sums-le (c .before .before .before) .2)
 
-add-v : tie.Need-add-v Inv-loop μ-loop
-add-v c = omega arith
-
-loop-less : tie.Need-loop-less Inv-loop μ-loop
-loop-less c = omega arith
-
 loop-again : tie.Need-loop-again Inv-loop μ-loop
 unfolding sum
 loop-again c =
     let l = c .before .before .before .before .before .loop in
     let e = c .before .before .before .entry-counts .ensures in (
-      l .inv .0,
       omega arith,
-      rw (add-one (l .v)) (omega (arith, l .inv .2, ap (λ (p : PondCounts). p .sure) e)),
-      rw (add-one (l .v)) (omega (arith, l .inv .3, ap (λ (p : PondCounts). p .unsure) e)),
-      rw (add-one (l .v)) (omega (arith, l .inv .4, ap (λ (p : PondCounts). p .other) e)),
+      rw (add-one (l .v)) (omega (arith, l .inv .1, ap (λ (p : PondCounts). p .sure) e)),
+      rw (add-one (l .v)) (omega (arith, l .inv .2, ap (λ (p : PondCounts). p .unsure) e)),
+      rw (add-one (l .v)) (omega (arith, l .inv .3, ap (λ (p : PondCounts). p .other) e)),
     )
 
 returns : tie.Need-returns Inv-loop μ-loop
@@ -81,7 +69,7 @@ unfolding pondFrom
 returns c =
     let l = c .before .loop in
     let e : l .v ≡ 16 = omega arith in
-    rw (l .inv .2, l .inv .3, l .inv .4, e)
+    rw (l .inv .1, l .inv .2, l .inv .3, e)
 
 pub pond-counts-spec : {M : Type 1} → statement M
 pond-counts-spec =
@@ -90,13 +78,13 @@ pond-counts-spec =
     Inv-loop
     μ-loop
     loop-holds
-    mul-entry-counts
     (λ c. search needs)
-    entry-counts-requires
+    (λ c. search needs)
+    (λ c κs. search needs)
     add-sure
     add-unsure
     add-other
-    add-v
-    loop-less
+    (λ c. search needs)
+    (λ c. search needs)
     loop-again
     returns)

@@ -1,5 +1,5 @@
 -- `raster::interleave_lines` meets its contract. The invariant is `Interleaving`.
-use mathlib.Core.Path.{_≡_, refl, sym, ap, _∙_}
+use mathlib.Core.Path.{_≡_, refl, ap, _∙_}
 use Prim.Native.Nat.{ℕ, _-_, _*_, _≤_}
 use native.Mathlib.Nat.{mul-le-mul}
 use native.Mathlib.Omega.{arith}
@@ -50,9 +50,6 @@ loop-holds c =
           (a .area .now) (h .0 .0) (h .1),
     )
 
-slice-aggregate-interleave-line : tie.Need-slice-aggregate-interleave-line Inv-loop μ-loop
-slice-aggregate-interleave-line c = sym (c .before .before .loop .inv .1)
-
 sub-interleave-line : tie.Need-sub-interleave-line Inv-loop μ-loop
 sub-interleave-line c = inside-here c
 
@@ -92,9 +89,6 @@ loop-again c =
           (e .kept .1 .1 .1 .1 .1 .0) (e .ensures)),
     )
 
-same-length : tie.Need-same-length Inv-loop μ-loop
-same-length c = c .before .loop .inv .3 .kept
-
 returns : tie.Need-returns Inv-loop μ-loop
 returns c = interleaving-done (c .before .loop .inv .3) (c .loop-test .left)
 
@@ -107,7 +101,7 @@ interleave-lines-spec =
     (λ c κs. search needs)
     mul-line
     loop-holds
-    slice-aggregate-interleave-line
+    (λ c. search needs)
     sub-interleave-line
     part-interleave-line-start
     (λ c. search needs)
@@ -116,5 +110,5 @@ interleave-lines-spec =
     (λ c. search needs)
     (λ c. search needs)
     loop-again
-    same-length
+    (λ c. search needs)
     returns)

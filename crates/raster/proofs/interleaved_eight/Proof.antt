@@ -2,6 +2,7 @@
 use mathlib.Core.Path.{_≡_, refl, _∙_}
 use Prim.Native.Nat.{_+_, _-_, _≤_, _<_}
 use native.Mathlib.Omega.{arith}
+use borrow.Author.Needs.{needs}
 use lib.ListN.{length, getD, take, length-set}
 use Rattle.lists.specs.Over.{over}
 use Rattle.lists.proofs.Over.{tabulate-turn, tabulate-done}
@@ -12,14 +13,11 @@ use Rattle.raster.proofs.interleaved_eight.Tie as tie
 
 abbrev Inv-loop : tie.InvT-loop
 Inv-loop source at gap interleaved₀ k₀ made k =
-    (at + gap + 8 ≤ length source) × (k ≤ 16) × (length interleaved₀ ≡ 16) × (length made ≡ 16)
+    (k ≤ 16) × (length interleaved₀ ≡ 16) × (length made ≡ 16)
     × (made ≡ over (take k (interleavedLine source at 2 gap 16)) interleaved₀)
 
 abbrev μ-loop : tie.MeasureT-loop
 μ-loop source at gap interleaved₀ k₀ made k = 16 - k
-
-loop-holds : tie.Need-loop-holds Inv-loop μ-loop
-loop-holds c = (omega arith, omega arith, refl, refl, refl)
 
 -- a byte of either row's eight
 within-here : (c : tie.In-loop Inv-loop μ-loop) → interleaved 2 (c .before .before .args .gap) (c .before .loop .k)
@@ -28,12 +26,6 @@ within-here c = interleaved-within (c .before .before .args .gap) 8 (c .before .
 
 mul-interleaved : tie.Need-mul-interleaved Inv-loop μ-loop
 mul-interleaved c = omega (arith, within-here c)
-
-mul-interleaved-2 : tie.Need-mul-interleaved-2 Inv-loop μ-loop
-mul-interleaved-2 c = omega arith
-
-add-interleaved : tie.Need-add-interleaved Inv-loop μ-loop
-add-interleaved c = omega arith
 
 add-interleaved-2 : tie.Need-add-interleaved-2 Inv-loop μ-loop
 add-interleaved-2 c = omega (arith, within-here c)
@@ -44,31 +36,21 @@ add-interleaved-3 c = omega (arith, within-here c)
 shared-slice-read-interleaved : tie.Need-shared-slice-read-interleaved Inv-loop μ-loop
 shared-slice-read-interleaved c = omega (arith, within-here (c .before))
 
-array-write-interleaved : tie.Need-array-write-interleaved Inv-loop μ-loop
-array-write-interleaved c = omega arith
-
-add-k : tie.Need-add-k Inv-loop μ-loop
-add-k c = omega arith
-
-loop-less : tie.Need-loop-less Inv-loop μ-loop
-loop-less c = omega arith
-
 loop-again : tie.Need-loop-again Inv-loop μ-loop
 loop-again c =
     let l = c .before .before .loop in
     let a = c .before .before .before .args in (
-      l .inv .0,
       omega arith,
-      l .inv .2,
-      length-set (l .interleaved) _ _ ∙ l .inv .3,
+      l .inv .1,
+      length-set (l .interleaved) _ _ ∙ l .inv .2,
       tabulate-turn 16 (λ x. getD (a .source .now) (a .at + interleaved 2 (a .gap) x) 0) _ (l .interleaved) (l .k) _
           (omega arith)
-          (omega arith) (l .inv .4) refl,
+          (omega arith) (l .inv .3) refl,
     )
 
 returns : tie.Need-returns Inv-loop μ-loop
 returns c =
-    let l = c .before .loop in tabulate-done 16 _ _ (l .interleaved) (l .k) (omega arith) (omega arith) (l .inv .4)
+    let l = c .before .loop in tabulate-done 16 _ _ (l .interleaved) (l .k) (omega arith) (omega arith) (l .inv .3)
 
 pub interleaved-eight-spec : {M : Type 1} → statement M
 interleaved-eight-spec =
@@ -76,15 +58,15 @@ interleaved-eight-spec =
     (tie.spec
     Inv-loop
     μ-loop
-    loop-holds
+    (λ c. search needs)
     mul-interleaved
-    mul-interleaved-2
-    add-interleaved
+    (λ c. search needs)
+    (λ c. search needs)
     add-interleaved-2
     add-interleaved-3
     shared-slice-read-interleaved
-    array-write-interleaved
-    add-k
-    loop-less
+    (λ c. search needs)
+    (λ c. search needs)
+    (λ c. search needs)
     loop-again
     returns)

@@ -18,8 +18,7 @@ use Rattle.raster.proofs.put_each.Tie as tie
 
 abbrev Inv-loop : tie.InvT-loop
 Inv-loop area₀ r list count width at₀ n₀ area at n =
-    (count ≡ rows r) × (width ≡ rowBytes r) × (bytes r ≤ length list) × (bytes r ≤ length area₀)
-    × (length area ≡ length area₀) × (n ≤ count) × (at ≡ n * rowBytes r)
+    (count ≡ rows r) × (width ≡ rowBytes r) × (length area ≡ length area₀) × (n ≤ count) × (at ≡ n * rowBytes r)
     × (area ≡ putRows r n (rowTails r list) area₀)
 
 abbrev μ-loop : tie.MeasureT-loop
@@ -37,13 +36,12 @@ ends-here c = row-ends (c .before .before .before .before .before .before .args 
 
 inside-here : (c : tie.In-loop Inv-loop μ-loop) → c .before .loop .at ≤ length
     (c .before .before .before .before .before .before .args .rows .now)
-inside-here c = omega (arith, ends-here c, c .before .loop .inv .2, c .before .loop .inv .6)
+inside-here c = omega (arith, ends-here c)
 
 loop-holds : tie.Need-loop-holds Inv-loop μ-loop
 unfolding putRows
 loop-holds c =
-    let h = c .before .before .before .before .pre in
-    (c .before .rows .ensures .0, c .row-bytes .ensures .0, h .1, h .0, refl, omega arith, sym (zero-mul _), refl)
+    (c .before .rows .ensures .0, c .row-bytes .ensures .0, refl, omega arith, sym (zero-mul _), refl)
 
 sub-store-row : tie.Need-sub-store-row Inv-loop μ-loop
 sub-store-row c = inside-here (c .before)
@@ -58,13 +56,11 @@ store-row-requires c κs =
     let list = t .before .before .before .before .before .before .args .rows .now in (
       omega arith,
       more-here t,
-      omega
-          (arith, ends-here t, l .inv .6, ap length (tail-part list (l .at)), length-drop (l .at) list),
+      omega (arith, ends-here t, ap length (tail-part list (l .at)), length-drop (l .at) list),
     )
 
 add-at : tie.Need-add-at Inv-loop μ-loop
-add-at c = let l = c .before .before .before .before .before .before .loop in omega
-    (arith, ends-here (c .before .before .before .before .before), l .inv .1, l .inv .6)
+add-at c = omega (arith, ends-here (c .before .before .before .before .before))
 
 loop-again : tie.Need-loop-again Inv-loop μ-loop
 loop-again c =
@@ -73,29 +69,24 @@ loop-again c =
     let e = c .before .before .store-row in (
       l .inv .0,
       l .inv .1,
-      l .inv .2,
-      l .inv .3,
-      e .kept .0 ∙ l .inv .4,
+      e .kept .0 ∙ l .inv .2,
       omega arith,
-      omega (arith, l .inv .1, l .inv .6, suc-mul (l .n) (rowBytes (a .r))) ∙ ap (λ (k : ℕ). k * rowBytes (a .r))
+      omega (arith, suc-mul (l .n) (rowBytes (a .r))) ∙ ap (λ (k : ℕ). k * rowBytes (a .r))
           (sym (add-one (l .n))),
       e .ensures
           ∙ tails-turn (a .r) (a .rows .now) (a .area .now) (l .area) (l .n) (l .at) _
-          (more-here (c .before .before .before .before .before)) (l .inv .6) (l .inv .7)
+          (more-here (c .before .before .before .before .before)) (l .inv .4) (l .inv .5)
           (tail-part (a .rows .now) (l .at)),
     )
-
-same-length : tie.Need-same-length Inv-loop μ-loop
-same-length c = c .before .loop .inv .4
 
 returns : tie.Need-returns Inv-loop μ-loop
 returns c =
     let l = c .before .loop in
     let a = c .before .before .before .before .before .before .args in
     let all : l .n ≡ rows (a .r) = omega (arith, l .inv .0) in
-    l .inv .7
+    l .inv .5
     ∙ ap (λ (k : ℕ). putRows (a .r) k (rowTails (a .r) (a .rows .now)) (a .area .now)) all
-    ∙ put-all (a .r) (rowTails (a .r) (a .rows .now)) (a .area .now) (l .inv .3)
+    ∙ put-all (a .r) (rowTails (a .r) (a .rows .now)) (a .area .now) (omega arith)
     ∙ ap (λ (image : List ℕ). over image (a .area .now)) (image-joined (a .r) (a .rows .now))
 
 pub put-each-spec : {M : Type 1} → statement M
@@ -115,5 +106,5 @@ put-each-spec =
     (λ c. search needs)
     (λ c. search needs)
     loop-again
-    same-length
+    (λ c. search needs)
     returns)

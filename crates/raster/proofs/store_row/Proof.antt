@@ -1,18 +1,18 @@
 -- `raster::store_row` meets its contract: the loop has stored the first g words of the row.
 use mathlib.Core.Path.{_≡_, refl}
-use Prim.Native.Nat.{_*_, _≤_, _-_}
+use Prim.Native.Nat.{_*_, _-_}
 use native.Mathlib.Omega.{arith}
 use borrow.Author.Needs.{needs}
 use lib.ListN.{length, getD, length-set}
 use Rattle.lists.specs.Stores.{stores}
-use Rattle.raster.proofs.Strides.{AtWord, next-word, at-within, RowWords, row-bytes, first-word}
+use Rattle.raster.proofs.Strides.{AtWord, next-word, at-within, RowWords, first-word}
 use Rattle.raster.proofs.Strides.{strided, store-turn, store-done}
 use Rattle.raster.proofs.store_row.Statement.{statement}
 use Rattle.raster.proofs.store_row.Tie as tie
 
 abbrev Inv-loop : tie.InvT-loop
 Inv-loop area₀ n row groups stride at₀ g₀ area at g =
-    AtWord at₀ stride groups (length area₀) at g × (groups * 2 ≤ length row) × (length area ≡ length area₀)
+    AtWord at₀ stride groups (length area₀) at g × (length area ≡ length area₀)
     × (area ≡ stores (g * 2) (strided at₀ stride) (λ c. getD row c 0) area₀)
 
 abbrev μ-loop : tie.MeasureT-loop
@@ -27,22 +27,7 @@ unfolding stores
 loop-holds c =
     let b = c .before .before .before .before .before in
     let w = first-word (words c) (length (b .args .area .now)) (omega arith) (b .pre .0) (b .pre .1) in
-    (w, omega (arith, row-bytes (words c)), refl, refl)
-
-mul-high : tie.Need-mul-high Inv-loop μ-loop
-mul-high c = omega arith
-
-shared-slice-read-high : tie.Need-shared-slice-read-high Inv-loop μ-loop
-shared-slice-read-high c = omega arith
-
-mul-low : tie.Need-mul-low Inv-loop μ-loop
-mul-low c = omega arith
-
-add-low : tie.Need-add-low Inv-loop μ-loop
-add-low c = omega arith
-
-shared-slice-read-low : tie.Need-shared-slice-read-low Inv-loop μ-loop
-shared-slice-read-low c = omega arith
+    (w, refl, refl)
 
 slice-write-area : tie.Need-slice-write-area Inv-loop μ-loop
 slice-write-area c = omega (arith, at-within (c .before .before .before .loop .inv .0) (omega arith))
@@ -57,27 +42,20 @@ slice-write-area-2 c =
 add-at : tie.Need-add-at Inv-loop μ-loop
 add-at c = omega (arith, at-within (c .before .before .before .loop .inv .0) (omega arith))
 
-add-g : tie.Need-add-g Inv-loop μ-loop
-add-g c = omega arith
-
-loop-less : tie.Need-loop-less Inv-loop μ-loop
-loop-less c = omega arith
-
 loop-again : tie.Need-loop-again Inv-loop μ-loop
 loop-again c =
     let l = c .before .before .before .loop in
     let a = c .before .before .before .before .before .before .before .before .before .args in (
       next-word (l .inv .0) (omega arith),
-      l .inv .1,
-      simp length-set (l .inv .2),
-      store-turn (l .inv .0) (a .row .now) (a .area .now) (l .area) (l .inv .3),
+      simp length-set (l .inv .1),
+      store-turn (l .inv .0) (a .row .now) (a .area .now) (l .area) (l .inv .2),
     )
 
 returns : tie.Need-returns Inv-loop μ-loop
 returns c =
     let l = c .before .loop in
     let a = c .before .before .before .before .before .before .before .args in
-    store-done (words (c .before .before)) (a .row .now) (a .area .now) (l .area) (l .g) (omega arith) (l .inv .3)
+    store-done (words (c .before .before)) (a .row .now) (a .area .now) (l .area) (l .g) (omega arith) (l .inv .2)
 
 pub store-row-spec : {M : Type 1} → statement M
 store-row-spec =
@@ -90,17 +68,17 @@ store-row-spec =
     (λ c. search needs)
     (λ c κs. search needs)
     loop-holds
-    mul-high
-    shared-slice-read-high
-    mul-low
-    add-low
-    shared-slice-read-low
+    (λ c. search needs)
+    (λ c. search needs)
+    (λ c. search needs)
+    (λ c. search needs)
+    (λ c. search needs)
     slice-write-area
     add-area
     slice-write-area-2
     add-at
-    add-g
-    loop-less
+    (λ c. search needs)
+    (λ c. search needs)
     loop-again
     (λ c. search needs)
     returns)

@@ -8,9 +8,6 @@ whole-counts-requires : tie.Need-whole-counts-requires
 whole-counts-requires c κs =
     (search needs, sym (c .before .before .before .from-number .ensures) ∙ c .before .r .given .1)
 
-enum-told : tie.Need-enum-told
-enum-told c = search needs
-
 returns : tie.Need-returns
 returns c =
     let f = c .before .before .before .before in
@@ -22,4 +19,4 @@ returns-2 c = rw (sym (c .before .before .from-number .ensures) ∙ c .enum-told
 pub screen-counts-spec : {M : Type 1} → statement M
 screen-counts-spec =
     tie.close
-    (tie.spec (λ c κs. search needs) (λ c. search needs) whole-counts-requires enum-told returns returns-2)
+    (tie.spec (λ c κs. search needs) (λ c. search needs) whole-counts-requires (λ c. search needs) returns returns-2)

@@ -3,12 +3,13 @@ use mathlib.Core.Path.{_≡_, ap, _∙_}
 use mathlib.Core.List.{List}
 use native.Mathlib.Nat.{mul-le-mul}
 use native.Mathlib.Omega.{arith}
-use Prim.Native.Nat.{ℕ, _<_, _≤_, _+_, _-_, _*_}
+use Prim.Native.Nat.{ℕ, _≤_, _+_, _-_, _*_}
+use borrow.Author.Needs.{needs}
 use denote.Ref.{now}
 use lib.ListN.{length}
 use Rattle.resolution.specs.Shapes.{screenBytes}
-use Rattle.tally.specs.Blocks.{blockAt, partRegister, mostBlocks}
-use Rattle.tally.specs.Counts.{mostPixels, CountsTo, countedLines}
+use Rattle.tally.specs.Blocks.{blockAt, partRegister}
+use Rattle.tally.specs.Counts.{mostPixels, countedLines}
 use Rattle.tally.proofs.Counts.{countedLines-none, countedLines-turn, countedLines-le, length-countedLines}
 use Rattle.tally.proofs.count_column.Statement.{statement}
 use Rattle.tally.proofs.count_column.Tie as tie
@@ -19,10 +20,7 @@ blocks s at step m t planes j = partRegister (blockAt s (at + j * step) planes) 
 
 abbrev Inv-loop : tie.InvT-loop
 Inv-loop counts₀ screen at planes step n m t j₀ counts j =
-    CountsTo mostPixels counts₀ × (0 < m) × (m + t ≤ 64) × (n ≤ mostBlocks) × (j ≤ n)
-    × ((planes ≡ 2 → ⊥) → planes ≡ 4)
-    × ((j : ℕ) → j < n → at + j * step + planes * 8 ≤ screenBytes) × (screenBytes ≤ length screen)
-    × (counts ≡ countedLines counts₀ (blocks screen at step m t planes) m j)
+    (j ≤ n) × (counts ≡ countedLines counts₀ (blocks screen at step m t planes) m j)
 
 abbrev μ-loop : tie.MeasureT-loop
 μ-loop counts₀ screen at planes step n m t j₀ counts j = n - j
@@ -48,22 +46,13 @@ loop-holds c =
     let q = c .before .before in
     let a = q .args in
     let p = q .pre in
-    let g = blocks (now (a .screen)) (a .at) (a .step) (a .m) (a .t) (a .planes) in (
-      p .0 .0,
-      p .0 .1,
-      p .0 .2,
-      p .0 .3,
-      omega arith,
-      p .0 .4 .1 (λ e. omega arith),
-      p .1 .0,
-      p .1 .1,
-      countedLines-none (now (a .counts)) g (a .m) (p .0 .0 .all),
-    )
+    let g = blocks (now (a .screen)) (a .at) (a .step) (a .m) (a .t) (a .planes) in
+    (omega arith, countedLines-none (now (a .counts)) g (a .m) (p .0 .0 .all))
 
 -- block j lies within the screen
 within : (c : tie.In-loop Inv-loop μ-loop) → let a = c .before .before .before .before .args in
     a .at + c .before .loop .j * a .step + a .planes * 8 ≤ screenBytes
-within c = c .before .loop .inv .6 (c .before .loop .j) (omega arith)
+within c = c .before .before .before .before .pre .1 .0 (c .before .loop .j) (omega arith)
 
 mul-count-part : tie.Need-mul-count-part Inv-loop μ-loop
 mul-count-part c = omega (arith, within (c .before))
@@ -74,8 +63,9 @@ add-count-part c = omega (arith, within (c .before))
 count-part-requires : tie.Need-count-part-requires Inv-loop μ-loop
 count-part-requires c κs =
     let l = c .before .before .loop in
-    let i = l .inv in
-    let a = c .before .before .before .before .before .args in
+    let o = c .before .before .before .before .before in
+    let a = o .args in
+    let p = o .pre in
     let g = blocks (now (a .screen)) (a .at) (a .step) (a .m) (a .t) (a .planes) in
     let j : l .j ≤ 4000 = omega arith in
     let m : a .m ≤ 64 = omega arith in
@@ -83,45 +73,30 @@ count-part-requires c κs =
       (
         record {
           each = λ v.
-              rw (i .8)
-              (omega (arith, most, countedLines-le (now (a .counts)) g (a .m) (l .j) mostPixels (i .0 .each) v));
-          all = ap length (i .8) ∙ length-countedLines (now (a .counts)) g (a .m) (l .j);
+              rw (l .inv .1)
+              (omega (arith, most, countedLines-le (now (a .counts)) g (a .m) (l .j) mostPixels (p .0 .0 .each) v));
+          all = ap length (l .inv .1) ∙ length-countedLines (now (a .counts)) g (a .m) (l .j);
         },
-        i .1,
-        i .2,
+        p .0 .1,
+        p .0 .2,
       ),
-      (i .5, within (c .before), i .7),
+      (p .0 .4 .1 (λ e. omega arith), within (c .before), p .1 .1),
     )
-
-add-j : tie.Need-add-j Inv-loop μ-loop
-add-j c = omega arith
-
-loop-less : tie.Need-loop-less Inv-loop μ-loop
-loop-less c = omega arith
 
 loop-again : tie.Need-loop-again Inv-loop μ-loop
 loop-again c =
     let l = c .before .before .before .loop in
-    let i = l .inv in
     let a = c .before .before .before .before .before .before .args in
-    let g = blocks (now (a .screen)) (a .at) (a .step) (a .m) (a .t) (a .planes) in (
-      i .0,
-      i .1,
-      i .2,
-      i .3,
-      omega arith,
-      i .5,
-      i .6,
-      i .7,
-      countedLines-turn (now (a .counts)) (l .counts) _ g (a .m) (l .j) (i .8) (c .count-part .ensures),
-    )
+    let g = blocks (now (a .screen)) (a .at) (a .step) (a .m) (a .t) (a .planes) in
+    let next = countedLines-turn (now (a .counts)) (l .counts) _ g (a .m) (l .j) (l .inv .1) (c .count-part .ensures) in
+    (omega arith, next)
 
 returns-2 : tie.Need-returns-2 Inv-loop μ-loop
 returns-2 c =
     let l = c .before .loop in
     let a = c .before .before .before .before .args in
     let e : l .j ≡ a .n = omega arith in
-    l .inv .8 ∙ rw e
+    l .inv .1 ∙ rw e
 
 pub count-column-spec : {M : Type 1} → statement M
 count-column-spec =
@@ -135,7 +110,7 @@ count-column-spec =
     mul-count-part
     add-count-part
     count-part-requires
-    add-j
-    loop-less
+    (λ c. search needs)
+    (λ c. search needs)
     loop-again
     returns-2)

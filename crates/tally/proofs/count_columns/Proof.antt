@@ -9,8 +9,7 @@ use borrow.Author.Needs.{needs}
 use lib.ListN.{length, getD, replicate}
 use Rattle.lists.specs.Tabulate.{tabulate}
 use Rattle.lists.proofs.Tabulate.{tabulate-le}
-use Rattle.resolution.specs.Shapes.{screenBytes}
-use Rattle.tally.specs.Blocks.{blockAt, partRegister, blocksRegister, Spaced, mostBlocks}
+use Rattle.tally.specs.Blocks.{blockAt, partRegister, blocksRegister}
 use Rattle.tally.specs.Counts.{mostPixels, countedLines}
 use Rattle.tally.proofs.Blocks.{block-pixel}
 use Rattle.tally.proofs.Counts.{countedLines-empty, countedLines-join, countedLines-le, length-countedLines}
@@ -39,11 +38,7 @@ zeros = tabulate-le 16 (λ v. 0) 0 (λ v. omega arith)
 
 abbrev Inv-loop : tie.InvT-loop
 Inv-loop screen start planes step n left columns sums₀ i₀ sums i =
-    (n ≤ mostBlocks) × (n * columns ≤ mostPixels) × (left + columns ≤ 640) × Spaced planes step × (planes ≤ 4)
-    × (start ≤ screenBytes) × (i ≤ columns)
-    × ((j x : ℕ) → j < n → x < left + columns
-    → start + x / 64 * (planes * 8) + j * step + planes * 8 ≤ screenBytes)
-    × (screenBytes ≤ length screen)
+    (i ≤ columns)
     × (sums ≡ countedLines (replicate 16 0) (pixels screen start planes step left) i n)
 
 abbrev μ-loop : tie.MeasureT-loop
@@ -59,31 +54,8 @@ across-le x planes h k =
 loop-holds : tie.Need-loop-holds Inv-loop μ-loop
 loop-holds c =
     let a = c .before .args in
-    let p = c .before .pre in
-    let f = pixels (now (a .screen)) (a .start) (a .planes) (a .step) (a .left) in (
-      p .0 .0,
-      p .0 .1,
-      p .0 .2,
-      p .0 .3,
-      p .0 .4,
-      p .0 .5,
-      omega arith,
-      p .1 .0,
-      p .1 .1,
-      countedLines-empty (replicate 16 0) f (a .n) refl,
-    )
-
-add-x : tie.Need-add-x Inv-loop μ-loop
-add-x c = omega arith
-
-sub-lesser : tie.Need-sub-lesser Inv-loop μ-loop
-sub-lesser c = omega arith
-
-sub-lesser-2 : tie.Need-sub-lesser-2 Inv-loop μ-loop
-sub-lesser-2 c = omega arith
-
-mul-count-column : tie.Need-mul-count-column Inv-loop μ-loop
-mul-count-column c = omega arith
+    let f = pixels (now (a .screen)) (a .start) (a .planes) (a .step) (a .left) in
+    (omega arith, countedLines-empty (replicate 16 0) f (a .n) refl)
 
 -- the block of column i begins within the screen, or soon after it
 near : (c : tie.After-lesser Inv-loop μ-loop) → let a = c .before .before .before .before .args in
@@ -91,7 +63,7 @@ near : (c : tie.After-lesser Inv-loop μ-loop) → let a = c .before .before .be
 near c =
     let l = c .before .before .loop in
     let a = c .before .before .before .before .args in
-    across-le (a .left + l .i) (a .planes) (omega arith) (l .inv .4)
+    across-le (a .left + l .i) (a .planes) (omega arith) (omega arith)
 
 mul-count-column-2 : tie.Need-mul-count-column-2 Inv-loop μ-loop
 mul-count-column-2 c = omega (arith, near (c .before))
@@ -99,36 +71,29 @@ mul-count-column-2 c = omega (arith, near (c .before))
 add-count-column : tie.Need-add-count-column Inv-loop μ-loop
 add-count-column c = omega (arith, near (c .before))
 
-sub-count-column : tie.Need-sub-count-column Inv-loop μ-loop
-sub-count-column c = omega arith
-
-sub-count-column-2 : tie.Need-sub-count-column-2 Inv-loop μ-loop
-sub-count-column-2 c = omega arith
-
 count-column-requires : tie.Need-count-column-requires Inv-loop μ-loop
 count-column-requires c κs =
     let l = c .before .before .before .loop in
     let i = l .inv in
-    let a = c .before .before .before .before .before .args in
+    let o = c .before .before .before .before .before in
+    let a = o .args in
+    let p = o .pre in
     let f = pixels (now (a .screen)) (a .start) (a .planes) (a .step) (a .left) in
-    let few : a .n * l .i ≤ mostPixels = le-trans (mul-le-mul (le-refl (a .n)) (i .6)) (i .1) in (
+    let few : a .n * l .i ≤ mostPixels = le-trans (mul-le-mul (le-refl (a .n)) (i .0)) (p .0 .1) in (
       (
         record {
           each = λ v.
-              rw (i .9)
+              rw (i .1)
               (omega (arith, few, countedLines-le (replicate 16 0) f (l .i) (a .n) 0 zeros v));
-          all = ap length (i .9) ∙ length-countedLines (replicate 16 0) f (l .i) (a .n);
+          all = ap length (i .1) ∙ length-countedLines (replicate 16 0) f (l .i) (a .n);
         },
         c .before .lesser .ensures .2 (omega arith) (omega arith),
         omega arith,
-        i .0,
-        i .3,
+        p .0 .0,
+        p .0 .3,
       ),
-      (λ j h. i .7 j (a .left + l .i) h (omega arith), i .8),
+      (λ j h. p .1 .0 j (a .left + l .i) h (omega arith), p .1 .1),
     )
-
-add-i : tie.Need-add-i Inv-loop μ-loop
-add-i c = omega arith
 
 loop-less : tie.Need-loop-less Inv-loop μ-loop
 loop-less c = omega (arith, c .before .before .lesser .ensures .2 (omega arith) (omega arith))
@@ -145,16 +110,8 @@ loop-again c =
     let f = pixels s (a .start) (a .planes) (a .step) (a .left) in
     let at : ℕ = a .start + x / 64 * (a .planes * 8) in
     let g : ℕ → ℕ → ℕ = λ j. partRegister (blockAt s (at + j * a .step) (a .planes)) m (64 - x % 64 - m) in (
-      i .0,
-      i .1,
-      i .2,
-      i .3,
-      i .4,
-      i .5,
       omega arith,
-      i .7,
-      i .8,
-      countedLines-join (replicate 16 0) (l .sums) _ f g (l .i) m (a .n) (i .9) (c .count-column .ensures)
+      countedLines-join (replicate 16 0) (l .sums) _ f g (l .i) m (a .n) (i .1) (c .count-column .ensures)
           (λ j k h e. pixel s (a .start) (a .planes) (a .step) (a .left) (l .i) m j k (omega arith) e),
     )
 
@@ -162,7 +119,7 @@ returns : tie.Need-returns Inv-loop μ-loop
 returns c =
     let l = c .before .loop in
     let e : l .i ≡ c .before .before .before .args .columns = omega arith in
-    l .inv .9 ∙ rw e
+    l .inv .1 ∙ rw e
 
 pub count-columns-spec : {M : Type 1} → statement M
 count-columns-spec =
@@ -171,17 +128,17 @@ count-columns-spec =
     Inv-loop
     μ-loop
     loop-holds
-    add-x
-    sub-lesser
-    sub-lesser-2
+    (λ c. search needs)
+    (λ c. search needs)
+    (λ c. search needs)
     (λ c κs. search needs)
-    mul-count-column
+    (λ c. search needs)
     mul-count-column-2
     add-count-column
-    sub-count-column
-    sub-count-column-2
+    (λ c. search needs)
+    (λ c. search needs)
     count-column-requires
-    add-i
+    (λ c. search needs)
     loop-less
     loop-again
     returns)

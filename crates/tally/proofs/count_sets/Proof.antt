@@ -1,5 +1,5 @@
 -- `tally::count_sets` meets its contract: the loop has added the first v sets.
-use mathlib.Core.Path.{_≡_, refl, sym, ap, _∙_}
+use mathlib.Core.Path.{_≡_, sym, ap, _∙_}
 use mathlib.Core.List.{List}
 use native.Mathlib.Decide.{decLt}
 use native.Mathlib.Nat.{add-zero}
@@ -14,7 +14,6 @@ use Rattle.lists.specs.Over.{over}
 use Rattle.lists.specs.Tabulate.{tabulate}
 use Rattle.lists.proofs.Over.{getD-over-past, tabulate-turn, over-done, over-ext}
 use Rattle.lists.proofs.Tabulate.{length-tabulate, getD-tabulate}
-use Rattle.tally.specs.Counts.{CountsTo, mostCounted}
 use Rattle.tally.proofs.Ones.{ones-zero}
 use Rattle.tally.proofs.count_sets.Statement.{statement}
 use Rattle.tally.proofs.count_sets.Tie as tie
@@ -65,69 +64,39 @@ module _ (c s : List ℕ) (all : length c ≡ 16) (few : length s ≤ 16) where
 
 abbrev Inv-loop : tie.InvT-loop
 Inv-loop counts₀ sets v₀ counts v =
-    CountsTo mostCounted counts₀ × (length sets ≤ 16) × (v ≤ length sets) × (length counts ≡ 16)
+    (v ≤ length sets) × (length counts ≡ 16)
     × (counts ≡ over (take v (tabulate (length sets) (grown counts₀ sets))) counts₀)
 
 abbrev μ-loop : tie.MeasureT-loop
 μ-loop counts₀ sets v₀ counts v = length sets - v
 
-loop-holds : tie.Need-loop-holds Inv-loop μ-loop
-loop-holds c =
-    let p = c .before .pre in
-    (p .0, p .1, search needs, p .0 .all, refl)
-
-mul-more : tie.Need-mul-more Inv-loop μ-loop
-mul-more c = omega arith
-
-element-copy-out-more : tie.Need-element-copy-out-more Inv-loop μ-loop
-element-copy-out-more c = omega arith
-
-mul-more-2 : tie.Need-mul-more-2 Inv-loop μ-loop
-mul-more-2 c = omega arith
-
-shared-slice-read-more : tie.Need-shared-slice-read-more Inv-loop μ-loop
-shared-slice-read-more c = omega arith
-
 more-requires : tie.Need-more-requires Inv-loop μ-loop
 more-requires c κs =
     let l = c .before .before .before .loop in
-    let i = l .inv in
-    let a = c .before .before .before .before .before .args in
-    rw (as-before (now (a .counts)) (now (a .sets)) (i .0 .all) (i .1) (l .counts) (l .v) (omega arith) (i .4))
-    (i .0 .each (l .v))
-
-mul-counts : tie.Need-mul-counts Inv-loop μ-loop
-mul-counts c = omega arith
-
-element-write-counts : tie.Need-element-write-counts Inv-loop μ-loop
-element-write-counts c = omega arith
-
-add-v : tie.Need-add-v Inv-loop μ-loop
-add-v c = omega arith
-
-loop-less : tie.Need-loop-less Inv-loop μ-loop
-loop-less c = omega arith
+    let o = c .before .before .before .before .before in
+    let a = o .args in
+    let p = o .pre in
+    rw (as-before (now (a .counts)) (now (a .sets)) (p .0 .all) (p .1) (l .counts) (l .v) (omega arith) (l .inv .2))
+    (p .0 .each (l .v))
 
 loop-again : tie.Need-loop-again Inv-loop μ-loop
 loop-again c =
     let l = c .before .before .before .before .loop in
-    let i = l .inv in
-    let a = c .before .before .before .before .before .before .args in (
-      i .0,
-      i .1,
+    let o = c .before .before .before .before .before .before in
+    let a = o .args in (
       omega arith,
-      simp length-set (i .3),
-      turn (now (a .counts)) (now (a .sets)) (i .0 .all) (i .1) (l .counts) (l .v) (omega arith) (i .4)
+      simp length-set (l .inv .1),
+      turn (now (a .counts)) (now (a .sets)) (o .pre .0 .all) (o .pre .1) (l .counts) (l .v) (omega arith) (l .inv .2)
           (c .more .result) (c .more .ensures),
     )
 
 returns : tie.Need-returns Inv-loop μ-loop
 returns c =
     let l = c .before .loop in
-    let i = l .inv in
-    let a = c .before .before .before .args in
+    let o = c .before .before .before in
+    let a = o .args in
     let e : l .v ≡ length (now (a .sets)) = omega arith in
-    done (now (a .counts)) (now (a .sets)) (i .0 .all) (i .1) (l .counts) (rw e at (i .4))
+    done (now (a .counts)) (now (a .sets)) (o .pre .0 .all) (o .pre .1) (l .counts) (rw e at (l .inv .2))
 
 pub count-sets-spec : {M : Type 1} → statement M
 count-sets-spec =
@@ -135,15 +104,15 @@ count-sets-spec =
     (tie.spec
     Inv-loop
     μ-loop
-    loop-holds
-    mul-more
-    element-copy-out-more
-    mul-more-2
-    shared-slice-read-more
+    (λ c. search needs)
+    (λ c. search needs)
+    (λ c. search needs)
+    (λ c. search needs)
+    (λ c. search needs)
     more-requires
-    mul-counts
-    element-write-counts
-    add-v
-    loop-less
+    (λ c. search needs)
+    (λ c. search needs)
+    (λ c. search needs)
+    (λ c. search needs)
     loop-again
     returns)

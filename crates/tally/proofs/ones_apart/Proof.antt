@@ -1,19 +1,18 @@
 -- `tally::ones_apart` meets its contract: the loop has counted the first j blocks.
-use mathlib.Core.Path.{_≡_, refl, sym, ap, ap₂, _∙_}
+use mathlib.Core.Path.{_≡_, sym, ap, ap₂, _∙_}
 use mathlib.Core.List.{List}
 use native.Mathlib.Nat.{mul-le-mul}
 use native.Mathlib.Numerals.{add-one}
 use native.Mathlib.Omega.{arith}
-use Prim.Native.Nat.{ℕ, _<_, _≤_, _+_, _-_, _*_, _^_}
+use Prim.Native.Nat.{ℕ, _≤_, _+_, _-_, _*_}
 use denote.Ref.{now}
 use borrow.Author.Needs.{needs}
 use lib.Bits.{bitAnd}
 use lib.Count.{ones}
-use lib.ListN.{length}
 use Rattle.lists.specs.Bytes.{Bytes}
 use Rattle.lists.specs.Sum.{sum}
 use Rattle.resolution.specs.Shapes.{screenBytes}
-use Rattle.tally.specs.Blocks.{reversed, blockAt, partRegister, mostBlocks}
+use Rattle.tally.specs.Blocks.{blockAt, partRegister}
 use Rattle.tally.specs.Counts.{lineCounts}
 use Rattle.tally.proofs.Blocks.{ones-plane}
 use Rattle.tally.proofs.Counts.{lineCounts-le}
@@ -26,26 +25,19 @@ first s at step m t n = lineCounts (λ j. partRegister (blockAt s (at + j * step
 
 abbrev Inv-loop : tie.InvT-loop
 Inv-loop screen at step n m t among ones₀ j₀ ones j =
-    (m + t ≤ 64) × (n ≤ mostBlocks) × (j ≤ n)
-    × ((j : ℕ) → j < n → at + j * step + 8 ≤ screenBytes) × (screenBytes ≤ length screen)
-    × (among ≡ reversed (2 ^ (m + t) - 2 ^ t)) × (ones ≡ first screen at step m t j)
+    (j ≤ n) × (ones ≡ first screen at step m t j)
 
 abbrev μ-loop : tie.MeasureT-loop
 μ-loop screen at step n m t among ones₀ j₀ ones j = n - j
 
-part-pixels-requires : tie.Need-part-pixels-requires Inv-loop μ-loop
-part-pixels-requires c κs = search needs
-
 loop-holds : tie.Need-loop-holds Inv-loop μ-loop
 unfolding sum
-loop-holds c =
-    let p = c .before .before .pre in
-    (p .0 .1, p .0 .2, search needs, p .1 .0, p .1 .1, c .part-pixels .ensures, refl)
+loop-holds c = search needs
 
 -- block j lies within the screen
 within : (c : tie.In-loop Inv-loop μ-loop) → let a = c .before .before .before .before .args in
     a .at + c .before .loop .j * a .step + 8 ≤ screenBytes
-within c = c .before .loop .inv .3 (c .before .loop .j) (omega arith)
+within c = c .before .before .before .before .pre .1 .0 (c .before .loop .j) (omega arith)
 
 mul-plane-block : tie.Need-mul-plane-block Inv-loop μ-loop
 mul-plane-block c = omega (arith, within c)
@@ -63,13 +55,7 @@ more-requires c κs =
     let g : ℕ → ℕ → ℕ = λ j. partRegister (blockAt (now (a .screen)) (a .at + j * a .step) 1) (a .m) (a .t) in
     let n : l .j ≤ 4000 = omega arith in
     let m : a .m ≤ 64 = omega arith in
-    omega (arith, l .inv .6, lineCounts-le g (a .m) (l .j) 1, mul-le-mul n m)
-
-add-j : tie.Need-add-j Inv-loop μ-loop
-add-j c = omega arith
-
-loop-less : tie.Need-loop-less Inv-loop μ-loop
-loop-less c = omega arith
+    omega (arith, l .inv .1, lineCounts-le g (a .m) (l .j) 1, mul-le-mul n m)
 
 loop-again : tie.Need-loop-again Inv-loop μ-loop
 unfolding sum
@@ -79,19 +65,14 @@ loop-again c =
     let k = b .before .before .before .before in
     let a = k .before .args in
     let s = now (a .screen) in
-    let i = l .inv in
     let x : ℕ = b .plane-block .result in
     let block : ℕ = a .at + l .j * a .step in
     let bytes : Bytes s = λ i. k .shared-slice-known .given i .fits in
-    let added = ones-plane s bytes block (a .m) (a .t) x (i .0) (b .plane-block .ensures) in (
-      i .0,
-      i .1,
+    let added = ones-plane s bytes block (a .m) (a .t) x (omega arith) (b .plane-block .ensures) in (
       omega arith,
-      i .3,
-      i .4,
-      i .5,
       c .more .ensures
-          ∙ ap₂ (λ (m n : ℕ). m + n) (i .6) (ap (λ (w : ℕ). ones (bitAnd x w)) (i .5) ∙ added)
+          ∙ ap₂ (λ (m n : ℕ). m + n) (l .inv .1)
+          (ap (λ (w : ℕ). ones (bitAnd x w)) (b .before .before .before .part-pixels .ensures) ∙ added)
           ∙ ap (first s (a .at) (a .step) (a .m) (a .t)) (sym (add-one (l .j))),
     )
 
@@ -100,7 +81,7 @@ returns c =
     let l = c .before .loop in
     let a = c .before .before .before .before .args in
     let e : l .j ≡ a .n = omega arith in
-    l .inv .6 ∙ ap (first (now (a .screen)) (a .at) (a .step) (a .m) (a .t)) e
+    l .inv .1 ∙ ap (first (now (a .screen)) (a .at) (a .step) (a .m) (a .t)) e
 
 pub ones-apart-spec : {M : Type 1} → statement M
 ones-apart-spec =
@@ -108,13 +89,13 @@ ones-apart-spec =
     (tie.spec
     Inv-loop
     μ-loop
-    part-pixels-requires
+    (λ c κs. search needs)
     loop-holds
     mul-plane-block
     add-plane-block
     plane-block-requires
     more-requires
-    add-j
-    loop-less
+    (λ c. search needs)
+    (λ c. search needs)
     loop-again
     returns)

@@ -33,24 +33,10 @@ fits-here c =
     let run = c .before .before .run-at in
     next-fits (l .inv .1) (run .ensures) (c .before .before .before .if1 .taken) (c .if2 .left)
 
--- the words before the run end within the output
-begins-here : (c : tie.Else2 Inv-loop μ-loop)
-    → let l = c .before .before .before .before .before .loop in
-    l .to * 2 ≤ length (l .made)
-begins-here c =
-    let l = c .before .before .before .before .before in
-    let t = l .before .before .before .before in
-    omega (arith, l .loop .inv .0, l .loop .inv .1 .inside, t .pre .0 .2)
-
 loop-holds : tie.Need-loop-holds Inv-loop μ-loop
 loop-holds c =
     let a = c .before .before .before .args in
     (refl, expanding-start (now (a .controls)) (now (a .section)) (a .datas .0) (now (a .made)))
-
-run-at-requires : tie.Need-run-at-requires Inv-loop μ-loop
-run-at-requires c κs =
-    let l = c .before .before .loop in
-    (c .if1 .taken, l .inv .1 .given, l .inv .1 .inside)
 
 returns : tie.Need-returns Inv-loop μ-loop
 returns c =
@@ -61,15 +47,6 @@ returns c =
       c .ended .ensures ∙ counts-done (l .inv .1) (run .result .fault) stop,
       put-done (l .inv .1) (run .result .fault) stop,
     )
-
-mul-put-run : tie.Need-mul-put-run Inv-loop μ-loop
-mul-put-run c = omega (arith, begins-here c)
-
-sub-put-run : tie.Need-sub-put-run Inv-loop μ-loop
-sub-put-run c = begins-here c
-
-part-put-run-start : tie.Need-part-put-run-start Inv-loop μ-loop
-part-put-run-start c = begins-here c
 
 put-run-requires : tie.Need-put-run-requires Inv-loop μ-loop
 put-run-requires c κs =
@@ -128,13 +105,13 @@ expand-spec =
     Inv-loop
     μ-loop
     loop-holds
-    run-at-requires
+    (λ c κs. search needs)
     (λ c κs. search needs)
     (λ c. search needs)
     returns
-    mul-put-run
-    sub-put-run
-    part-put-run-start
+    (λ c. search needs)
+    (λ c. search needs)
+    (λ c. search needs)
     (λ c. search needs)
     put-run-requires
     controls-after-requires

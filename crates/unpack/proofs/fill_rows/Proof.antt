@@ -43,9 +43,6 @@ module _ (u : tie.After-unpack-ahead Inv-loop μ-loop) where
       × (a .at < 2 ^ 64)
   numbers = (omega arith, omega arith)
 
-mul-end : tie.Need-mul-end Inv-loop μ-loop
-mul-end c = omega (arith, c .before .before .pre .size)
-
 loop-holds : tie.Need-loop-holds Inv-loop μ-loop
 loop-holds c =
     let a = c .before .before .args in
@@ -56,9 +53,6 @@ unpack-ahead-requires c κs =
     let i = c .before .before .before .loop .inv in
     let e = c .before .reached-at .ensures in
     rw (e .0, e .1, e .2, e .3) (fit-here i, (i .read, (i .under, omega (arith, i .size))))
-
-add-next : tie.Need-add-next Inv-loop μ-loop
-add-next c = omega (arith, within-here (c .before .before .before))
 
 part-unpack-into-end : tie.Need-part-unpack-into-end Inv-loop μ-loop
 part-unpack-into-end c = within-here (c .before .before .before)
@@ -116,12 +110,6 @@ loop-again c =
     fill-turn (filling-here u) (before-end-here u) _ (e .ensures .0) (c .before .before .before .before .if1 .left) _
     (e .ensures .1) (e .kept .1 .1 .0)
 
-sub-t24 : tie.Need-sub-t24 Inv-loop μ-loop
-sub-t24 c = omega (arith, c .before .before .loop .inv .read .counted)
-
-same-length-2 : tie.Need-same-length-2 Inv-loop μ-loop
-same-length-2 c = c .before .before .loop .inv .kept
-
 returns-2 : tie.Need-returns-2 Inv-loop μ-loop
 returns-2 c = rw (c .none .ensures) (fill-end (c .before .before .loop .inv) (c .before .loop-test .left))
 
@@ -131,11 +119,11 @@ fill-rows-spec =
     (tie.spec
     Inv-loop
     μ-loop
-    mul-end
+    (λ c. search needs)
     loop-holds
     (λ c κs. search needs)
     unpack-ahead-requires
-    add-next
+    (λ c. search needs)
     (λ c. search needs)
     (λ c. search needs)
     part-unpack-into-end
@@ -148,6 +136,6 @@ fill-rows-spec =
     loop-less
     loop-again
     (λ c κs. search needs)
-    sub-t24
-    same-length-2
+    (λ c. search needs)
+    (λ c. search needs)
     returns-2)

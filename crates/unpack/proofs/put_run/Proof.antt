@@ -1,7 +1,8 @@
 -- `unpack::put_run` meets its contract. The invariant: k bytes are written over the front.
-use mathlib.Core.Path.{_≡_, refl, sym, _∙_}
+use mathlib.Core.Path.{_≡_, sym, _∙_}
 use Prim.Native.Nat.{_-_, _≤_}
 use native.Mathlib.Omega.{arith}
+use borrow.Author.Needs.{needs}
 use lib.ListN.{length, take, replicate, length-set, length-replicate, getD-replicate}
 use Rattle.lists.specs.Over.{over}
 use Rattle.lists.proofs.Over.{over-turn, over-done}
@@ -14,18 +15,6 @@ Inv-loop byte n out₀ k₀ out k = (k ≤ n) × (length out ≡ length out₀) 
 abbrev μ-loop : tie.MeasureT-loop
 μ-loop byte n out₀ k₀ out k = n - k
 
-loop-holds : tie.Need-loop-holds Inv-loop μ-loop
-loop-holds c = (omega arith, refl, refl)
-
-slice-write-out : tie.Need-slice-write-out Inv-loop μ-loop
-slice-write-out c = omega arith
-
-add-k : tie.Need-add-k Inv-loop μ-loop
-add-k c = omega arith
-
-loop-less : tie.Need-loop-less Inv-loop μ-loop
-loop-less c = omega arith
-
 loop-again : tie.Need-loop-again Inv-loop μ-loop
 loop-again c =
     let l = c .before .loop in
@@ -36,9 +25,6 @@ loop-again c =
       over-turn (replicate (a .n) (a .byte)) (a .out .now) (l .out) (l .k) (a .byte) 0 (omega arith) (omega arith)
           (l .inv .2) (sym (getD-replicate (a .n) (l .k) (a .byte) 0 (omega arith))),
     )
-
-same-length : tie.Need-same-length Inv-loop μ-loop
-same-length c = omega arith
 
 returns : tie.Need-returns Inv-loop μ-loop
 returns c =
@@ -53,10 +39,10 @@ put-run-spec =
     (tie.spec
     Inv-loop
     μ-loop
-    loop-holds
-    slice-write-out
-    add-k
-    loop-less
+    (λ c. search needs)
+    (λ c. search needs)
+    (λ c. search needs)
+    (λ c. search needs)
     loop-again
-    same-length
+    (λ c. search needs)
     returns)

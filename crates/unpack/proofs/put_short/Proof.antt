@@ -7,9 +7,6 @@ use borrow.Author.Needs.{needs}
 use Rattle.unpack.proofs.put_short.Statement.{statement}
 use Rattle.unpack.proofs.put_short.Tie as tie
 
-enum-told : tie.Need-enum-told
-enum-told c = search needs
-
 put-blocks-requires : tie.Need-put-blocks-requires
 put-blocks-requires c κs = let e = c .before .before .before .r .given .1 in omega (arith, ap rowLen e)
 
@@ -31,7 +28,7 @@ pub put-short-spec : {M : Type 1} → statement M
 put-short-spec =
     tie.close
     (tie.spec
-    enum-told
+    (λ c. search needs)
     (λ c. search needs)
     (λ c κs. search needs)
     (λ c. search needs)

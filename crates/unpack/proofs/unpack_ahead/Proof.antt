@@ -1,14 +1,14 @@
 -- `unpack::unpack_ahead` meets its contract. The invariant is `Ahead`, and the measure what is left of the file.
-use mathlib.Core.Path.{_≡_, refl, sym, _∙_}
+use mathlib.Core.Path.{_≡_, sym, _∙_}
 use mathlib.Core.Bool.{false}
-use Prim.Native.Nat.{_-_, _≤_}
+use Prim.Native.Nat.{_-_}
 use native.Mathlib.Omega.{arith}
 use lib.ListN.{length}
 use borrow.Author.Needs.{needs}
 use Rattle.packbits.proofs.Records.{WholeAt, whole-at}
 use Rattle.unpack.specs.Rows.{long}
 use Rattle.unpack.proofs.Records.{not-long-whole}
-use Rattle.unpack.proofs.Ahead.{Ahead, tail-long, narrow-here, next-kept}
+use Rattle.unpack.proofs.Ahead.{Ahead, tail-long, narrow-here}
 use Rattle.unpack.proofs.Ahead.{ahead-more, read-row, row-done, ahead-row, outcome-here}
 use Rattle.unpack.proofs.unpack_ahead.Statement.{statement}
 use Rattle.unpack.proofs.unpack_ahead.Tie as tie
@@ -32,65 +32,10 @@ whole-here : (c : tie.Else3 Inv-loop μ-loop)
 whole-here c = whole-at _ _ _ _ (c .before .before .record-ahead .ensures)
     (not-long-whole (c .before .before .record-ahead .result) (short-here c))
 
--- and what was written ends inside the output
-inside-here : (c : tie.Else3 Inv-loop μ-loop)
-    → c .before .before .before .before .loop .to ≤ length (c .before .before .before .before .loop .out)
-inside-here c =
-    let i = c .before .before .before .before .loop .inv in
-    omega (arith, i .ahead, i .kept, i .fit .size)
-
-mul-left : tie.Need-mul-left Inv-loop μ-loop
-mul-left c = omega (arith, c .before .before .pre .0 .size)
-
-sub-left : tie.Need-sub-left Inv-loop μ-loop
-sub-left c = omega (arith, c .before .before .pre .1 .1 .1)
-
-returns : tie.Need-returns Inv-loop μ-loop
-returns c = let h = c .before .before .before .pre in (h .1 .0, (h .1 .1 .0, h .1 .1 .1, omega arith))
-
-returns-2 : tie.Need-returns-2 Inv-loop μ-loop
-returns-2 c = let h = c .before .before .before .before .pre in (h .1 .0, (h .1 .1 .0, h .1 .1 .1, omega arith))
-
-add-last-row : tie.Need-add-last-row Inv-loop μ-loop
-add-last-row c = omega
-    (arith, c .before .before .before .before .pre .0 .size, c .before .before .before .before .pre .1 .1 .1)
-
-sub-last-row : tie.Need-sub-last-row Inv-loop μ-loop
-sub-last-row c = omega arith
-
-sub-last-control : tie.Need-sub-last-control Inv-loop μ-loop
-sub-last-control c = omega arith
-
-loop-holds : tie.Need-loop-holds Inv-loop μ-loop
-loop-holds c =
-    let h = c .before .before .before .before .pre in
-    record {
-      fit = h .0;
-      control = omega arith;
-      start = omega (arith, h .1 .1 .1);
-      grown = omega arith;
-      kept = refl;
-      read = h .1 .0;
-      under = h .1 .1 .0;
-      ahead = omega (arith, h .0 .narrow, h .1 .0 .row, h .1 .1 .1);
-    }
-
-record-ahead-requires : tie.Need-record-ahead-requires Inv-loop μ-loop
-record-ahead-requires c κs = omega (arith, c .before .loop .inv .control)
-
-same-length : tie.Need-same-length Inv-loop μ-loop
-same-length c = c .before .before .before .before .before .loop .inv .kept
-
 returns-3 : tie.Need-returns-3 Inv-loop μ-loop
 returns-3 c =
     let e = c .reached-at .ensures in
     rw (e .0, e .1, e .2, e .3) (outcome-here (c .before .before .before .before .before .loop .inv))
-
-sub-put-short : tie.Need-sub-put-short Inv-loop μ-loop
-sub-put-short c = inside-here c
-
-part-put-short-start : tie.Need-part-put-short-start Inv-loop μ-loop
-part-put-short-start c = inside-here c
 
 put-short-requires : tie.Need-put-short-requires Inv-loop μ-loop
 put-short-requires c κs =
@@ -117,20 +62,6 @@ sub-room c = omega (
   whole-here (c .before .before .before .before .before .before .before) .fits,
   c .row-len2 .ensures,
 )
-
-add-count : tie.Need-add-count Inv-loop μ-loop
-add-count c =
-    let t = c .before .before .before .before .before .before .before in
-    let w = whole-here t in
-    omega (arith, w .has, t .before .before .before .before .loop .inv .read .counted)
-
-same-length-2 : tie.Need-same-length-2 Inv-loop μ-loop
-same-length-2 c =
-    let t = c .before .before .before .before .before .before .before .before .before .before in
-    let put = c .before .before .before .before .before .before .before .before .put-short in
-    next-kept (t .before .before .before .before .loop .inv) _ (t .before .before .record-ahead .ensures)
-    (short-here t) _ (put .ensures)
-    (put .kept .1 .1 .1 .0)
 
 returns-4 : tie.Need-returns-4 Inv-loop μ-loop
 returns-4 c =
@@ -190,9 +121,6 @@ loop-again-2 c =
     (ahead-more i _ (t .before .before .record-ahead .ensures) (short-here t) _ (put .ensures) (put .kept .1 .1 .1 .0)
     (rw (c .before .row-len2 .ensures) at (c .if4 .left)))
 
-same-length-3 : tie.Need-same-length-3 Inv-loop μ-loop
-same-length-3 c = c .before .before .loop .inv .kept
-
 returns-5 : tie.Need-returns-5 Inv-loop μ-loop
 returns-5 c =
     let e = c .reached-at3 .ensures in rw (e .0, e .1, e .2, e .3) (outcome-here (c .before .before .loop .inv))
@@ -203,21 +131,21 @@ unpack-ahead-spec =
     (tie.spec
     Inv-loop
     μ-loop
-    mul-left
-    sub-left
-    returns
-    returns-2
-    add-last-row
-    sub-last-row
-    sub-last-control
-    loop-holds
-    record-ahead-requires
+    (λ c. search needs)
+    (λ c. search needs)
+    (λ c. search needs)
+    (λ c. search needs)
+    (λ c. search needs)
+    (λ c. search needs)
+    (λ c. search needs)
+    (λ c. search needs)
     (λ c κs. search needs)
     (λ c κs. search needs)
-    same-length
+    (λ c κs. search needs)
+    (λ c. search needs)
     returns-3
-    sub-put-short
-    part-put-short-start
+    (λ c. search needs)
+    (λ c. search needs)
     (λ c. search needs)
     put-short-requires
     (λ c κs. search needs)
@@ -226,14 +154,14 @@ unpack-ahead-spec =
     add-to
     (λ c κs. search needs)
     sub-room
-    add-count
+    (λ c. search needs)
     (λ c κs. search needs)
-    same-length-2
+    (λ c. search needs)
     returns-4
     loop-less
     loop-again
     loop-less-2
     loop-again-2
     (λ c κs. search needs)
-    same-length-3
+    (λ c. search needs)
     returns-5)

@@ -31,12 +31,6 @@ loop-holds c =
     let a = c .before .before .args in
     putting-start (a .file .now) (a .at) (length (a .out .now)) (a .out .now)
 
-sub-record-at : tie.Need-sub-record-at Inv-loop μ-loop
-sub-record-at c = omega arith
-
-same-length : tie.Need-same-length Inv-loop μ-loop
-same-length c = c .before .before .before .before .before .before .loop .inv .writing .kept
-
 returns : tie.Need-returns Inv-loop μ-loop
 returns c =
     let t = c .before .before in
@@ -50,12 +44,6 @@ returns c =
       c .row-refused .ensures ∙ rw (c .before .refuse-in-row .ensures, t .before .fault-of .ensures) is,
       putting-done (l .inv) stop,
     )
-
-sub-put-row-bytes : tie.Need-sub-put-row-bytes Inv-loop μ-loop
-sub-put-row-bytes c = c .before .before .before .before .loop .inv .writing .room
-
-part-put-row-bytes-start : tie.Need-part-put-row-bytes-start Inv-loop μ-loop
-part-put-row-bytes-start c = c .before .before .before .before .loop .inv .writing .room
 
 put-row-bytes-requires : tie.Need-put-row-bytes-requires Inv-loop μ-loop
 put-row-bytes-requires c κs =
@@ -97,12 +85,6 @@ loop-again c =
     (putting-turn (l .inv) (omega arith) (rec .result) (rec .ensures) (t .before .before .before .loop-test .taken)
     (sym (t .before .fault-of .ensures) ∙ t .if1 .left) _ (c .before .before .before .before .put-row-bytes .ensures))
 
-sub-t18 : tie.Need-sub-t18 Inv-loop μ-loop
-sub-t18 c = omega (arith, c .before .before .loop .inv .read .counted)
-
-same-length-2 : tie.Need-same-length-2 Inv-loop μ-loop
-same-length-2 c = c .before .before .loop .inv .writing .kept
-
 returns-2 : tie.Need-returns-2 Inv-loop μ-loop
 returns-2 c =
     let l = c .before .before .loop in
@@ -120,15 +102,15 @@ unpack-into-spec =
     Inv-loop
     μ-loop
     loop-holds
-    sub-record-at
+    (λ c. search needs)
     (λ c κs. search needs)
     (λ c κs. search needs)
     (λ c κs. search needs)
     (λ c κs. search needs)
-    same-length
+    (λ c. search needs)
     returns
-    sub-put-row-bytes
-    part-put-row-bytes-start
+    (λ c. search needs)
+    (λ c. search needs)
     (λ c. search needs)
     put-row-bytes-requires
     (λ c κs. search needs)
@@ -139,6 +121,6 @@ unpack-into-spec =
     loop-less
     loop-again
     (λ c κs. search needs)
-    sub-t18
-    same-length-2
+    (λ c. search needs)
+    (λ c. search needs)
     returns-2)

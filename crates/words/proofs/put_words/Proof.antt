@@ -26,41 +26,28 @@ take-least l n =
 
 abbrev Inv-loop : tie.InvT-loop
 Inv-loop words out₀ count i₀ out i =
-    (i ≤ count) × (count ≤ length words) × (count ≤ length out₀ / 2) × (take count words ≡ take (length out₀ / 2) words)
-    × (length out ≡ length out₀) × (out ≡ over (wordsBytes (take i words)) out₀)
+    (i ≤ count) × (length out ≡ length out₀) × (out ≡ over (wordsBytes (take i words)) out₀)
 
 abbrev μ-loop : tie.MeasureT-loop
 μ-loop words out₀ count i₀ out i = count - i
 
 loop-holds : tie.Need-loop-holds Inv-loop μ-loop
 unfolding wordsBytes flatten
-loop-holds c =
-    let a = c .before .before .before .args in
-    let n = c .least .ensures in (
-      omega arith,
-      n .1 .0,
-      n .1 .1,
-      ap (λ (k : ℕ). take k (now (a .words))) (n .0) ∙ take-least (now (a .words)) (length (now (a .out)) / 2),
-      refl,
-      refl,
-    )
+loop-holds c = search needs
 
 loop-again : tie.Need-loop-again Inv-loop μ-loop
 unfolding wordsBytes
 loop-again c =
     let l = c .before .before .before .before .before .before .loop in
     let a = c .before .before .before .before .before .before .before .before .before .before .args in
-    let h : l .i < length (now (a .words)) = omega (arith, l .inv .1) in
+    let h : l .i < length (now (a .words)) = omega arith in
     let n : length (wordsBytes (take (l .i) (now (a .words)))) ≡ l .i * 2 =
     length-wordsBytes (take (l .i) (now (a .words)))
     ∙ ap (λ (k : ℕ). k * 2) (length-take-le (l .i) (now (a .words)) (omega arith))
     in (
       omega arith,
-      l .inv .1,
-      l .inv .2,
-      l .inv .3,
       search needs,
-      flatten-turn wordBytes (now (a .words)) 0 (l .i) h (now (a .out)) (l .out) _ (l .i * 2) (l .inv .5) n
+      flatten-turn wordBytes (now (a .words)) 0 (l .i) h (now (a .out)) (l .out) _ (l .i * 2) (l .inv .2) n
           (c .before .before .put-word .ensures),
     )
 
@@ -68,10 +55,12 @@ returns : tie.Need-returns Inv-loop μ-loop
 returns c =
     let l = c .before .loop in
     let a = c .before .before .before .before .before .args in
-    let all : l .i ≡ c .before .before .least .result = omega arith in
-    l .inv .5
+    let least = c .before .before .least in
+    let all : l .i ≡ least .result = omega arith in
+    l .inv .2
     ∙ ap (λ (ws : List ℕ). over (wordsBytes ws) (now (a .out)))
-    (ap (λ (k : ℕ). take k (now (a .words))) all ∙ l .inv .3)
+    (ap (λ (k : ℕ). take k (now (a .words))) (all ∙ least .ensures .0)
+    ∙ take-least (now (a .words)) (length (now (a .out)) / 2))
 
 pub put-words-spec : {M : Type 1} → statement M
 put-words-spec =

@@ -5,9 +5,6 @@ use borrow.Author.Needs.{needs}
 use Rattle.degas.proofs.writing.write_form.Statement.{statement}
 use Rattle.degas.proofs.writing.write_form.Tie as tie
 
-enum-told : tie.Need-enum-told
-enum-told c = search needs
-
 returns : tie.Need-returns
 returns c =
     let w : Writing = record { file = _; body = 0; records = 0 } in
@@ -27,7 +24,7 @@ pub write-form-spec : {M : Type 1} → statement M
 write-form-spec =
     tie.close
     (tie.spec
-    enum-told
+    (λ c. search needs)
     (λ c κs. search needs)
     (λ c κs. search needs)
     (λ c. search needs)

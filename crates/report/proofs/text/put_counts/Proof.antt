@@ -3,9 +3,8 @@ use mathlib.Core.Path.{_≡_, refl, ap}
 use mathlib.Core.List.{List, flatten}
 use Prim.Native.Nat.{ℕ, _+_, _-_, _*_, _≤_}
 use native.Mathlib.Omega.{arith}
-use lib.ListN.{length, take, length-drop}
+use lib.ListN.{length, take}
 use lib.Seq.{take-all}
-use Rattle.lists.proofs.Parts.{tail-part}
 use Rattle.lists.specs.Written.{Written}
 use Rattle.lists.proofs.Pieces.{length-written, written-then, written-as}
 use Rattle.report.specs.Labels.{blank}
@@ -25,11 +24,6 @@ abbrev μ-loop : tie.MeasureT-loop
 loop-holds : tie.Need-loop-holds Inv-loop μ-loop
 unfolding items flatten
 loop-holds c = (omega arith, omega arith, record { bytes = refl; all = refl }, refl)
-
-put-count-requires : tie.Need-put-count-requires Inv-loop μ-loop
-put-count-requires c κs =
-    let l = c .before .before .loop in
-    rw (tail-part (l .out) (l .end)) (omega (arith, length-drop (l .end) (l .out)))
 
 loop-again : tie.Need-loop-again Inv-loop μ-loop
 loop-again c =
@@ -66,7 +60,7 @@ put-counts-spec =
     (λ c. search needs)
     (λ c. search needs)
     (λ c. search needs)
-    put-count-requires
+    (λ c κs. search needs)
     (λ c. search needs)
     (λ c. search needs)
     (λ c. search needs)

@@ -5,9 +5,6 @@ use borrow.Author.Needs.{needs}
 use Rattle.resolution.proofs.Resolution.line_bytes.Statement.{statement}
 use Rattle.resolution.proofs.Resolution.line_bytes.Tie as tie
 
-enum-told : tie.Need-enum-told
-enum-told c = search needs
-
 returns : tie.Need-returns
 returns c = sym (ap lineBytesOf (c .enum-told .given .1))
 
@@ -19,4 +16,4 @@ returns-3 c = sym (ap lineBytesOf (c .enum-told3 .given .1))
 
 pub line-bytes-spec : {M : Type 1} → statement M
 line-bytes-spec =
-    tie.close (tie.spec enum-told (λ c. search needs) (λ c. search needs) returns returns-2 returns-3)
+    tie.close (tie.spec (λ c. search needs) (λ c. search needs) (λ c. search needs) returns returns-2 returns-3)

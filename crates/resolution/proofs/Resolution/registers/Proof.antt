@@ -5,9 +5,6 @@ use borrow.Author.Needs.{needs}
 use Rattle.resolution.proofs.Resolution.registers.Statement.{statement}
 use Rattle.resolution.proofs.Resolution.registers.Tie as tie
 
-enum-told : tie.Need-enum-told
-enum-told c = search needs
-
 returns : tie.Need-returns
 returns c = sym (ap registersOf (c .enum-told .given .1))
 
@@ -18,4 +15,5 @@ returns-3 : tie.Need-returns-3
 returns-3 c = sym (ap registersOf (c .enum-told3 .given .1))
 
 pub registers-spec : {M : Type 1} → statement M
-registers-spec = tie.close (tie.spec enum-told (λ c. search needs) (λ c. search needs) returns returns-2 returns-3)
+registers-spec =
+    tie.close (tie.spec (λ c. search needs) (λ c. search needs) (λ c. search needs) returns returns-2 returns-3)
