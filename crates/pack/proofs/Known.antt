@@ -12,12 +12,12 @@ use Rattle.pack.specs.Least.{Body, Opening, least}
 use Rattle.pack.proofs.Controls.{taken-literal, taken-repeat}
 use Rattle.pack.specs.declared.Stretch.{Stretch}
 use Rattle.pack.specs.Plan.{run, runs, closed, longest, runBefore, planned}
-use Rattle.pack.specs.Runs.{runLength}
-use Rattle.pack.specs.ShortRuns.{controlAt, LongRun, Known}
+use Rattle.pack.specs.Runs.{runLength, endOf}
+use Rattle.pack.specs.ShortRuns.{stretchAt, controlAt, LongRun, Known}
 use Rattle.pack.proofs.Plan.{le-or-lt, before-joined, before-repeated, plan-bytes}
-use Rattle.pack.proofs.Runs.{run-bounds, planned-here}
+use Rattle.pack.proofs.Runs.{end-other, run-ends, three-ends, run-bounds, planned-here}
 use Rattle.pack.proofs.ShortRuns.{Answer, literalAt, pairMore, literal-single, literal-pair, literal-long}
-use Rattle.pack.proofs.ShortRuns.{short-short, short-long}
+use Rattle.pack.proofs.ShortRuns.{short-short, short-long, nothing-at-end, stretch-ends}
 
 pub known-answer : (row : List ℕ) (i : ℕ) (r : Stretch) → Answer row i r → Known row i r
 known-answer row i r a =
@@ -30,6 +30,9 @@ known-answer row i r a =
       within = a .1 .0 .2;
       after = a .1 .1;
     }
+
+pub known-stretch : (row : List ℕ) (i : ℕ) (r : Stretch) → i ≤ length row → r ≡ stretchAt row i → Known row i r
+known-stretch row i r h e = rw e (known-answer row i (stretchAt row i) (stretch-ends row i h .0))
 
 -- ---- the first byte of the least body of a suffix
 
@@ -163,3 +166,55 @@ pub long-control : {row : List ℕ} {s : Stretch} → LongRun row s
 long-control {row} {s} l =
     sym (control-repeat row (s .end) (s .count) (l .inside) (l .run)
     (literal-long row (s .end) (s .count) (l .inside) (l .run) (l .long)))
+
+-- ---- a run of three or more at a place, or after one single byte there
+
+module _ (row : List ℕ) (i : ℕ) (h : i + 3 < length row) where
+  module _ (e : getD row i 0 ≡ getD row (i + 1) 0) (f : getD row (i + 1) 0 ≡ getD row (i + 2) 0) (n : ℕ)
+      (is : n ≡ endOf (getD row i 0) row (i + 3) - i) where
+    pub near-run : LongRun row (record { single = i; end = i; count = n })
+    near-run =
+        let r = three-ends row i (i + 1) (i + 2) (i + 3) refl refl refl (omega arith) e f in
+        record { long = omega arith; inside = omega arith; run = omega (arith, r) }
+
+  pub near-single : (getD row i 0 ≡ getD row (i + 1) 0 → ⊥) → getD row (i + 1) 0 ≡ getD row (i + 2) 0
+      → getD row (i + 2) 0 ≡ getD row (i + 3) 0 → 0 ≡ getD (least (drop i row)) 0 0
+  near-single d e f =
+      let x = getD row i 0 in
+      let o = end-other x row (i + 1) (omega arith) (λ q. d (sym q)) in
+      let one : 1 ≡ runLength (drop i row) = omega (arith, o, run-ends row i (omega arith)) in
+      let r = three-ends row (i + 1) (i + 2) (i + 3) (i + 4) (omega arith) (omega arith) (omega arith) h e f in
+      let l = literal-long row (i + 1) (runLength (drop (i + 1) row)) (omega arith) refl (omega (arith, r)) in
+      let s = literal-single row i 1 (omega arith) one refl in
+      sym (control-literal row i 0 (omega (arith, s, l)))
+
+-- ---- the last byte, or the last two
+
+last-literal : (row : List ℕ) (i : ℕ) → suc i ≡ length row → literalAt row i ≡ 1
+last-literal row i e =
+    let b = run-bounds row i (runLength (drop i row)) (omega arith) refl in
+    let one : 1 ≡ runLength (drop i row) = omega (arith, b) in
+    let s = literal-single row i 1 (omega arith) one refl in
+    omega (arith, s, nothing-at-end row (i + 1) (omega arith) .0)
+
+module _ (row : List ℕ) (i : ℕ) (h : i < length row) (few : length row ≤ i + 2) where
+  pub last-pair : i + 2 ≡ endOf (getD row i 0) row (i + 1) → 255 ≡ getD (least (drop i row)) 0 0
+  last-pair e =
+      let two : 2 ≡ runLength (drop i row) = omega (arith, run-ends row i h) in
+      let b = run-bounds row i 2 h two in
+      let p = literal-pair row i 2 h two refl in
+      let z = p ∙ ap pairMore (nothing-at-end row (i + 2) (omega (arith, b)) .0) in
+      sym (control-repeat row i 2 h two z)
+
+  pub last-other : (endOf (getD row i 0) row (i + 1) ≡ i + 2 → ⊥)
+      → length row - i - 1 ≡ getD (least (drop i row)) 0 0
+  last-other e =
+      let b = run-bounds row i (runLength (drop i row)) h refl in
+      let one : 1 ≡ runLength (drop i row) = omega (arith, run-ends row i h, b) in
+      let s = literal-single row i 1 h one refl in
+      let l : literalAt row i ≡ suc (length row - i - 1) =
+      ⊎-elim
+      (λ q. omega (arith, last-literal row i (omega arith)))
+      (λ q. omega (arith, s, last-literal row (i + 1) (omega arith)))
+      (le-or-lt (length row) (i + 1)) in
+      sym (control-literal row i (length row - i - 1) l)

@@ -5,6 +5,7 @@ pub mod Known
 pub mod Least
 pub mod LeastRows
 pub mod Lengths
+pub mod Masks
 pub mod Optimal
 pub mod Order
 pub mod Pack

@@ -163,7 +163,7 @@ run-step x c o s e r =
     (le-or-lt (suc c) (longest (o .more)))
 
 -- no run
-before-none : (x : ℕ) (o : Opening) → runBefore (run x 0) o ≡ o
+pub before-none : (x : ℕ) (o : Opening) → runBefore (run x 0) o ≡ o
 before-none x o =
     let n : 0 + o .more ≡ o .more = omega arith in
     before-joined x 0 o (omega arith) ∙ ap (λ (k : ℕ). taking k (o .rest)) n

@@ -106,6 +106,17 @@ pub run-ends : (row : List ℕ) (at : ℕ) → at < length row
     → endOf (getD row at 0) row (at + 1) ≡ at + runLength (drop at row)
 run-ends row at h = rw (drop-cons row at 0 h, add-one at) (omega arith)
 
+-- the same of a run whose first three bytes, at the places at, j and k, are equal
+pub three-ends : (row : List ℕ) (at j k m : ℕ) → j ≡ at + 1 → k ≡ at + 2 → m ≡ at + 3 → k < length row
+    → getD row at 0 ≡ getD row j 0 → getD row j 0 ≡ getD row k 0
+    → endOf (getD row at 0) row m ≡ at + runLength (drop at row)
+three-ends row at j k m ej ek em h e f =
+    let x = getD row at 0 in
+    end-same x row k m (omega arith) h (sym (e ∙ f))
+    ∙ end-same x row j k (omega arith) (omega arith) (sym e)
+    ∙ ap (endOf x row) ej
+    ∙ run-ends row at (omega arith)
+
 -- ---- the runs of a row: the first, and those of what is left
 
 -- a byte y and n more like it come first, and rs are the runs after them
@@ -118,7 +129,7 @@ runs-before x y n s rs true e l r q =
     rw (← m, q) refl
 runs-before x y n s rs false e l r q = ap (λ (z : List EqualRun). run x 1 ∷ z) r
 
-runs-cons : (x : ℕ) (s : List ℕ) → runs (x ∷ s) ≡ run x (suc (leading x s)) ∷ runs (drop (leading x s) s)
+pub runs-cons : (x : ℕ) (s : List ℕ) → runs (x ∷ s) ≡ run x (suc (leading x s)) ∷ runs (drop (leading x s) s)
 unfolding runs leading
 runs-cons x [] = refl
 runs-cons x (y ∷ s) =

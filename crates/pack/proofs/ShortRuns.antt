@@ -1,7 +1,9 @@
 -- Laws of the short runs from a place of a row on: the scan of them from the left.
 use Prim.Native.Nat.{ℕ, zero, suc, _+_, _-_, _≤_, _<_}
 use native.Mathlib.Omega.{arith}
-use mathlib.Core.Path.{_≡_, refl, sym, ap, _∙_}
+use native.Mathlib.Nat.{eq-or-lt-of-le}
+use mathlib.Core.Path.{_≡_, refl, sym, ap, _∙_, subst}
+use mathlib.Core.Logic.{⊎-elim}
 use mathlib.Core.List.{List, []}
 use lib.ListN.{length, getD, drop}
 use lib.Seq.{drop-length}
@@ -9,10 +11,10 @@ use borrow.Author.Tests.{le-leb, lt-leb}
 use Rattle.pack.specs.Least.{Body, Opening}
 use Rattle.pack.specs.declared.Stretch.{Stretch}
 use Rattle.pack.specs.Plan.{run, runs, taking, runBefore, planned}
-use Rattle.pack.specs.Runs.{runLength}
-use Rattle.pack.specs.ShortRuns.{shortBytes, longCount, stretchAt, LongRun}
-use Rattle.pack.proofs.Plan.{before-joined, before-repeated, before-single, longest-two}
-use Rattle.pack.proofs.Runs.{run-bounds, runs-here, planned-here}
+use Rattle.pack.specs.Runs.{runLength, endOf}
+use Rattle.pack.specs.ShortRuns.{shortBytes, longCount, stretchAt, LongRun, FourSingles}
+use Rattle.pack.proofs.Plan.{le-or-lt, before-joined, before-repeated, before-single, longest-two}
+use Rattle.pack.proofs.Runs.{end-other, run-ends, run-bounds, runs-here, planned-here}
 
 -- ---- what the run at a place makes of what follows it
 
@@ -30,7 +32,7 @@ abbrev pub pairMore : ℕ → ℕ
 pairMore zero = 0
 pairMore (suc k) = suc (suc (suc k))
 
-pair-more : (x k : ℕ) (b : Body) → runBefore (run x 2) (taking k b) .more ≡ pairMore k
+pub pair-more : (x k : ℕ) (b : Body) → runBefore (run x 2) (taking k b) .more ≡ pairMore k
 pair-more x zero b = ap (λ (o : Opening). o .more) (before-repeated x 2 (taking 0 b) (omega arith))
 pair-more x (suc k) b =
     ap (λ (o : Opening). o .more) (before-joined x 2 (taking (suc k) b) (omega arith)) ∙ omega arith
@@ -67,7 +69,7 @@ module _ (row : List ℕ) (at n : ℕ) (h : at < length row) (e : n ≡ runLengt
   unfolding shortBytes longCount
   short-long q = rw (runs-here row at n h e, lt-leb n 2 q) (refl, refl)
 
-nothing-at-end : (row : List ℕ) (at : ℕ) → length row ≡ at
+pub nothing-at-end : (row : List ℕ) (at : ℕ) → length row ≡ at
     → (literalAt row at ≡ 0) × (shortAt row at ≡ 0) × (longAt row at ≡ 0)
 unfolding planned runs shortBytes longCount
 nothing-at-end row at e =
@@ -195,9 +197,63 @@ module _ {row : List ℕ} {i single at n : ℕ} (h : at < length row) (e : n ≡
     ),
   )
 
+-- a byte that differs from the next, at the place j
+on-differing : {row : List ℕ} {i single : ℕ} (at j : ℕ) → j ≡ at + 1 → j < length row
+    → (getD row at 0 ≡ getD row j 0 → ⊥) → ScanningOn row i single at → ScanningOn row i j j
+on-differing {row} at j e h d s =
+    let o = end-other (getD row at 0) row j h (λ q. d (sym q)) in
+    let r = run-ends row at (omega arith) in
+    let one : 1 ≡ runLength (drop at row) = omega (arith, o, r, ap (endOf (getD row at 0) row) e) in
+    rw e (on-single (omega arith) one s refl)
+
+pub on-four : {row : List ℕ} {i single at : ℕ} → FourSingles row at → ScanningOn row i single at
+    → ScanningOn row i (at + 4) (at + 4)
+on-four {row} {i} {single} {at} f s =
+    let h = f .inside in
+    on-differing (at + 3) (at + 4) (omega arith) h (f .fourth)
+    (on-differing (at + 2) (at + 3) (omega arith) (omega arith) (f .third)
+    (on-differing (at + 1) (at + 2) (omega arith) (omega arith) (f .second)
+    (on-differing at (at + 1) refl (omega arith) (f .first) s)))
+
 pub on-end : {row : List ℕ} {i single at : ℕ} → length row ≤ at → ScanningOn row i single at
     → Answer row i (record { single = single; end = at; count = 0 })
 on-end {row} {i} {single} {at} h s = (
   scanning-end row i single at h (s .whole),
   ((scanning-end row single single at h (s .next), s .order, s .whole .within), λ q. absurd (q refl)),
 )
+
+-- ---- what the short runs from a place on are, in itself
+
+-- an answer, which ends the row where no run follows
+abbrev pub Ends : List ℕ → ℕ → Stretch → Type 0
+Ends row i r = Answer row i r × (r .count ≡ 0 → r .end ≡ length row)
+
+module _ (row : List ℕ) (i : ℕ) where
+  ends : (r : Stretch) → Answer row i r → (r .count ≡ 0 → r .end ≡ length row) → Ends row i (stretchAt row i)
+  ends r a e = subst (Ends row i) (a .0) (a, e)
+
+  ends-over : (single at : ℕ) → length row ≤ at → ScanningOn row i single at → Ends row i (stretchAt row i)
+  ends-over single at h s =
+      ends (record { single = single; end = at; count = 0 }) (on-end h s) (λ z. omega (arith, s .whole .within))
+
+  -- k bytes are left at most
+  ends-scanned : (k single at : ℕ) → length row ≤ at + k → ScanningOn row i single at → Ends row i (stretchAt row i)
+  ends-scanned zero single at h s = ends-over single at (omega arith) s
+  ends-scanned (suc k) single at h s =
+      let n = runLength (drop at row) in
+      ⊎-elim
+      (λ l. ends-over single at l s)
+      (λ l.
+      let b = run-bounds row at n l refl in
+      ⊎-elim
+      (λ q.
+      ⊎-elim
+      (λ two. ends-scanned k single (at + n) (omega (arith, b)) (on-pair l refl s q (λ one. omega arith)))
+      (λ one. ends-scanned k (at + n) (at + n) (omega (arith, b)) (on-single l refl s (omega (arith, b))))
+      (eq-or-lt-of-le q))
+      (λ q. ends (record { single = single; end = at; count = n }) (on-long l refl s q) (λ z. absurd (omega arith)))
+      (le-or-lt n 2))
+      (le-or-lt (length row) at)
+
+  pub stretch-ends : i ≤ length row → Ends row i (stretchAt row i)
+  stretch-ends h = ends-scanned (length row) i i (omega arith) (on-start row i h)

@@ -14,7 +14,7 @@ use Rattle.pack.specs.Runs.{leading, littleEndian, FirstOther}
 
 -- ---- trailing zeros of a number whose j lowest digits are those of l
 
-trailing-past : (j k h : ℕ) → trailingZeros (j + k) (h * 2 ^ j + 0) ≡ j + trailingZeros k h
+pub trailing-past : (j k h : ℕ) → trailingZeros (j + k) (h * 2 ^ j + 0) ≡ j + trailingZeros k h
 unfolding trailingZeros
 trailing-past zero k h =
     let n : 0 + k ≡ k = omega arith in

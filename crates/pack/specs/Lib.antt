@@ -4,6 +4,7 @@ pub mod IsLeast
 pub mod Least
 pub mod LeastRows
 pub mod Lengths
+pub mod Masks
 pub mod Pack
 pub mod Plan
 pub mod Runs

@@ -4,7 +4,7 @@ use Prim.Native.Nat.{ℕ, _+_, _-_, _≤_, _<_}
 use mathlib.Core.Path.{_≡_}
 use mathlib.Core.Bool.{cond}
 use mathlib.Core.List.{List, [], _∷_}
-use lib.ListN.{length, drop}
+use lib.ListN.{length, getD, drop}
 use lib.Dec.{leb, ltb}
 use Rattle.pack.specs.declared.Stretch.{Stretch}
 use Rattle.pack.specs.Plan.{EqualRun, runs, planned}
@@ -19,6 +19,14 @@ shortBytes (r ∷ rs) = cond (leb (r .count) 2) (r .count + shortBytes rs) 0
 unfoldable pub longCount : List EqualRun → ℕ
 longCount [] = 0
 longCount (r ∷ rs) = cond (leb (r .count) 2) (longCount rs) (r .count)
+
+-- the byte at the place i and the three after it differ each from the next
+pub record FourSingles (row : List ℕ) (i : ℕ) : Type 0 where
+  pub inside : i + 4 < length row
+  pub first : getD row i 0 ≡ getD row (i + 1) 0 → ⊥
+  pub second : getD row (i + 1) 0 ≡ getD row (i + 2) 0 → ⊥
+  pub third : getD row (i + 2) 0 ≡ getD row (i + 3) 0 → ⊥
+  pub fourth : getD row (i + 3) 0 ≡ getD row (i + 4) 0 → ⊥
 
 -- where the literal at the place i ends, where the short runs end, and how long the run there is
 abbrev pub stretchAt : List ℕ → ℕ → Stretch

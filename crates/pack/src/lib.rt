@@ -1,8 +1,9 @@
-// One row of 1 to 128 bytes packed to its least body, run by run from the left. Definitions, of rows end to end as
-// well: specs/.
+// One row of 1 to 128 bytes packed to its least body, from the left: runs of three or more that are near one by one,
+// and what is between others by a mask of equal neighbours. Definitions, of rows end to end as well: specs/.
 ghost use mathlib.Core.Path.{_≡_};
+ghost use mathlib.Core.Bool.{true};
 ghost use mathlib.Core.List.{[], _∷_};
-ghost use Prim.Native.Nat.{_+_, _-_, _≤_, _<_};
+ghost use Prim.Native.Nat.{_+_, _-_, _^_, _≤_, _<_};
 ghost use lib.ListN.{length, drop};
 ghost use lib.Dec.{ltb};
 ghost use Rattle.lists.specs.Over.{over};
@@ -11,9 +12,10 @@ ghost use Rattle.pack.specs.Controls.{recordOf, takenBy, shownBy};
 ghost use Rattle.pack.specs.Emitted.{Emitted};
 ghost use Rattle.pack.specs.Least.{least, leastRecords};
 ghost use Rattle.pack.specs.Lengths.{countRun};
+ghost use Rattle.pack.specs.Masks.{sameAs, equalNext, lastSingle, MaskAt};
 ghost use Rattle.pack.specs.Pack.{packRow, packInto, leastLen};
 ghost use Rattle.pack.specs.Runs.{runLength, endOf, littleEndian, FirstOther};
-ghost use Rattle.pack.specs.ShortRuns.{stretchAt, controlAt, LongRun, Known};
+ghost use Rattle.pack.specs.ShortRuns.{stretchAt, controlAt, LongRun, Known, FourSingles};
 use outcome::AREA_TOO_SHORT;
 use outcome::OUT_OF_RANGE;
 use packbits::MAX_WIDTH;
@@ -26,6 +28,11 @@ pub const MAX_BODY: usize = 129;
 const WORD: usize = 8;
 
 const BYTE_BITS: usize = 8;
+
+// Bits of a word, and the most bytes whose equal neighbours one word tells.
+const WORD_BITS: usize = 64;
+
+const MASK_BYTES: usize = 63;
 
 // Eight bytes as one number, the first one lowest. The compiler makes it one load.
 fn word(a: u8, b: u8, c: u8, d: u8, e: u8, f: u8, g: u8, h: u8) -> u64
@@ -170,7 +177,27 @@ struct Stretch {
     count: usize,
 }
 
-// The short runs from the place i on.
+// Whether the byte at a place and the three after it differ each from the next.
+fn four_singles(row: &[u8], at: usize) -> bool
+    requires { ⌜ (at < length (now row)) × (length (now row) ≤ 128) ⌝ }
+    ensures { λ r. ⌜ (r ≡ true → FourSingles (now (row .entry)) at) ⌝ }
+{
+    if row.len() <= at + 4 {
+        return false;
+    }
+    if row[at] == row[at + 1] {
+        return false;
+    }
+    if row[at + 1] == row[at + 2] {
+        return false;
+    }
+    if row[at + 2] == row[at + 3] {
+        return false;
+    }
+    row[at + 3] != row[at + 4]
+}
+
+// The short runs from the place i on, run by run, but four single bytes at a time.
 fn short_runs(row: &[u8], i: usize) -> Stretch
     requires { ⌜ (i ≤ length (now row)) × (length (now row) ≤ 128) ⌝ }
     ensures { λ r. ⌜ r ≡ stretchAt (now (row .entry)) i ⌝ }
@@ -181,6 +208,11 @@ fn short_runs(row: &[u8], i: usize) -> Stretch
     let mut single = i;
     let mut at = i;
     while at < row.len() {
+        if four_singles(row, at) {
+            at += 4;
+            single = at;
+            continue;
+        }
         let n = run_at(row, at);
         if 2 < n {
             return Stretch {
@@ -199,6 +231,100 @@ fn short_runs(row: &[u8], i: usize) -> Stretch
         end: at,
         count: 0,
     }
+}
+
+// 1 where two bytes are equal, otherwise 0.
+fn same(x: u8, y: u8) -> u64
+    ensures { λ r. ⌜ r ≡ sameAs x y ⌝ }
+{
+    if x == y {
+        return 1;
+    }
+    0
+}
+
+// Which bytes from a place on equal the byte after them, as binary digits, the first one lowest.
+fn equal_next(row: &[u8], from: usize) -> u64
+    requires { ⌜ (from < length (now row)) × (length (now row) ≤ from + 63) ⌝ }
+    ensures { λ r. ⌜ r ≡ equalNext (drop from (now (row .entry))) ⌝ }
+{
+    let mut at = row.len() - 1;
+    let mut equal = 0;
+    while from < at {
+        at -= 1;
+        equal = equal * 2 + same(row[at], row[at + 1]);
+    }
+    equal
+}
+
+// The same, and 0 where too many bytes are left for a word.
+fn mask_at(row: &[u8], i: usize) -> u64
+    requires { ⌜ i ≤ length (now row) ⌝ }
+    ensures { λ r. ⌜ MaskAt (now (row .entry)) i r ⌝ }
+{
+    let left = row.len() - i;
+    if MASK_BYTES < left {
+        return 0;
+    }
+    if left == 0 {
+        return 0;
+    }
+    equal_next(row, i)
+}
+
+// The mask at a later place.
+fn next_mask(row: &[u8], i: usize, equal: u64, next: usize) -> u64
+    requires { ⌜ (i ≤ next) × (next ≤ length (now row)) × MaskAt (now row) i equal ⌝ }
+    ensures { λ r. ⌜ MaskAt (now (row .entry)) next r ⌝ }
+{
+    if MASK_BYTES < row.len() - i {
+        return mask_at(row, next);
+    }
+    equal >> (next - i)
+}
+
+// Where the last byte without an equal neighbour ends, of the first n bytes that a mask tells; 0 where there is none.
+fn last_single(equal: u64, n: usize) -> usize
+    requires { ⌜ (equal < 2 ^ 63) × (n ≤ 63) ⌝ }
+    ensures { λ r. ⌜ r ≡ lastSingle equal n ⌝ }
+{
+    let paired = equal | (equal * 2);
+    let low = (1 << n) - 1;
+    WORD_BITS - u64::leading_zeros(low - (paired & low)) as usize
+}
+
+// The short runs from the place i on, by the mask there. No branch depends on the length of a run, which a processor
+// guesses wrong where short runs follow one another at random.
+fn masked_runs(row: &[u8], i: usize, equal: u64) -> Stretch
+    requires { ⌜ (i < length (now row)) × (length (now row) ≤ i + 63) × (equal ≡ equalNext (drop i (now row))) ⌝ }
+    ensures { λ r. ⌜ r ≡ stretchAt (now (row .entry)) i ⌝ }
+{
+    let triples = equal & (equal / 2);
+    if triples == 0 {
+        let left = row.len() - i;
+        return Stretch {
+            single: i + last_single(equal, left),
+            end: row.len(),
+            count: 0,
+        };
+    }
+    let short = u64::trailing_zeros(triples) as usize;
+    Stretch {
+        single: i + last_single(equal, short),
+        end: i + short,
+        count: u64::trailing_zeros((equal >> short) + 1) as usize + 1,
+    }
+}
+
+// The short runs from the place i on, by the mask there or, where too many bytes are left for one, run by run.
+fn stretch_ahead(row: &[u8], i: usize, equal: u64) -> Stretch
+    requires { ⌜ (i < length (now row)) × (length (now row) ≤ 128) × MaskAt (now row) i equal ⌝ }
+    ensures { λ r. ⌜ Known (now (row .entry)) i r ⌝ }
+{
+    if MASK_BYTES < row.len() - i {
+        return short_runs(row, i);
+    }
+    masked_runs(row, i, equal)
 }
 
 // One record: the bytes of the row that it stands for, and the bytes that it is.
@@ -324,6 +450,154 @@ fn put_stretch(row: &[u8], i: usize, s: Stretch, out: &mut [u8]) -> Packed
     }
 }
 
+// How many single bytes come before a run of three or more, by the first four bytes: 0 or 1; 2 stands for neither.
+fn singles_before(a: u8, b: u8, c: u8, d: u8) -> usize
+    ensures { λ r. ⌜ (r ≡ 0 → (a ≡ b) × (b ≡ c)) × (r ≡ 1 → (a ≡ b → ⊥) × (b ≡ c) × (c ≡ d)) ⌝ }
+{
+    if b != c {
+        return 2;
+    }
+    if a == b {
+        return 0;
+    }
+    if c != d {
+        return 2;
+    }
+    1
+}
+
+// Records from the left: the place of the row that they reach, their bytes and their number.
+struct Part {
+    place: usize,
+    bytes: usize,
+    records: usize,
+}
+
+// The record of the last byte or of the last two bytes, from the place i on, to the front of out; of three nothing.
+fn put_last(row: &[u8], i: usize, out: &mut [u8]) -> Part
+    requires { ⌜ (i < length (now row)) × (length (now row) ≤ 128) ⌝ }
+    requires { ⌜ length (least (drop i (now row))) ≤ length (now out) ⌝ }
+    ensures { λ r. ⌜ Emitted (now (row .entry)) i (r .place) (now (out .entry)) (now (out .exit)) (r .bytes)
+        (r .records) ⌝ }
+{
+    let left = row.len() - i;
+    if 2 < left {
+        return Part {
+            place: i,
+            bytes: 0,
+            records: 0,
+        };
+    }
+    if end_by_bytes(row, row[i], i + 1) == i + 2 {
+        let p = put_repeat(2, &row[i..], out);
+        return Part {
+            place: i + 2,
+            bytes: p.made,
+            records: 1,
+        };
+    }
+    let p = put_bytes(left, &row[i..], out);
+    Part {
+        place: i + left,
+        bytes: p.made,
+        records: 1,
+    }
+}
+
+// The record at the place i to the front of out, where a run of three or more is there or after one single byte, or
+// the row's end is near; otherwise nothing.
+fn put_near(row: &[u8], i: usize, out: &mut [u8]) -> Part
+    requires { ⌜ (i < length (now row)) × (length (now row) ≤ 128) ⌝ }
+    requires { ⌜ length (least (drop i (now row))) ≤ length (now out) ⌝ }
+    ensures { λ r. ⌜ Emitted (now (row .entry)) i (r .place) (now (out .entry)) (now (out .exit)) (r .bytes)
+        (r .records) ⌝ }
+{
+    if row.len() <= i + 3 {
+        return put_last(row, i, out);
+    }
+    let singles = singles_before(row[i], row[i + 1], row[i + 2], row[i + 3]);
+    if 1 < singles {
+        return Part {
+            place: i,
+            bytes: 0,
+            records: 0,
+        };
+    }
+    if singles == 1 {
+        let p = put_bytes(1, &row[i..], out);
+        return Part {
+            place: i + 1,
+            bytes: p.made,
+            records: 1,
+        };
+    }
+    let n = end_by_words(row, row[i], i + 3) - i;
+    let p = put_repeat(n, &row[i..], out);
+    Part {
+        place: i + n,
+        bytes: p.made,
+        records: 1,
+    }
+}
+
+// The first records of the row's least body to the front of out, as long as runs of three or more or the row's end are
+// near. Most rows of even areas are such records alone.
+fn emit_near(row: &[u8], out: &mut [u8]) -> Part
+    requires { ⌜ length (now row) ≤ 128 ⌝ }
+    requires { ⌜ length (least (now row)) ≤ length (now out) ⌝ }
+    ensures { λ r. ⌜ Emitted (now (row .entry)) 0 (r .place) (now (out .entry)) (now (out .exit)) (r .bytes)
+        (r .records) ⌝ }
+{
+    let mut i = 0;
+    let mut o = 0;
+    let mut n = 0;
+    while i < row.len() {
+        let p = put_near(row, i, &mut out[o..]);
+        let place = p.place;
+        o += p.bytes;
+        n += p.records;
+        if place == i {
+            return Part {
+                place,
+                bytes: o,
+                records: n,
+            };
+        }
+        i = place;
+    }
+    Part {
+        place: i,
+        bytes: o,
+        records: n,
+    }
+}
+
+// The least body of the row from a place on, to the front of out.
+fn emit_rest(row: &[u8], from: usize, out: &mut [u8]) -> Packed
+    requires { ⌜ (length (now row) ≤ 128) × (from ≤ length (now row)) ⌝ }
+    requires { ⌜ length (least (drop from (now row))) ≤ length (now out) ⌝ }
+    ensures { λ r. ⌜ Emitted (now (row .entry)) from (length (now (row .entry))) (now (out .entry)) (now (out .exit))
+        (r .bytes) (r .records) ⌝ }
+{
+    let mut equal = mask_at(row, from);
+    let mut i = from;
+    let mut o = 0;
+    let mut n = 0;
+    while i < row.len() {
+        let s = stretch_ahead(row, i, equal);
+        let p = put_stretch(row, i, s, &mut out[o..]);
+        let next = s.end + s.count;
+        equal = next_mask(row, i, equal, next);
+        i = next;
+        o += p.bytes;
+        n += p.records;
+    }
+    Packed {
+        bytes: o,
+        records: n,
+    }
+}
+
 // The least body of the row to the front of out.
 fn emit(row: &[u8], out: &mut [u8]) -> Packed
     requires { ⌜ length (now row) ≤ 128 ⌝ }
@@ -331,19 +605,12 @@ fn emit(row: &[u8], out: &mut [u8]) -> Packed
     ensures { λ r. ⌜ (r .bytes ≡ length (least (now (row .entry)))) × (r .records ≡ leastRecords (now (row .entry))) ⌝ }
     ensures { λ r. ⌜ now (out .exit) ≡ over (least (now (row .entry))) (now (out .entry)) ⌝ }
 {
-    let mut i = 0;
-    let mut o = 0;
-    let mut n = 0;
-    while i < row.len() {
-        let s = short_runs(row, i);
-        let p = put_stretch(row, i, s, &mut out[o..]);
-        i = s.end + s.count;
-        o += p.bytes;
-        n += p.records;
-    }
+    let near = emit_near(row, out);
+    let bytes = near.bytes;
+    let rest = emit_rest(row, near.place, &mut out[bytes..]);
     Packed {
-        bytes: o,
-        records: n,
+        bytes: bytes + rest.bytes,
+        records: near.records + rest.records,
     }
 }
 

@@ -1,14 +1,13 @@
 -- `pack::put_stretch` meets its contract: the short runs, and after them one record.
 use Prim.Native.Nat.{_+_, _-_}
 use native.Mathlib.Omega.{arith}
-use mathlib.Core.Path.{_≡_, refl}
+use mathlib.Core.Path.{_≡_}
 use borrow.Rule.Slice.PartMut.{putMid}
 use lib.ListN.{length, take, drop}
 use Rattle.pack.specs.Emitted.{Emitted}
-use Rattle.pack.proofs.Emission.{record-room, emitted-record, emitted-then, emitted-kept, emitted-room}
+use Rattle.pack.proofs.Emission.{repeat-room, emitted-repeat, emitted-then, emitted-kept, emitted-room}
 use Rattle.pack.proofs.Emission.{left-fits}
 use Rattle.pack.proofs.Known.{long-bounds, long-control}
-use Rattle.pack.proofs.Records.{repeat-shown, puts-repeat}
 use borrow.Author.Needs.{needs}
 use Rattle.pack.proofs.put_stretch.Statement.{statement}
 use Rattle.pack.proofs.put_stretch.Tie as tie
@@ -34,17 +33,13 @@ put-repeat-requires : tie.Need-put-repeat-requires
 put-repeat-requires c κs =
     let p = c .before .before .before .before .before .before in
     let s = p .before .before .before .before in
-    let row = s .args .row .now in
     let t = s .args .s in
-    let e = p .put-before .ensures in
     let l = s .pre .0 .2 .after (c .before .before .if1 .left) in
-    let n = long-bounds l in
     let o = p .put-before .result .bytes in
     let out = p .put-before .last .1 .1 .1 .0 in
-    let part = take (length out - o) (drop o out) in
-    let w = record-room row (t .end) (l .inside) (s .pre .0 .0) _ (long-control l) part (left-fits e (s .pre .1)) in
-    let k = repeat-shown (t .count) (omega (arith, l .long)) (omega (arith, s .pre .0 .0)) in
-    (omega (arith, l .long), omega (arith, s .pre .0 .0), w .0, omega (arith, w .2, k .0))
+    repeat-room (s .args .row .now) (t .end) (l .inside) (s .pre .0 .0) (t .count)
+    (omega (arith, long-bounds l, s .pre .0 .0)) (take (length out - o) (drop o out))
+    (left-fits (p .put-before .ensures) (s .pre .1)) (omega (arith, l .long)) (long-control l)
 
 -- what holds after the record
 turned : (d : tie.After-put-repeat)
@@ -58,22 +53,15 @@ turned : (d : tie.After-put-repeat)
 turned d =
     let p = d .before .before .before .before .before .before .before in
     let s = p .before .before .before .before in
-    let row = s .args .row .now in
     let t = s .args .s in
     let e = p .put-before .ensures in
-    let q = d .put-repeat in
     let l = s .pre .0 .2 .after (d .before .before .before .if1 .left) in
-    let n = long-bounds l in
     let o = p .put-before .result .bytes in
     let out = p .put-before .last .1 .1 .1 .0 in
-    let part = take (length out - o) (drop o out) in
-    let w = record-room row (t .end) (l .inside) (s .pre .0 .0) _ (long-control l) part (left-fits e (s .pre .1)) in
-    let put =
-    puts-repeat (257 - t .count) (t .count) (take (length row - t .end) (drop (t .end) row)) part (q .last .1 .1 .0)
-    (q .result .taken) (q .result .made) refl (omega (arith, l .long)) (omega (arith, s .pre .0 .0)) (w .0)
-    (q .ensures .0) (q .ensures .1) in
-    let f = emitted-record row (t .end) (l .inside) (s .pre .0 .0) (257 - t .count) (long-control l) put in
-    rw (q .ensures .0 .0) at (emitted-then e f)
+    emitted-then e
+    (emitted-repeat (s .args .row .now) (t .end) (l .inside) (s .pre .0 .0) (t .count)
+    (omega (arith, long-bounds l, s .pre .0 .0)) (take (length out - o) (drop o out)) (left-fits e (s .pre .1))
+    (omega (arith, l .long)) (long-control l) (d .put-repeat .ensures .0) (d .put-repeat .ensures .1))
 
 add-t13 : tie.Need-add-t13
 add-t13 c =

@@ -3,8 +3,9 @@ use Prim.Native.Nat.{_+_, _-_, _≤_}
 use native.Mathlib.Omega.{arith}
 use lib.ListN.{length}
 use borrow.Author.Needs.{needs}
+use Rattle.pack.specs.ShortRuns.{FourSingles}
 use Rattle.pack.proofs.Runs.{run-bounds}
-use Rattle.pack.proofs.ShortRuns.{ScanningOn, on-start, on-single, on-pair, on-long, on-end}
+use Rattle.pack.proofs.ShortRuns.{ScanningOn, on-start, on-single, on-pair, on-long, on-four, on-end}
 use Rattle.pack.proofs.short_runs.Statement.{statement}
 use Rattle.pack.proofs.short_runs.Tie as tie
 
@@ -17,27 +18,34 @@ abbrev μ-loop : tie.MeasureT-loop
 loop-holds : tie.Need-loop-holds Inv-loop μ-loop
 loop-holds c = on-start (c .before .args .row .now) (c .before .args .i) (c .before .pre .0)
 
+-- four single bytes
+four : (c : tie.Then1 Inv-loop μ-loop)
+    → FourSingles (c .before .before .before .before .before .args .row .now) (c .before .before .before .loop .at)
+four c = c .before .four-singles .ensures (c .if1 .taken)
+
+add-at : tie.Need-add-at Inv-loop μ-loop
+add-at c = omega (arith, four c .inside, c .before .before .before .before .before .good)
+
+loop-less : tie.Need-loop-less Inv-loop μ-loop
+loop-less c = omega (arith, four c .inside)
+
+loop-again : tie.Need-loop-again Inv-loop μ-loop
+loop-again c = on-four (four c) (c .before .before .before .loop .inv)
+
 -- the run is within the row
 bounds : (c : tie.After-run-at Inv-loop μ-loop)
-    → let row = c .before .before .before .before .args .row .now in
-    (1 ≤ c .run-at .result) × (c .before .before .loop .at + c .run-at .result ≤ length row)
-bounds c = run-bounds _ _ _ (c .before .loop-test .taken) (c .run-at .ensures)
+    → let row = c .before .before .before .before .before .before .args .row .now in
+    (1 ≤ c .run-at .result) × (c .before .before .before .before .loop .at + c .run-at .result ≤ length row)
+bounds c = run-bounds _ _ _ (c .before .before .before .loop-test .taken) (c .run-at .ensures)
 
 returns : tie.Need-returns Inv-loop μ-loop
 returns c =
     let r = c .before in
-    on-long (r .before .loop-test .taken) (r .run-at .ensures) (r .before .before .loop .inv) (omega arith)
+    let t = r .before .before .before in
+    on-long (t .loop-test .taken) (r .run-at .ensures) (t .before .loop .inv) (omega arith)
 
-add-at : tie.Need-add-at Inv-loop μ-loop
-add-at c = omega (arith, bounds (c .before), c .before .before .before .before .before .good)
-
-loop-less : tie.Need-loop-less Inv-loop μ-loop
-loop-less c = omega (arith, bounds (c .before .before))
-
-loop-again : tie.Need-loop-again Inv-loop μ-loop
-loop-again c =
-    let r = c .before .before in
-    on-single (r .before .loop-test .taken) (r .run-at .ensures) (r .before .before .loop .inv) (c .if2 .taken)
+add-at-2 : tie.Need-add-at-2 Inv-loop μ-loop
+add-at-2 c = omega (arith, bounds (c .before), c .before .before .before .before .before .before .before .good)
 
 loop-less-2 : tie.Need-loop-less-2 Inv-loop μ-loop
 loop-less-2 c = omega (arith, bounds (c .before .before))
@@ -45,8 +53,17 @@ loop-less-2 c = omega (arith, bounds (c .before .before))
 loop-again-2 : tie.Need-loop-again-2 Inv-loop μ-loop
 loop-again-2 c =
     let r = c .before .before in
-    let l = r .before .before .loop in
-    on-pair (r .before .loop-test .taken) (r .run-at .ensures) (l .inv) (c .before .if1 .left) (c .if2 .left)
+    let t = r .before .before .before in
+    on-single (t .loop-test .taken) (r .run-at .ensures) (t .before .loop .inv) (c .if3 .taken)
+
+loop-less-3 : tie.Need-loop-less-3 Inv-loop μ-loop
+loop-less-3 c = omega (arith, bounds (c .before .before))
+
+loop-again-3 : tie.Need-loop-again-3 Inv-loop μ-loop
+loop-again-3 c =
+    let r = c .before .before in
+    let t = r .before .before .before in
+    on-pair (t .loop-test .taken) (r .run-at .ensures) (t .before .loop .inv) (c .before .if2 .left) (c .if3 .left)
 
 returns-2 : tie.Need-returns-2 Inv-loop μ-loop
 returns-2 c = on-end (c .loop-test .left) (c .before .loop .inv)
@@ -59,10 +76,14 @@ short-runs-spec =
     μ-loop
     loop-holds
     (λ c κs. search needs)
-    returns
     add-at
     loop-less
     loop-again
+    (λ c κs. search needs)
+    returns
+    add-at-2
     loop-less-2
     loop-again-2
+    loop-less-3
+    loop-again-3
     returns-2)
