@@ -19,8 +19,11 @@ ghost use Rattle.bodies.specs.Reading.{bodyArea};
 ghost use Rattle.bodies.specs.Unpacking.{unpackedAnswer};
 ghost use Rattle.macpaint.specs.Reading.{readPlate};
 ghost use Rattle.macpaint.specs.Writing.{writePlate};
+ghost use Rattle.conversion.specs.declared.Conversion.the-variants.{ToElite, ToPlain};
+ghost use Rattle.conversion.specs.Converting.{convert};
 use bodies::BodyAnswer;
 use colour::ColourAnswer;
+use conversion::Conversion;
 use outcome::Refusal;
 use packbits::RowAnswer;
 use picture::Picture;
@@ -189,4 +192,24 @@ pub extern "C" fn kutimuq_write_plate(plate: &[u8], out: &mut [u8]) -> WriteAnsw
         ≡ writeOutput (writePlate (now (plate .entry)) (length (now (out .entry)))) (now (out .entry)) ⌝ }
 {
     macpaint::write(plate, out)
+}
+
+// Plain DEGAS to DEGAS Elite.
+#[no_mangle]
+pub extern "C" fn kutimuq_to_elite(file: &[u8], out: &mut [u8]) -> WriteAnswer
+    ensures answer { λ a. ⌜ a ≡ writeAnswer (convert ToElite (now (file .entry)) (length (now (out .entry)))) ⌝ }
+    ensures output { λ _. ⌜ now (out .exit)
+        ≡ writeOutput (convert ToElite (now (file .entry)) (length (now (out .entry)))) (now (out .entry)) ⌝ }
+{
+    conversion::convert(Conversion::ToElite, file, out)
+}
+
+// DEGAS Elite to plain DEGAS.
+#[no_mangle]
+pub extern "C" fn kutimuq_to_plain(file: &[u8], out: &mut [u8]) -> WriteAnswer
+    ensures answer { λ a. ⌜ a ≡ writeAnswer (convert ToPlain (now (file .entry)) (length (now (out .entry)))) ⌝ }
+    ensures output { λ _. ⌜ now (out .exit)
+        ≡ writeOutput (convert ToPlain (now (file .entry)) (length (now (out .entry)))) (now (out .entry)) ⌝ }
+{
+    conversion::convert(Conversion::ToPlain, file, out)
 }

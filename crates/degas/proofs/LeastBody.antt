@@ -3,7 +3,7 @@
 use mathlib.Core.Path.{_≡_, refl, sym, ap, _∙_}
 use mathlib.Core.Logic.{_↔_}
 use mathlib.Core.List.{List}
-use Prim.Native.Nat.{ℕ, _+_, _*_, _≤_, _<_}
+use Prim.Native.Nat.{ℕ, _+_, _*_, _≤_}
 use native.Mathlib.Omega.{arith}
 use lib.ListN.{length}
 use Rattle.lists.specs.Bytes.{Bytes}
@@ -18,7 +18,7 @@ use Rattle.resolution.specs.Shapes.{screenBytes, rasterOf}
 use Rattle.resolution.specs.Choice.{chosen}
 use Rattle.resolution.proofs.Rasters.{raster-bytes}
 use Rattle.bodies.specs.Packing.{leastBody, PackedBody, belowLimit, alternating}
-use Rattle.bodies.specs.Unpacks.{UnpacksImage, ShortestBody}
+use Rattle.bodies.specs.Unpacks.{ShortestBody}
 use Rattle.bodies.proofs.Packing.{packed}
 use Rattle.bodies.proofs.Least.{refused-exactly, least-below, shortest-most, shortest-attained}
 use Rattle.bodies.proofs.Least.{length-alternating, alternating-bytes}
@@ -28,7 +28,7 @@ use Rattle.picture.specs.Writing.{Writing, fileBytes}
 use Rattle.degas.specs.declared.Form.the-variants.{Packed}
 use Rattle.degas.specs.Layout.{bodyLimit}
 use Rattle.degas.specs.Writing.{packedWriting, writePacked, writeDegas}
-use Rattle.degas.specs.LeastBody.{WritesPacked, mostBytes}
+use Rattle.degas.specs.LeastBody.{WritesPacked, NoBodyBelow, mostBytes}
 use Rattle.degas.proofs.FileLayout.{length-packedFile}
 use Rattle.degas.proofs.ScreenRaster.{in-range}
 use Rattle.degas.proofs.WriteDegas.{write-passed}
@@ -70,8 +70,8 @@ module _ (r : Resolution) (p : Picture) (screen : List ℕ) (out : ℕ) (known :
 
   -- "the packed writer refuses, with 9, exactly when no byte string under 32,000 bytes unpacks to that screen at that
   -- resolution"
-  pub packed-refused-exactly : Bytes screen → (writeDegas Packed p screen out ≡ refuse noPackedBody)
-      ↔ ((body : List ℕ) (n : ℕ) → Bytes body → UnpacksImage (rasterOf r) body screen n → length body < bodyLimit → ⊥)
+  pub packed-refused-exactly : Bytes screen
+      → (writeDegas Packed p screen out ≡ refuse noPackedBody) ↔ NoBodyBelow r screen
   packed-refused-exactly all =
       let exactly = refused-exactly (rasterOf r) screen (in-range r) bodyLimit all in (
         λ e. exactly .0 (map-refused (packedWriting p) least _ (sym written ∙ e)),

@@ -5,5 +5,6 @@ pub mod Opening
 pub mod ReadDegas
 pub mod RoundTrip
 pub mod ScreenRaster
+pub mod Tail
 pub mod Whole
 pub mod WriteDegas

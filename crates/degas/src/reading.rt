@@ -90,6 +90,20 @@ fn read_by_buffer(file: &[u8], r: Resolution, area: &mut [u8]) -> ReadAnswer
     )
 }
 
+// The same, with an area cut to the screen.
+fn read_rows(file: &[u8], r: Resolution, area: &mut [u8]) -> ReadAnswer
+    requires { ⌜ length (now file) ≤ packedMost ⌝ }
+    requires { ⌜ screenBytes ≤ length (now area) ⌝ }
+    ensures answer { λ a. ⌜ a ≡ readAnswer (readPacked (now (file .entry)) r) ⌝ }
+    ensures area { λ _. ⌜ now (area .exit) ≡ readArea (readPacked (now (file .entry)) r) (now (area .entry)) ⌝ }
+{
+    // The call of itself keeps read_by_buffer's buffer out of the caller's stack frame.
+    if SCREEN_BYTES < area.len() {
+        return read_rows(file, r, &mut area[..SCREEN_BYTES]);
+    }
+    read_by_buffer(file, r, area)
+}
+
 // A packed file.
 fn read_packed(file: &[u8], r: Resolution, area: &mut [u8]) -> ReadAnswer
     requires { ⌜ screenBytes ≤ length (now area) ⌝ }
@@ -99,12 +113,7 @@ fn read_packed(file: &[u8], r: Resolution, area: &mut [u8]) -> ReadAnswer
     if PACKED_MOST < file.len() {
         return picture::read_refused(outcome::refuse(WRONG_LENGTH));
     }
-    // A longer area is cut to the screen; the call of itself keeps read_by_buffer's buffer out of the caller's stack
-    // frame.
-    if SCREEN_BYTES < area.len() {
-        return read_packed(file, r, &mut area[..SCREEN_BYTES]);
-    }
-    read_by_buffer(file, r, area)
+    read_rows(file, r, area)
 }
 
 // An opened file, raw or packed.

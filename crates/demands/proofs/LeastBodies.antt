@@ -3,23 +3,21 @@
 use mathlib.Core.Path.{_≡_, refl, sym, _∙_}
 use mathlib.Core.Logic.{_↔_}
 use mathlib.Core.List.{List}
-use Prim.Native.Nat.{ℕ, _≤_, _<_}
+use Prim.Native.Nat.{ℕ, _≤_}
 use lib.ListN.{length}
 use Rattle.lists.specs.Bytes.{Bytes}
 use Rattle.outcome.specs.Outcome.{accepted, refuse}
 use Rattle.outcome.specs.Refusal.{noPackedBody}
 use Rattle.resolution.specs.declared.Chosen.the-variants.{Known}
 use Rattle.resolution.specs.declared.Resolution.{Resolution}
-use Rattle.resolution.specs.Shapes.{screenBytes, rasterOf}
+use Rattle.resolution.specs.Shapes.{screenBytes}
 use Rattle.resolution.specs.Choice.{chosen}
-use Rattle.bodies.specs.Unpacks.{UnpacksImage}
 use Rattle.picture.specs.declared.Picture.{Picture}
 use Rattle.picture.specs.Whole.{WholePicture}
 use Rattle.picture.specs.Writing.{Writing, fileBytes}
 use Rattle.degas.specs.declared.Form.the-variants.{Packed}
-use Rattle.degas.specs.Layout.{bodyLimit}
 use Rattle.degas.specs.Writing.{writeDegas}
-use Rattle.degas.specs.LeastBody.{WritesPacked}
+use Rattle.degas.specs.LeastBody.{WritesPacked, NoBodyBelow}
 use Rattle.degas.proofs.LeastBody.{packed-refused-exactly, packed-otherwise}
 use Rattle.writer.specs.Writing.{formPacked, writeFile}
 use Rattle.writer.proofs.Choice.{form-packed}
@@ -31,8 +29,8 @@ module _ (r : Resolution) (p : Picture) (screen : List ℕ) (out : ℕ) (known :
 
   -- "the packed writer refuses, with 9, exactly when no byte string under 32,000 bytes unpacks to that screen at that
   -- resolution"
-  pub refused-exactly : Bytes screen → (writeFile formPacked p screen out ≡ refuse noPackedBody)
-      ↔ ((body : List ℕ) (n : ℕ) → Bytes body → UnpacksImage (rasterOf r) body screen n → length body < bodyLimit → ⊥)
+  pub refused-exactly : Bytes screen
+      → (writeFile formPacked p screen out ≡ refuse noPackedBody) ↔ NoBodyBelow r screen
   refused-exactly bytes =
       let exactly = packed-refused-exactly r p screen out known full room bytes in
       (λ e. exactly .0 (sym by-form ∙ e), λ none. by-form ∙ exactly .1 none)

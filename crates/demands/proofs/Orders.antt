@@ -3,17 +3,18 @@
 use mathlib.Core.Path.{_≡_, refl, sym, ap, _∙_}
 use mathlib.Core.Logic.{_⊎_, inl, inr}
 use mathlib.Core.Bool.{Bool, true, false, not, cond, _&&_, _||_}
-use mathlib.Core.List.{List, [], _∷_}
-use Prim.Native.Nat.{ℕ, zero, suc, _+_, _-_, _≤_, _<_}
+use mathlib.Core.List.{List, [], _∷_, _++_}
+use Prim.Native.Nat.{ℕ, zero, suc, _+_, _-_, _/_, _%_, _≤_, _<_}
 use native.Mathlib.Omega.{arith}
 use lib.ListN.{length, getD, drop}
 use lib.Dec.{ltb, leb, eqb}
-use borrow.Author.Tests.{lt-ltb, le-ltb, leb-true, leb-false, ltb-true, ltb-false, eqb-false, ne-eqb}
+use borrow.Author.Tests.{lt-ltb, le-ltb, leb-true, leb-false, ltb-true, ltb-false, eqb-false, ne-eqb, not-true}
 use Rattle.lists.specs.All.{allFirst}
 use Rattle.lists.proofs.Cond.{cond-elim, cond-eqb, and-true}
 use Rattle.outcome.specs.Outcome.{Outcome, accepted, refused, refusal, refuse, refuseIf, map, bind, placed, refusalOf}
+use Rattle.outcome.specs.Outcome.{Judged}
 use Rattle.outcome.specs.Refusal.{areaTooShort, wrongLength, wrongFlag, unknownResolution, wrongTail, noPackedBody}
-use Rattle.outcome.specs.Refusal.{wrongVersion}
+use Rattle.outcome.specs.Refusal.{wrongVersion, unknownKind, ignoredBitsSet, noZeroTail}
 use Rattle.outcome.specs.Refusal.{outOfRange, undefinedControl, runTooLong, sizeMismatch}
 use Rattle.words.specs.Word.{wordAt}
 use Rattle.packbits.specs.declared.Record.{Record}
@@ -45,6 +46,9 @@ use Rattle.pond.specs.declared.PondCounts.{PondCounts}
 use Rattle.pond.specs.Entries.{confidenceFits, confidencesFit}
 use Rattle.pond.specs.Reading.{pondOf, judgeLegend, pondReading, pondAnswer}
 use Rattle.picture.specs.declared.Picture.{Picture}
+use Rattle.picture.specs.declared.Table.{Table}
+use Rattle.picture.specs.Tables.{tailBytes}
+use Rattle.picture.specs.Whole.{WholeReading}
 use Rattle.picture.specs.Reading.{Reading, readAnswer}
 use Rattle.picture.specs.Writing.{Writing, rawWriting, fileBytes, judgeWriting, writeAnswer}
 use Rattle.degas.specs.declared.Header.{Header}
@@ -54,6 +58,9 @@ use Rattle.degas.specs.Opening as degas-opening
 use Rattle.degas.specs.Reading.{readRaw, packedReading, readPacked, readOpened, readDegas}
 use Rattle.degas.specs.Writing.{packedWriting, writePacked, writeForm, writeDegas}
 use Rattle.degas.proofs.Opening.{headerOf}
+use Rattle.degas.proofs.Tail.{HasTail, degas-tail}
+use Rattle.degas.proofs.Whole.{degas-whole}
+use Rattle.degas.proofs.WriteDegas.{write-passed}
 use Rattle.neochrome.specs.Layout.{fileLength, neochromeFile}
 use Rattle.neochrome.specs.Opening as neochrome-opening
 use Rattle.neochrome.specs.Reading.{neochromeReading, readNeochrome}
@@ -70,6 +77,11 @@ use Rattle.macpaint.specs.Reading.{versionAllowed, readPlate}
 use Rattle.macpaint.specs.Writing.{plateWriting, writePlate}
 use Rattle.reader.specs.Reading.{readFile}
 use Rattle.writer.specs.Writing.{writeFile}
+use Rattle.conversion.specs.declared.Conversion.{Conversion}
+use Rattle.conversion.specs.declared.Conversion.the-variants.{ToElite, ToPlain}
+use Rattle.conversion.specs.Converting.{ignoredBits, zeroTail, plainToElite, eliteToPlain, converted, convert}
+use Rattle.conversion.proofs.Acceptance.{whole-passed}
+use Rattle.conversion.proofs.Elite.{elite-number}
 use Rattle.demands.specs.Orders.{Test, firstRefusal, width, height, registers, rowPackOrder, recordMakes}
 use Rattle.demands.specs.Orders.{recordTakes, recordOrder, recordFaults, rowUnpackOrder, lineOutOrder}
 use Rattle.demands.specs.Orders.{lineInOrder, colourOrder, rectangleTests, tallyOrder, pondOrder, runMakes}
@@ -78,7 +90,8 @@ use Rattle.demands.specs.Orders.{packedTests, degasTests, neochromeTests
 use Rattle.demands.specs.Orders.{dataWords, sectionTests, tinyTests, readOrder, rasterAt, writeOrder, oneOf}
 use Rattle.demands.specs.Orders.{rowPackNumbers, rowUnpackNumbers, colourNumbers, screenNumbers, readNumbers}
 use Rattle.demands.specs.Orders.{writeNumbers, readPlateOrder, writePlateOrder, readPlateNumbers}
-use Rattle.demands.specs.Orders.{writePlateNumbers}
+use Rattle.demands.specs.Orders.{writePlateNumbers, conversionOrder, hasTail, lastTail, toEliteOrder}
+use Rattle.demands.specs.Orders.{toPlainOrder, toEliteNumbers, toPlainNumbers}
 
 -- ---- an outcome judged by tests, in order
 
@@ -608,6 +621,96 @@ module _ (p : Picture) (screen out : List ℕ) where
       Is : Outcome Writing → Type 0
       Is o = writeNumber o ≡ firstRefusal (writeOrder form p screen out)
 
+-- ---- conversions of DEGAS files
+
+-- tests after which others stand: those come where none of the first holds, and none of these has the number 0
+abbrev numbered : List Test → Bool
+numbered [] = true
+numbered (t ∷ rest) = not (eqb (t .1) 0) && numbered rest
+
+first-stands : (tests own : List Test) → (firstRefusal tests ≡ 0 → ⊥) → firstRefusal (tests ++ own) ≡ firstRefusal tests
+first-stands [] own h = absurd (h refl)
+first-stands ((true, n) ∷ rest) own h = refl
+first-stands ((false, n) ∷ rest) own h = first-stands rest own h
+
+first-passes : (tests own : List Test) → numbered tests ≡ true → firstRefusal tests ≡ 0
+    → firstRefusal (tests ++ own) ≡ firstRefusal own
+first-passes [] own all e = refl
+first-passes ((true, n) ∷ rest) own all e =
+    absurd (eqb-false n 0 (not-true (eqb n 0) (and-true (not (eqb n 0)) (numbered rest) all .0)) e)
+first-passes ((false, n) ∷ rest) own all e =
+    first-passes rest own (and-true (not (eqb n 0)) (numbered rest) all .1) e
+
+module _ (file out : List ℕ) where
+  degas-numbered : numbered (degasTests file) ≡ true
+  degas-numbered =
+      cond-elim (λ (tests : List Test). numbered tests ≡ true) (degasPacked file) (λ _. refl) (λ _. refl)
+
+  -- what an accepted reading is judged by afterwards
+  record Accepted (q : Reading) : Type 0 where
+    whole : WholeReading q
+    tail : HasTail file q
+
+  accepted-reading : Judged Accepted (readDegas file screenBytes)
+  accepted-reading = go (readDegas file screenBytes) (degas-whole file screenBytes) (degas-tail file screenBytes)
+    where
+      go : (o : Outcome Reading) → Judged WholeReading o → Judged (HasTail file) o → Judged Accepted o
+      go (accepted q) w t = record { whole = w; tail = t }
+      go (refused why) w t = w
+
+  -- the output, the reading, and what the conversion judges itself
+  conversion-order : (to : Conversion) (own : List Test)
+      → ((q : Reading) → Accepted q → fileBytes ≤ length out
+      → writeNumber (converted to (wordAt file 0) (q .picture) (q .screen) (length out)) ≡ firstRefusal own)
+      → writeNumber (convert to file (length out)) ≡ firstRefusal (conversionOrder file out own)
+  unfolding convert
+  conversion-order to own h =
+      first-test writeNumber (λ n. refl) (ltb (length out) fileBytes) areaTooShort (λ long.
+      go (readDegas file screenBytes) accepted-reading (degas-order file screenBytes)
+      (ltb-false (length out) fileBytes long))
+    where
+      go : (o : Outcome Reading) → Judged Accepted o → readNumber o ≡ firstRefusal (degasTests file)
+          → fileBytes ≤ length out
+          → writeNumber (bind o (λ q. converted to (wordAt file 0) (q .picture) (q .screen) (length out)))
+          ≡ firstRefusal (degasTests file ++ own)
+      go (accepted q) a e room = h q a room ∙ sym (first-passes (degasTests file) own degas-numbered (sym e))
+      go (refused why) number e room = e ∙ sym (first-stands (degasTests file) own (λ z. number (e ∙ z)))
+
+  pub to-elite-order : writeNumber (convert ToElite file (length out)) ≡ firstRefusal (toEliteOrder file out)
+  unfolding plainToElite
+  to-elite-order =
+      conversion-order ToElite _
+      (λ q a room.
+      first-test writeNumber (λ n. refl) (q .picture .«tail_present») unknownKind (λ _.
+      first-test writeNumber (λ n. refl) (not (eqb (ignoredBits (wordAt file 0)) 0)) ignoredBitsSet (λ _.
+      elite-number (a .whole .resolution) (q .picture) (q .screen) (length out)
+      (whole-passed q (a .whole) (length out) room)))
+      ∙ ap (λ (t : Bool). cond t 2 (cond (not (eqb (wordAt file 0 / 4 % 8192) 0)) 17 0)) (a .tail .present))
+
+  -- the tail that was read stands in the file's last 32 bytes
+  zero-last : (q : Reading) → HasTail file q
+      → zeroTail (q .picture) ≡ hasTail file && allFirst 32 (λ b. eqb b 0) (lastTail file)
+  zero-last q t =
+      go (q .picture .«tail_present») refl
+      ∙ ap (λ (present : Bool). present && allFirst 32 (λ b. eqb b 0) (lastTail file)) (t .present)
+    where
+      go : (present : Bool) → q .picture .«tail_present» ≡ present
+          → zeroTail (q .picture) ≡ q .picture .«tail_present» && allFirst 32 (λ b. eqb b 0) (lastTail file)
+      go true e =
+          ap (λ (tail : List Table). q .picture .«tail_present» && allFirst 32 (λ b. eqb b 0) (tailBytes tail))
+          (t .last e)
+      go false e = rw e
+
+  pub to-plain-order : writeNumber (convert ToPlain file (length out)) ≡ firstRefusal (toPlainOrder file out)
+  unfolding eliteToPlain
+  to-plain-order =
+      conversion-order ToPlain _
+      (λ q a room.
+      first-test writeNumber (λ n. refl) (not (zeroTail (q .picture))) noZeroTail (λ _.
+      ap writeNumber
+      (write-passed Plain (q .picture) (q .screen) (length out) (whole-passed q (a .whole) (length out) room)))
+      ∙ ap (λ (zero : Bool). cond (not zero) 18 0) (zero-last q (a .tail)))
+
 -- ---- MacPaint plates
 
 pub read-plate-order : (file plate : List ℕ)
@@ -741,3 +844,18 @@ pub write-plate-numbers : (plate out : List ℕ)
     → oneOf writePlateNumbers (writeNumber (writePlate plate (length out))) ≡ true
 write-plate-numbers plate out =
     in-order writePlateNumbers (writePlateOrder plate out) (write-plate-order plate out) refl
+
+module _ (file out : List ℕ) where
+  pub to-elite-numbers : oneOf toEliteNumbers (writeNumber (convert ToElite file (length out))) ≡ true
+  to-elite-numbers =
+      let own : List Test = (hasTail file, 2) ∷ (not (eqb (wordAt file 0 / 4 % 8192) 0), 17) ∷ [] in
+      in-order toEliteNumbers (toEliteOrder file out) (to-elite-order file out)
+      (cond-elim (λ (tests : List Test). giveOnly toEliteNumbers (tests ++ own) ≡ true) (degasPacked file)
+      (λ _. refl) (λ _. refl))
+
+  pub to-plain-numbers : oneOf toPlainNumbers (writeNumber (convert ToPlain file (length out))) ≡ true
+  to-plain-numbers =
+      let own : List Test = (not (hasTail file && allFirst 32 (λ b. eqb b 0) (lastTail file)), 18) ∷ [] in
+      in-order toPlainNumbers (toPlainOrder file out) (to-plain-order file out)
+      (cond-elim (λ (tests : List Test). giveOnly toPlainNumbers (tests ++ own) ≡ true) (degasPacked file)
+      (λ _. refl) (λ _. refl))

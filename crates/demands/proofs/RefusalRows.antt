@@ -11,6 +11,7 @@ use Rattle.lists.proofs.Cond.{cond-elim, cond-eqb}
 use Rattle.outcome.specs.declared.Refusal.{Refusal}
 use Rattle.outcome.specs.Outcome.{Outcome, accepted, refused, refusal, refuseIf, map, bind, placed, refusalOf}
 use Rattle.outcome.specs.Refusal.{areaTooShort, unknownKind, wrongLength, wrongFlag, unknownResolution, wrongTail}
+use Rattle.outcome.specs.Refusal.{ignoredBitsSet, noZeroTail}
 use Rattle.outcome.specs.Refusal.{inputEnds, recordCrosses, noPackedBody, outOfRange, sizeMismatch, wrongVersion}
 use Rattle.words.specs.Word.{wordAt}
 use Rattle.packbits.specs.Row.{Row, widthOutOfRange, rowAnswer}
@@ -61,6 +62,10 @@ use Rattle.macpaint.specs.Reading.{versionAllowed, readPlate}
 use Rattle.macpaint.specs.Writing.{plateWriting, writePlate}
 use Rattle.reader.specs.Reading.{kindDegas, kindNeochrome, kindTiny, readFile}
 use Rattle.writer.specs.Writing.{formPlain, formElite, formPacked, formNeochrome, writeFile}
+use Rattle.conversion.specs.declared.Conversion.{Conversion}
+use Rattle.conversion.specs.declared.Conversion.the-variants.{ToElite, ToPlain}
+use Rattle.conversion.specs.Converting.{ignoredBits, zeroTail, recover, writeElite, plainToElite, eliteToPlain}
+use Rattle.conversion.specs.Converting.{converted, convert}
 use Rattle.demands.specs.RefusalRows.{BothZero, ZeroUnless, PackedDegas}
 use Rattle.demands.proofs.Answers.{read-answer, body-answer, write-answer, row-answer}
 use Rattle.demands.proofs.Answers.{tally-answer, colour-answer, pond-answer}
@@ -334,12 +339,17 @@ by-writing screen out number next h =
     by-bind (judgeWriting screen out number) next
     (by-areas screen out (by-resolution number (λ r. accepted r) (λ r. accepts r))) h
 
+degas-zero : (form : Form) (p : Picture) (screen : List ℕ) (out : ℕ)
+    → ZeroExcept NoNumber (writeDegas form p screen out)
+unfolding writeDegas
+degas-zero form p screen out =
+    by-writing (length screen) out (p .resolution) (λ r. writeForm form r p screen) (λ r. form-zero form r p screen)
+
 file-zero : (form : ℕ) (p : Picture) (screen : List ℕ) (out : ℕ) → ZeroExcept NoNumber (writeFile form p screen out)
 unfolding writeFile writeDegas writeNeochrome
 file-zero form p screen out =
     let Q : Outcome Writing → Type 0 = λ o. ZeroExcept NoNumber o in
-    let degas : (f : Form) → Q (writeDegas f p screen out) = λ f.
-    by-writing (length screen) out (p .resolution) (λ r. writeForm f r p screen) (λ r. form-zero f r p screen) in
+    let degas : (f : Form) → Q (writeDegas f p screen out) = λ f. degas-zero f p screen out in
     cond-elim Q (eqb form formPlain) (λ _. degas Plain) (λ _.
     cond-elim Q (eqb form formElite) (λ _. degas Elite) (λ _.
     cond-elim Q (eqb form formPacked) (λ _. degas Packed) (λ _.
@@ -352,3 +362,48 @@ pub write-zero : (form : ℕ) (p : Picture) (screen : List ℕ) (out : ℕ)
 write-zero form p screen out =
     let o : Outcome Writing = writeFile form p screen out in
     answer-zero o (write-answer o) (file-zero form p screen out)
+
+-- ---- converting a file: as its reading
+
+-- what holds whatever the number holds of some numbers
+weaken : {Given : ℕ → Type 0} {A : Type 0} {o : Outcome A} → ZeroExcept NoNumber o → ZeroExcept Given o
+weaken p = record { unless = λ _. p .unless (λ none. none) }
+
+by-recover : (number : ℕ) (o other : Outcome Writing) → ZeroExcept NoNumber o → ZeroExcept NoNumber other
+    → ZeroExcept NoNumber (recover number o other)
+by-recover number (accepted w) other p q = accepts w
+by-recover number (refused why) other p q =
+    cond-elim (λ (o : Outcome Writing). ZeroExcept NoNumber o) (eqb (why .number) number) (λ _. q) (λ _. p)
+
+converted-zero : (to : Conversion) (word : ℕ) (p : Picture) (screen : List ℕ) (out : ℕ)
+    → ZeroExcept NoNumber (converted to word p screen out)
+unfolding plainToElite writeElite eliteToPlain
+converted-zero ToElite word p screen out =
+    by-if (p .«tail_present») unknownKind
+    (by-if (not (eqb (ignoredBits word) 0)) ignoredBitsSet
+    (by-recover noPackedBody (writeDegas Packed p screen out) (writeDegas Elite p screen out)
+    (degas-zero Packed p screen out) (degas-zero Elite p screen out)))
+converted-zero ToPlain word p screen out =
+    by-if (not (zeroTail p)) noZeroTail (degas-zero Plain p screen out)
+
+module _ (Given : ℕ → Type 0) where
+  convert-rows : (to : Conversion) (file : List ℕ) (out : ℕ)
+      → (isPacked file ≡ true → (r : Resolution) → ZeroExcept Given (readPacked file r))
+      → ZeroExcept Given (convert to file out)
+  unfolding convert
+  convert-rows to file out packed =
+      by-if (ltb out fileBytes) areaTooShort
+      (by-bind (readDegas file screenBytes) _ (degas-rows Given file screenBytes packed)
+      (λ q. weaken (converted-zero to (wordAt file 0) (q .picture) (q .screen) out)))
+
+pub convert-at-record : (to : Conversion) (file : List ℕ) (out : ℕ)
+    → ZeroUnless AtRecord (writeAnswer (convert to file out) .refusal)
+convert-at-record to file out =
+    let o : Outcome Writing = convert to file out in
+    answer-unless o (write-answer o) (convert-rows AtRecord to file out (λ _. packed-at-record file))
+
+pub convert-otherwise : (to : Conversion) (file : List ℕ) (out : ℕ) → (isPacked file ≡ true → ⊥)
+    → BothZero (writeAnswer (convert to file out) .refusal)
+convert-otherwise to file out other =
+    let o : Outcome Writing = convert to file out in
+    answer-zero o (write-answer o) (convert-rows NoNumber to file out (λ is. absurd (other is)))

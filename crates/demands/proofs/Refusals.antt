@@ -42,6 +42,8 @@ use Rattle.macpaint.specs.Reading.{readPlate}
 use Rattle.macpaint.specs.Writing.{writePlate}
 use Rattle.reader.specs.Reading.{readFile}
 use Rattle.writer.specs.Writing.{writeFile}
+use Rattle.conversion.specs.declared.Conversion.{Conversion}
+use Rattle.conversion.specs.Converting.{convert}
 use Rattle.demands.specs.Refusals.{Kept, RowRefusal, BodyRefusal, BodyReadRefusal, TallyRefusal, ColourRefusal}
 use Rattle.demands.specs.Refusals.{PondRefusal, ReadRefusal, WriteRefusal}
 
@@ -110,6 +112,9 @@ write-degas-refused form p screen out = write-refusal (writeDegas form p screen 
 pub write-neochrome-refused : (p : Picture) (screen out : List ℕ)
     → WriteRefusal (writeNeochrome p screen (length out)) out
 write-neochrome-refused p screen out = write-refusal (writeNeochrome p screen (length out)) out
+
+pub convert-refused : (to : Conversion) (file out : List ℕ) → WriteRefusal (convert to file (length out)) out
+convert-refused to file out = write-refusal (convert to file (length out)) out
 
 pub pack-refused : (row out : List ℕ) → RowRefusal (packRow row (length out)) out
 pack-refused row out = row-refusal (packRow row (length out)) out

@@ -1,9 +1,9 @@
 -- The order of judging of each operation as the papers give it (document 01, "Order of judging", "Numbers given back";
--- document 02, tickets 1 and 9): a list of tests, each with its refusal number. The papers' numbers stand here a second
--- time; that the contracts' definitions judge in these orders is proved (proofs/Orders.antt).
+-- document 02, tickets 1, 7 and 9): a list of tests, each with its refusal number. The papers' numbers stand here a
+-- second time; that the contracts' definitions judge in these orders is proved (proofs/Orders.antt).
 use Prim.Native.Nat.{ℕ, _+_, _-_, _*_, _/_, _%_, _^_}
 use mathlib.Core.Bool.{Bool, false, not, cond, _&&_, _||_}
-use mathlib.Core.List.{List, [], _∷_}
+use mathlib.Core.List.{List, [], _∷_, _++_}
 use lib.ListN.{length, getD, take, drop}
 use lib.Dec.{ltb, leb, eqb}
 use Rattle.lists.specs.All.{allFirst}
@@ -15,6 +15,7 @@ use Rattle.bodies.specs.Packing.{leastBody}
 use Rattle.tally.specs.declared.Rectangle.{Rectangle}
 use Rattle.pond.specs.declared.Legend.{Legend}
 use Rattle.picture.specs.declared.Picture.{Picture}
+use Rattle.picture.specs.Tables.{tailAt, tailBytes}
 use Rattle.tiny.specs.Expansion.{Expansion, expand}
 
 -- a test, and the number of the refusal where it is the first that holds
@@ -240,6 +241,28 @@ writeOrder form p screen out =
     ∷ (eqb form 3 && leb 32000 (length (leastBody (rasterAt (p .resolution)) screen)), 9)
     ∷ []
 
+-- ---- conversions of DEGAS files (document 02, ticket 7)
+
+module _ (file : List ℕ) where
+  -- "below 32,128 it gets 1, then reading refusals apply. .. Refusals after those"
+  abbrev pub conversionOrder : List ℕ → List Test → List Test
+  conversionOrder out own = (ltb (length out) 32128, 1) ∷ (degasTests file ++ own)
+
+  -- a packed file has a tail, and of raw ones that of 32,066 bytes: its words stand in the last 32 bytes
+  abbrev pub hasTail : Bool
+  hasTail = degasPacked file || eqb (length file) 32066
+
+  abbrev pub lastTail : List ℕ
+  lastTail = tailBytes (tailAt file (length file - 32))
+
+  -- "on the way out 2 for a packed file or one with a tail, then 17 for a plain one with those bits set": bits 2 to 14
+  abbrev pub toEliteOrder : List ℕ → List Test
+  toEliteOrder out = conversionOrder out ((hasTail, 2) ∷ (not (eqb (wordAt file 0 / 4 % 8192) 0), 17) ∷ [])
+
+  -- "back, 18 for a tail absent or not all zero"
+  abbrev pub toPlainOrder : List ℕ → List Test
+  toPlainOrder out = conversionOrder out ((not (hasTail && allFirst 32 (λ b. eqb b 0) lastTail), 18) ∷ [])
+
 -- ---- MacPaint plates (document 02, ticket 9)
 
 -- the 720 rows of 72 bytes of a body, which begins at 512
@@ -311,3 +334,9 @@ readPlateNumbers = 0 ∷ 1 ∷ 3 ∷ 6 ∷ 7 ∷ 8 ∷ 20 ∷ []
 
 abbrev pub writePlateNumbers : List ℕ
 writePlateNumbers = 0 ∷ 1 ∷ 9 ∷ []
+
+abbrev pub toEliteNumbers : List ℕ
+toEliteNumbers = 0 ∷ 1 ∷ 2 ∷ 3 ∷ 5 ∷ 6 ∷ 7 ∷ 8 ∷ 17 ∷ []
+
+abbrev pub toPlainNumbers : List ℕ
+toPlainNumbers = 0 ∷ 1 ∷ 3 ∷ 5 ∷ 6 ∷ 7 ∷ 8 ∷ 18 ∷ []

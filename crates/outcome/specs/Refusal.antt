@@ -5,7 +5,7 @@ use Prim.Native.Nat.{ℕ}
 abbrev pub areaTooShort : ℕ
 areaTooShort = 1
 
--- unknown kind or form
+-- unknown kind or form; a file to convert to Elite that is not plain
 abbrev pub unknownKind : ℕ
 unknownKind = 2
 
@@ -52,6 +52,14 @@ runTooLong = 12
 -- after the last run, data left or words missing
 abbrev pub sizeMismatch : ℕ
 sizeMismatch = 13
+
+-- bits 2 to 14 of a plain DEGAS file's first word not all 0
+abbrev pub ignoredBitsSet : ℕ
+ignoredBitsSet = 17
+
+-- a DEGAS file's tail absent or not all zero
+abbrev pub noZeroTail : ℕ
+noZeroTail = 18
 
 -- MacPaint version neither 0 nor 2
 abbrev pub wrongVersion : ℕ

@@ -5,7 +5,7 @@ ghost use Rattle.outcome.specs.Outcome.{none, refusal, rowRefusal};
 // A lent area is too short.
 pub const AREA_TOO_SHORT: u8 = 1;
 
-// The kind of a file to read, or the form of a file to write, is unknown.
+// The kind of a file to read, or the form of a file to write, is unknown; a file to convert to Elite is not plain.
 pub const UNKNOWN_KIND: u8 = 2;
 
 // The file's length is not allowed.
@@ -40,6 +40,12 @@ pub const RUN_TOO_LONG: u8 = 12;
 
 // After the last run there is data left, or words are missing.
 pub const SIZE_MISMATCH: u8 = 13;
+
+// Bits 2 to 14 of a plain DEGAS file's first word are not all 0.
+pub const IGNORED_BITS_SET: u8 = 17;
+
+// A DEGAS file's tail is absent or not all zero.
+pub const NO_ZERO_TAIL: u8 = 18;
 
 // The version of a MacPaint file is neither 0 nor 2.
 pub const WRONG_VERSION: u8 = 20;

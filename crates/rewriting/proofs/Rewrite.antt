@@ -5,7 +5,7 @@ use mathlib.Core.Bool.{true, false≢true}
 use mathlib.Core.List.{List, [], _++_}
 use Prim.Native.Nat.{ℕ, _+_, _/_, _%_, _^_, _≤_}
 use native.Mathlib.Omega.{arith}
-use lib.ListN.{length, drop}
+use lib.ListN.{length, drop, replicate}
 use lib.Seq.{take-all, take-append-seam}
 use borrow.Author.Tests.{lt-leb, eq-eqb}
 use Rattle.lists.specs.Bytes.{Bytes}
@@ -36,10 +36,10 @@ use Rattle.degas.specs.declared.Form.the-variants.{Packed}
 use Rattle.degas.specs.Layout.{paletteStart, headerLength, tailLength, bodyLimit, packedBit, header, packedFile}
 use Rattle.degas.specs.Opening.{isPacked}
 use Rattle.degas.specs.Reading.{readDegas}
-use Rattle.degas.specs.Writing.{packedWriting, writePacked}
+use Rattle.degas.specs.Writing.{packedWriting, writePacked, writeDegas}
 use Rattle.degas.specs.Accepts as fitting
 use Rattle.degas.specs.Accepts.{PackedFits, Fits, packedGiven, fitsGiven}
-use Rattle.degas.proofs.Acceptance.{degas-acceptance}
+use Rattle.degas.proofs.Acceptance.{Given, degas-acceptance}
 use Rattle.degas.proofs.FileLayout.{header-word, length-packedFile}
 use Rattle.degas.proofs.ReadDegas.{read-fits}
 use Rattle.degas.proofs.ScreenRaster.{in-range}
@@ -48,6 +48,11 @@ use Rattle.reader.specs.Reading.{kindDegas, readFile}
 use Rattle.reader.proofs.Choice.{file-degas}
 use Rattle.writer.specs.Writing.{formPacked, writeFile}
 use Rattle.writer.proofs.Choice.{form-packed}
+use Rattle.conversion.specs.declared.Conversion.the-variants.{ToElite, ToPlain}
+use Rattle.conversion.specs.Converting.{writeElite, convert}
+use Rattle.conversion.specs.Accepts.{AcceptsToPlain}
+use Rattle.conversion.proofs.Elite.{elite-packed}
+use Rattle.conversion.proofs.RoundTrip.{to-plain-back}
 use Rattle.demands.proofs.RoundTrips.{written-read}
 use Rattle.rewriting.specs.Rewrite.{Lent, writeRead, rewrite, fileIn, rewritten, ReadsPacked, SamePicture}
 use Rattle.rewriting.specs.Rewrite.{NeverLonger}
@@ -230,6 +235,33 @@ module _ {file : List ℕ} {q : Reading} (bytes : Bytes file) (f : ReadsPacked f
         ∙ ap (fileIn into) (sym (rewrite-read again into lent-again))
         ∙ rewritten-is again into lent-again
         ∙ sym (rewritten-is area out lent)
+
+  -- to plain and to Elite again, where the tail is zero: the rewriting, so accepted, packed and never longer
+  module _ (zero : tailBytes (q .picture .tail) ≡ replicate tailLength 0) where
+    abbrev given : Given file (f .area) q
+    given = degas-acceptance file (f .area) (area-room f) bytes q .0 (sym (by-kind file (f .area)) ∙ f .reads)
+
+    abbrev converts : AcceptsToPlain file
+    converts = record {
+      accepts = given .0;
+      present =
+          ap (λ (b : Reading). b .picture .«tail_present») (sym (given .1) ∙ found .gives);
+      zero = ap (λ (b : Reading). tailBytes (b .picture .tail)) (sym (given .1)) ∙ zero;
+    }
+
+    pub converted-back : (area out : List ℕ) → Lent area out → (plain : ℕ) → fileBytes ≤ plain → (w : Writing)
+        → convert ToPlain file plain ≡ accepted w → convert ToElite (w .file) (length out) ≡ rewrite area out file
+    converted-back area out lent plain room w is =
+        let write : Reading → Outcome Writing = λ b. writeElite (b .picture) (b .screen) (length out) in
+        let r : Resolution = found .r in
+        let fits : PackedFits file r = found .fits in
+        let packed : writeDegas Packed (picture r fits) (fits .image) (length out) ≡ accepted canonical =
+        sym (form-packed formPacked (picture r fits) (fits .image) (length out) refl)
+        ∙ written r fits (fits .image) (omega (arith, size r fits)) refl (length out) (lent .enough) in
+        to-plain-back converts plain room w is (length out) (lent .enough)
+        ∙ ap write (sym (given .1) ∙ found .gives)
+        ∙ elite-packed (picture r fits) (fits .image) (length out) canonical packed
+        ∙ sym (rewrite-is area out lent)
 
 -- ---- two files
 

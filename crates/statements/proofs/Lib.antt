@@ -1,4 +1,5 @@
 pub mod Blank
+pub mod Conversions
 pub mod Plates
 pub mod Reading
 pub mod RoundTrips

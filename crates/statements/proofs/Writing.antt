@@ -25,7 +25,7 @@ use Rattle.degas.specs.Layout.{headerLength, bodyLimit, packedBit, header, pack
 use Rattle.degas.proofs.LeastBody.{bound-attained}
 use Rattle.degas.proofs.ScreenRaster.{in-range}
 use Rattle.degas.proofs.FileLayout.{header-rest}
-use Rattle.degas.specs.LeastBody.{WritesPacked, mostBytes}
+use Rattle.degas.specs.LeastBody.{WritesPacked, mostBytes, NoBodyBelow}
 use Rattle.writer.specs.Writing.{formPacked, writeFile}
 use Rattle.demands.specs.Refusals.{Refuses}
 use Rattle.demands.proofs.LeastBodies.{refused-exactly, written-otherwise}
@@ -33,7 +33,7 @@ use Rattle.demands.proofs.Refusals.{write-refused}
 use Rattle.statements.specs.Areas.{Stated}
 use Rattle.statements.specs.Blank.{blankScreen, blankBody}
 use Rattle.statements.proofs.Blank.{blank-bytes, blank-unpacks, blank-below}
-use Rattle.statements.specs.Writing.{NoBodyBelow, WritesLeast, WritesNothing, Attained, BothOccur}
+use Rattle.statements.specs.Writing.{WritesLeast, WritesNothing, Attained, BothOccur}
 
 module _ (form : ℕ) (p : Picture) (screen out : List ℕ) where
   abbrev outcome : Outcome Writing

@@ -1,5 +1,6 @@
 pub mod Areas
 pub mod Blank
+pub mod Conversions
 pub mod Plates
 pub mod Reading
 pub mod RoundTrips

@@ -8,12 +8,13 @@ use Rattle.outcome.specs.Outcome.{none, refused}
 use Rattle.resolution.specs.declared.Resolution.{Resolution}
 use Rattle.picture.specs.declared.Picture.{Picture}
 use Rattle.picture.specs.Reading.{readAnswer}
+use Rattle.degas.specs.LeastBody.{NoBodyBelow}
 use Rattle.writer.specs.Writing.{formPlain, formElite, formPacked, formNeochrome}
 use Rattle.demands.specs.Refusals.{Refuses}
 use Rattle.demands.specs.RoundTrips.{kindOf, pictureBack}
 use Rattle.statements.specs.declared.RoundTrip.{RoundTrip}
 use Rattle.statements.specs.Reading.{SameRegisters, AnswersRead}
-use Rattle.statements.specs.Writing.{NoBodyBelow, AnswersWrite}
+use Rattle.statements.specs.Writing.{AnswersWrite}
 
 -- forms 1, 2 and 4 are written whatever the screen
 abbrev pub Raw : ℕ → Type 0

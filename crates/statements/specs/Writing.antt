@@ -1,5 +1,5 @@
 -- What writing a picture promises (document 00, demand 3; of a refusal, demand 1).
-use Prim.Native.Nat.{ℕ, _+_, _≤_, _<_}
+use Prim.Native.Nat.{ℕ, _+_, _≤_}
 use mathlib.Core.Path.{_≡_}
 use mathlib.Core.List.{List}
 use lib.ListN.{length, take, drop}
@@ -9,7 +9,7 @@ use Rattle.outcome.specs.Outcome.{none}
 use Rattle.outcome.specs.Refusal.{noPackedBody}
 use Rattle.resolution.specs.declared.Resolution.{Resolution}
 use Rattle.resolution.specs.Shapes.{screenBytes, rasterOf}
-use Rattle.bodies.specs.Unpacks.{UnpacksImage, ShortestBody, LeastBelow}
+use Rattle.bodies.specs.Unpacks.{ShortestBody, LeastBelow}
 use Rattle.picture.specs.declared.Picture.{Picture}
 use Rattle.picture.specs.declared.WriteAnswer.{WriteAnswer}
 use Rattle.picture.specs.Writing.{writeAnswer, writeOutput}
@@ -17,11 +17,6 @@ use Rattle.degas.specs.Layout.{headerLength, tailLength, bodyLimit, packedFile}
 use Rattle.degas.specs.LeastBody.{mostBytes}
 use Rattle.writer.specs.Writing.{writeFile}
 use Rattle.statements.specs.Blank.{blankScreen}
-
--- "no byte string under 32,000 bytes unpacks to that screen at that resolution"
-abbrev pub NoBodyBelow : Resolution → List ℕ → Type 0
-NoBodyBelow r screen =
-    (body : List ℕ) (n : ℕ) → Bytes body → UnpacksImage (rasterOf r) body screen n → length body < bodyLimit → ⊥
 
 -- "it writes the picture's form 3 as document 01 fixes it, row by row; the body unpacks to that screen, and every other
 -- byte string that does has at least as many bytes. It reports that body's length and number of records, and a file

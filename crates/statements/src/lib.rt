@@ -1,6 +1,6 @@
-// The demands of document 00, and those of document 02, ticket 9, said of the operations themselves: each function here
-// only calls public operations, and promises the demand. Nothing is assumed of an argument but its type. The clause
-// `refused` is demand 1, "then no byte of any lent area has changed", and `whole` the complete answer of the
+// The demands of document 00, and those of document 02, tickets 7 and 9, said of the operations themselves: each
+// function here only calls public operations, and promises the demand. Nothing is assumed of an argument but its type.
+// The clause `refused` is demand 1, "then no byte of any lent area has changed", and `whole` the complete answer of the
 // operations. Definitions: specs/.
 ghost use mathlib.Core.Path.{_≡_};
 ghost use mathlib.Core.Logic.{_↔_};
@@ -12,11 +12,17 @@ ghost use Rattle.resolution.specs.declared.Resolution.{Resolution};
 ghost use Rattle.unpack.specs.AcceptsRow.{AcceptsRow};
 ghost use Rattle.macpaint.specs.Accepts.{AcceptsPlate, plateGiven};
 ghost use Rattle.writer.specs.Writing.{formPacked};
+ghost use Rattle.conversion.specs.declared.Conversion.the-variants.{ToElite, ToPlain};
+ghost use Rattle.conversion.specs.Accepts.{AcceptsToElite, AcceptsToPlain};
 ghost use Rattle.demands.specs.Accepted.{Accepts, given};
 ghost use Rattle.demands.specs.Refusals.{Refuses};
 ghost use Rattle.demands.specs.RoundTrips.{kindOf};
-ghost use Rattle.statements.specs.Areas.{HoldsScreen, Stated};
-ghost use Rattle.statements.specs.Blank.{Blank};
+ghost use Rattle.degas.specs.Layout.{plainLength, eliteLength};
+ghost use Rattle.degas.specs.LeastBody.{NoBodyBelow};
+ghost use Rattle.statements.specs.Areas.{HoldsScreen, HoldsFile, Stated};
+ghost use Rattle.statements.specs.Blank.{zeros, Blank};
+ghost use Rattle.statements.specs.Conversions.{WritesEliteFile, WritesPlainFile, AnswersConversion};
+ghost use Rattle.statements.specs.Conversions.{Restores, AnswersRestoring};
 ghost use Rattle.statements.specs.Plates.{HoldsPlate, StatedPlate, ReadsPlate, ReadsNoPlate, AnswersPlateRead};
 ghost use Rattle.statements.specs.Plates.{blankPlateFile, NoPlateBodyBelow, WritesLeastPlate};
 ghost use Rattle.statements.specs.Plates.{PlateNeverAbove, PlateAttained, PlateBothOccur, AnswersPlateWrite};
@@ -25,9 +31,10 @@ ghost use Rattle.statements.specs.Reading.{Reads, ReadsNothing, AnswersR
 ghost use Rattle.statements.specs.RoundTrips.{IsWritten, ReadsBack, AnswersRoundTrip};
 ghost use Rattle.statements.specs.Rows.{Packable, PacksLeast, UnpacksToRow, Unpacked, RowRefused};
 ghost use Rattle.statements.specs.Rows.{AnswersPack, AnswersUnpack};
-ghost use Rattle.statements.specs.Writing.{NoBodyBelow, WritesLeast, NeverAbove, Attained, BothOccur};
+ghost use Rattle.statements.specs.Writing.{WritesLeast, NeverAbove, Attained, BothOccur};
 ghost use Rattle.statements.specs.Writing.{WritesNothing, AnswersWrite};
 use bodies::BodyAnswer;
+use conversion::Conversion;
 use packbits::RowAnswer;
 use picture::Picture;
 use picture::ReadAnswer;
@@ -47,6 +54,12 @@ pub struct RoundTrip {
 pub struct PlateRoundTrip {
     pub written: WriteAnswer,
     pub read: BodyAnswer,
+}
+
+// The answers of a conversion to Elite and of the conversion back.
+pub struct ConversionRoundTrip {
+    pub to_elite: WriteAnswer,
+    pub to_plain: WriteAnswer,
 }
 
 // Demand 2: "Given a lent area of the stated size, a file of a known kind is accepted exactly when its flag and
@@ -216,4 +229,59 @@ pub fn write_and_read_plate(plate: &[u8], out: &mut [u8], area: &mut [u8]) -> Pl
     let length = written.length;
     let read = macpaint::read(&out[..length], area);
     PlateRoundTrip { written, read }
+}
+
+// Document 02, ticket 7: "The plain DEGAS shelf becomes Elite packed where a packed body exists, Elite raw where number
+// 9 would come, with a zero tail." Accepted are exactly the plain files with bits 2 to 14 of the first word 0, among
+// them the blank one.
+pub fn convert_to_elite(file: &[u8], out: &mut [u8]) -> WriteAnswer
+    ensures exactly { λ a.
+        ⌜ (HoldsFile (now (out .entry)) → (a .refusal .number ≡ 0) ↔ AcceptsToElite (now (file .entry))) ⌝ }
+    ensures accepted { λ a.
+        ⌜ (HoldsFile (now (out .entry)) → (plain : AcceptsToElite (now (file .entry)))
+        → WritesEliteFile plain a (now (out .entry)) (now (out .exit))) ⌝ }
+    ensures blank { λ a.
+        ⌜ (HoldsFile (now (out .entry)) → now (file .entry) ≡ zeros plainLength → a .refusal .number ≡ 0) ⌝ }
+    ensures refused { λ a. ⌜ (Refuses (a .refusal) → WritesNothing a (now (out .entry)) (now (out .exit))) ⌝ }
+    ensures whole { λ a. ⌜ AnswersConversion ToElite (now (file .entry)) a (now (out .entry)) (now (out .exit)) ⌝ }
+{
+    conversion::convert(Conversion::ToElite, file, out)
+}
+
+// The way back: accepted are exactly the Elite files, raw or packed, with a zero tail; the blank raw one is among them,
+// though its screen could be packed.
+pub fn convert_to_plain(file: &[u8], out: &mut [u8]) -> WriteAnswer
+    ensures exactly { λ a.
+        ⌜ (HoldsFile (now (out .entry)) → (a .refusal .number ≡ 0) ↔ AcceptsToPlain (now (file .entry))) ⌝ }
+    ensures accepted { λ a.
+        ⌜ (HoldsFile (now (out .entry)) → (elite : AcceptsToPlain (now (file .entry)))
+        → WritesPlainFile elite a (now (out .entry)) (now (out .exit))) ⌝ }
+    ensures blank { λ a.
+        ⌜ (HoldsFile (now (out .entry)) → now (file .entry) ≡ zeros eliteLength → a .refusal .number ≡ 0) ⌝ }
+    ensures refused { λ a. ⌜ (Refuses (a .refusal) → WritesNothing a (now (out .entry)) (now (out .exit))) ⌝ }
+    ensures whole { λ a. ⌜ AnswersConversion ToPlain (now (file .entry)) a (now (out .entry)) (now (out .exit)) ⌝ }
+{
+    conversion::convert(Conversion::ToPlain, file, out)
+}
+
+// Document 02, ticket 7: "The way back must restore each plain file byte for byte, given that bits 2 to 14 of its first
+// word were 0." The Elite file is the first output's front, as long as the conversion answers; where that is refused
+// nothing is converted back.
+pub fn convert_and_back(file: &[u8], out: &mut [u8], into: &mut [u8]) -> ConversionRoundTrip
+    ensures restored { λ b.
+        ⌜ (HoldsFile (now (out .entry)) → HoldsFile (now (into .entry)) → AcceptsToElite (now (file .entry))
+        → Restores (now (file .entry)) b (now (into .entry)) (now (into .exit))) ⌝ }
+    ensures whole { λ b.
+        ⌜ AnswersRestoring (now (file .entry)) b (now (out .entry)) (now (out .exit)) (now (into .entry))
+        (now (into .exit)) ⌝ }
+{
+    let to_elite = conversion::convert(Conversion::ToElite, file, out);
+    let why = to_elite.refusal;
+    if why.number != 0 {
+        let to_plain = picture::write_refused(why);
+        return ConversionRoundTrip { to_elite, to_plain };
+    }
+    let length = to_elite.length;
+    let to_plain = conversion::convert(Conversion::ToPlain, &out[..length], into);
+    ConversionRoundTrip { to_elite, to_plain }
 }

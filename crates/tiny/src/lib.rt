@@ -434,7 +434,7 @@ fn put_screen(made: &[u8], area: &mut [u8])
 
 // The runs of a file whose sections have their lengths, expanded into bytes of the reader's own and then put into the
 // area.
-fn read_runs(file: &[u8], area: &mut [u8]) -> ReadAnswer
+fn read_by_buffer(file: &[u8], area: &mut [u8]) -> ReadAnswer
     requires { ⌜ length (now file) ≡ controlStart (now file) + bodyLength (now file) ⌝ }
     requires { ⌜ screenBytes ≤ length (now area) ⌝ }
     ensures answer { λ r. ⌜ r ≡ readAnswer (readRuns (now (file .entry)) (expanded (now (file .entry)))) ⌝ }
@@ -459,6 +459,22 @@ fn read_runs(file: &[u8], area: &mut [u8]) -> ReadAnswer
     picture::read_done(picture_of(file), file.len() - start, done.runs)
 }
 
+// The same, with an area cut to the screen.
+fn read_runs(file: &[u8], area: &mut [u8]) -> ReadAnswer
+    requires { ⌜ length (now file) ≡ controlStart (now file) + bodyLength (now file) ⌝ }
+    requires { ⌜ screenBytes ≤ length (now area) ⌝ }
+    ensures answer { λ r. ⌜ r ≡ readAnswer (readRuns (now (file .entry)) (expanded (now (file .entry)))) ⌝ }
+    ensures area { λ _.
+        ⌜ now (area .exit)
+        ≡ readArea (readRuns (now (file .entry)) (expanded (now (file .entry)))) (now (area .entry)) ⌝ }
+{
+    // The call of itself keeps read_by_buffer's bytes out of the caller's stack frame.
+    if SCREEN_BYTES < area.len() {
+        return read_runs(file, &mut area[..SCREEN_BYTES]);
+    }
+    read_by_buffer(file, area)
+}
+
 // A file with an allowed resolution byte: the length that its counts give is judged.
 fn read_sections(file: &[u8], area: &mut [u8]) -> ReadAnswer
     requires { ⌜ screenBytes ≤ length (now area) ⌝ }
@@ -471,10 +487,6 @@ fn read_sections(file: &[u8], area: &mut [u8]) -> ReadAnswer
     }
     if file.len() - start != body_length(file) {
         return picture::read_refused(outcome::refuse(WRONG_LENGTH));
-    }
-    // A longer area is cut to the screen; the call of itself keeps read_runs' bytes out of the caller's stack frame.
-    if SCREEN_BYTES < area.len() {
-        return read_sections(file, &mut area[..SCREEN_BYTES]);
     }
     read_runs(file, area)
 }

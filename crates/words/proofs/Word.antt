@@ -1,13 +1,14 @@
 -- Laws of words and their bytes: each is made from the other, and words that were written as bytes are read again from
 -- where they stand.
-use mathlib.Core.Path.{_≡_, refl, sym, ap, _∙_}
-use mathlib.Core.List.{List, _∷_, _++_}
+use mathlib.Core.Path.{_≡_, refl, sym, ap, ap₂, _∙_}
+use mathlib.Core.List.{List, _∷_, _++_, flatten, append-assoc}
 use Prim.Native.Nat.{ℕ, zero, suc, _+_, _*_, _/_, _%_, _≤_, _<_}
 use native.Mathlib.Nat.{add-zero, div-add-mod'}
+use native.Mathlib.Numerals.{add-one}
 use native.Mathlib.Omega.{arith}
 use lib.Arith.{digits-div, digits-mod}
-use lib.ListN.{length, getD, take}
-use lib.Seq.{take-all, getD-at, getD-append-add}
+use lib.ListN.{length, getD, take, drop}
+use lib.Seq.{take-all, drop-cons, getD-at, getD-append-add}
 use Rattle.lists.specs.Bytes.{Bytes}
 use Rattle.lists.specs.Tabulate.{tabulate}
 use Rattle.lists.proofs.Flatten.{length-flatten, piece-back}
@@ -26,6 +27,33 @@ module _ (s : List ℕ) (bytes : Bytes s) where
       digits-div (getD s at 0) (bytes (at + 1)) ∙ ap (λ (m : ℕ). getD s m 0) (sym (add-zero at))
   wordBytes-wordAt at (suc zero) l = digits-mod (getD s at 0) (bytes (at + 1))
   wordBytes-wordAt at (suc (suc h)) l = absurd (omega arith)
+
+  -- the bytes of a word that was read, and what follows it
+  pub word-restored : (at : ℕ) → at + 2 ≤ length s → wordBytes (wordAt s at) ++ drop (at + 2) s ≡ drop at s
+  unfolding wordBytes wordAt
+  word-restored at h =
+      let one : at + 1 ≡ suc at = add-one at in
+      let two : at + 2 ≡ suc (suc at) = omega arith in
+      sym (
+      drop-cons s at 0 (omega arith)
+      ∙ ap (λ (l : List ℕ). getD s at 0 ∷ l) (drop-cons s (suc at) 0 (omega arith))
+      ∙ rw (two, sym one, digits-div (getD s at 0) (bytes (at + 1)), digits-mod (getD s at 0) (bytes (at + 1)))
+      )
+
+  -- the same of n words
+  pub words-restored : (n at : ℕ) → at + n * 2 ≤ length s
+      → wordsBytes (wordsAt n s at) ++ drop (at + n * 2) s ≡ drop at s
+  unfolding wordsBytes wordsAt tabulate flatten
+  words-restored zero at h = let z : at + zero * 2 ≡ at = omega arith in ap (λ (k : ℕ). drop k s) z
+  words-restored (suc n) at h =
+      let more : at + suc n * 2 ≡ at + 2 + n * 2 = omega arith in
+      let rest : tabulate n (λ k. wordAt s (at + suc k * 2)) ≡ wordsAt n s (at + 2) =
+      tabulate-ext n _ _ (λ k l. let e : at + suc k * 2 ≡ at + 2 + k * 2 = omega arith in ap (wordAt s) e) in
+      let first : at + 0 * 2 ≡ at = omega arith in
+      ap₂ (λ (ws : List ℕ) (k : ℕ). (wordBytes (wordAt s (at + 0 * 2)) ++ wordsBytes ws) ++ drop k s) rest more
+      ∙ append-assoc (wordBytes (wordAt s (at + 0 * 2))) (wordsBytes (wordsAt n s (at + 2))) (drop (at + 2 + n * 2) s)
+      ∙ ap₂ (λ (k : ℕ) (l : List ℕ). wordBytes (wordAt s k) ++ l) first (words-restored n (at + 2) (omega arith))
+      ∙ word-restored at (omega arith)
 
 pub length-wordsBytes : (ws : List ℕ) → length (wordsBytes ws) ≡ length ws * 2
 unfolding wordBytes wordsBytes

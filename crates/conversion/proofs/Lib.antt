@@ -1,0 +1,4 @@
+pub mod Acceptance
+pub mod Converting
+pub mod Elite
+pub mod RoundTrip

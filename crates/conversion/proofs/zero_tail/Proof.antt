@@ -1,0 +1,68 @@
+-- `conversion::zero_tail` meets its contract: the first i bytes are judged.
+use mathlib.Core.Path.{_≡_, _∙_}
+use mathlib.Core.Bool.{Bool}
+use mathlib.Core.Logic.{⊎-elim}
+use native.Mathlib.Omega.{arith}
+use Prim.Native.Nat.{ℕ, _≤_, _-_}
+use lib.Dec.{eqb}
+use borrow.Author.Needs.{needs}
+use borrow.Author.Tests.{eq-eqb, ne-eqb, not-true, not-false}
+use Rattle.lists.specs.All.{allFirst}
+use Rattle.lists.proofs.All.{allFirst-start, allFirst-fails, allFirst-passes}
+use Rattle.degas.specs.Layout.{tailLength}
+use Rattle.conversion.proofs.zero_tail.Statement.{statement}
+use Rattle.conversion.proofs.zero_tail.Tie as tie
+
+abbrev isZero : ℕ → Bool
+isZero b = eqb b 0
+
+abbrev Inv-loop : tie.InvT-loop
+Inv-loop bytes zero₀ i₀ zero i = (i ≤ tailLength) × (zero ≡ allFirst i isZero bytes)
+
+abbrev μ-loop : tie.MeasureT-loop
+μ-loop bytes zero₀ i₀ zero i = tailLength - i
+
+loop-holds : tie.Need-loop-holds Inv-loop μ-loop
+loop-holds c = (search needs, allFirst-start isZero _)
+
+add-i : tie.Need-add-i Inv-loop μ-loop
+add-i c = omega arith
+
+loop-less : tie.Need-loop-less Inv-loop μ-loop
+loop-less c = omega arith
+
+loop-again : tie.Need-loop-again Inv-loop μ-loop
+loop-again c =
+    let l = c .before .before .loop in (
+      omega arith,
+      ⊎-elim
+          (λ w. w .1 ∙ allFirst-fails isZero _ (l .i) (ne-eqb _ _ (w .0 .taken)))
+          (λ w. w .1 ∙ allFirst-passes isZero _ (l .i) (l .zero) (eq-eqb _ _ (w .0 .left)) (l .inv .1))
+          (c .if2 .came),
+    )
+
+returns : tie.Need-returns Inv-loop μ-loop
+returns c = rw (not-true (c .before .before .args .picture .«tail_present») (c .if1 .taken))
+
+returns-2 : tie.Need-returns-2 Inv-loop μ-loop
+returns-2 c =
+    let l = c .before .loop in
+    let e : l .i ≡ tailLength = omega arith in
+    let e1 = c .before .before .before .before in
+    let present = not-false (e1 .before .before .args .picture .«tail_present») (e1 .if1 .left) in
+    rw (l .inv .1, e, c .before .before .tail-bytes .ensures, present)
+
+pub zero-tail-spec : {M : Type 1} → statement M
+zero-tail-spec =
+    tie.close
+    (tie.spec
+    Inv-loop
+    μ-loop
+    returns
+    (λ c κs. search needs)
+    loop-holds
+    (λ c. search needs)
+    add-i
+    loop-less
+    loop-again
+    returns-2)
