@@ -35,9 +35,9 @@ extern "C" {
 #endif
 
 #define KUTIMUQ_VERSION_MAJOR 0
-#define KUTIMUQ_VERSION_MINOR 3
+#define KUTIMUQ_VERSION_MINOR 4
 #define KUTIMUQ_VERSION_PATCH 0
-#define KUTIMUQ_VERSION "0.3.0"
+#define KUTIMUQ_VERSION "0.4.0"
 
 /* The answer must be looked at; no pointer may be null. */
 #ifdef __GNUC__
@@ -52,7 +52,8 @@ extern "C" {
 enum KutimuqNumber {
     KUTIMUQ_ACCEPTED = 0,
     KUTIMUQ_AREA_TOO_SHORT = 1,
-    /* Unknown kind (reading) or form (writing). */
+    /* Unknown kind (reading) or form (writing); a DEGAS file that is packed or
+       has a tail, where a plain one is needed. */
     KUTIMUQ_UNKNOWN_KIND = 2,
     KUTIMUQ_WRONG_LENGTH = 3,
     KUTIMUQ_WRONG_FLAG = 4,
@@ -77,6 +78,11 @@ enum KutimuqNumber {
     KUTIMUQ_RUN_TOO_LONG = 12,
     /* Of a Tiny file. */
     KUTIMUQ_SIZE_MISMATCH = 13,
+    /* Of a plain DEGAS file to convert: reading ignores them, and no Elite file
+       would keep them. */
+    KUTIMUQ_IGNORED_BITS_SET = 17,
+    /* Of a DEGAS file to convert to plain, which has no tail. */
+    KUTIMUQ_NO_ZERO_TAIL = 18,
     /* Of a MacPaint file. */
     KUTIMUQ_WRONG_VERSION = 20
 };
@@ -113,6 +119,10 @@ static inline const char *kutimuq_meaning(uint8_t number)
         return "a count cut short, or a run past the words to make or the data";
     case KUTIMUQ_SIZE_MISMATCH:
         return "data left or words missing after the last run";
+    case KUTIMUQ_IGNORED_BITS_SET:
+        return "bits 2 to 14 of a plain file's first word not 0";
+    case KUTIMUQ_NO_ZERO_TAIL:
+        return "a tail absent or not all zero";
     case KUTIMUQ_WRONG_VERSION:
         return "MacPaint version neither 0 nor 2";
     default:
@@ -136,7 +146,7 @@ enum {
     KUTIMUQ_SCREEN_BYTES = 32000,      /* a screen */
     KUTIMUQ_LONGEST_FILE = 32128,      /* a DEGAS or NEOchrome file that can be accepted */
     KUTIMUQ_LONGEST_TINY_FILE = 48041, /* a Tiny file that can be accepted: a run for each word */
-    KUTIMUQ_WRITE_AREA_BYTES = 32128,  /* the output lent for any form */
+    KUTIMUQ_WRITE_AREA_BYTES = 32128,  /* the output lent for any form, and for converting */
     KUTIMUQ_WIDEST_LINE = 640,         /* the registers of a scan line */
     KUTIMUQ_WIDEST_ROW = 128,          /* a row to pack or unpack */
     KUTIMUQ_PACK_AREA_BYTES = 129,     /* the output lent for a packed row */
@@ -165,9 +175,10 @@ static inline KutimuqShape kutimuq_shape(uint16_t resolution)
 }
 
 /* Why an input is refused; all 0 in an accepted answer. Plane row and good bytes
-   come with numbers 6 and 7 only and are 0 otherwise: reading a file gives both,
-   unpacking a row gives good bytes, and plane row 0. By themselves row 0 with 0
-   bytes cannot be told from "not given": the number tells. */
+   come with numbers 6 and 7 only and are 0 otherwise: reading or converting a
+   file gives both, unpacking a row gives good bytes, and plane row 0. By
+   themselves row 0 with 0 bytes cannot be told from "not given": the number
+   tells. */
 typedef struct KutimuqRefusal {
     uint8_t number;
     size_t place;
@@ -384,6 +395,32 @@ KutimuqReadAnswer kutimuq_read(uint8_t kind, const uint8_t *file, size_t file_le
 KUTIMUQ_MUST_USE KUTIMUQ_NONNULL
 KutimuqWriteAnswer kutimuq_write(uint8_t form, KutimuqPicture picture, const uint8_t *screen,
                                  size_t screen_len, uint8_t *out, size_t out_len);
+
+/*
+ * Converts a plain DEGAS file to DEGAS Elite with a tail of zeros, to the front
+ * of `out`: packed (form 3), or raw (form 2) exactly where no packed body below
+ * 32,000 bytes exists; body and records are then 0. Output past the file is
+ * unchanged. kutimuq_to_plain of the result gives the plain file back, byte for
+ * byte.
+ * Refusals in order: 1 output below 32,128 bytes, those of reading DEGAS (3, 5,
+ * 3, 6 or 7, 8), 2 for a packed file or one with a tail, 17. A call takes under
+ * 1,000 bytes of stack where the output is too short, about 67,000 where the file
+ * is packed, else about 34,000: a screen of its own besides what reading takes.
+ */
+KUTIMUQ_MUST_USE KUTIMUQ_NONNULL
+KutimuqWriteAnswer kutimuq_to_elite(const uint8_t *file, size_t file_len, uint8_t *out,
+                                    size_t out_len);
+
+/*
+ * Converts a DEGAS Elite file, raw or packed, with a tail of zeros to plain DEGAS
+ * (form 1), to the front of `out`; output past the file is unchanged. Bits 2 to
+ * 14 of its first word are ignored.
+ * Refusals in order: 1 output below 32,128 bytes, those of reading DEGAS (3, 5,
+ * 3, 6 or 7, 8), 18. Stack as for kutimuq_to_elite.
+ */
+KUTIMUQ_MUST_USE KUTIMUQ_NONNULL
+KutimuqWriteAnswer kutimuq_to_plain(const uint8_t *file, size_t file_len, uint8_t *out,
+                                    size_t out_len);
 
 /*
  * Reads a MacPaint file: 512 bytes of header, then the packed rows. The plate

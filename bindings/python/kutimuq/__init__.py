@@ -8,7 +8,7 @@
 Each name is imported at its first use.
 """
 
-__version__ = "0.3.0"
+__version__ = "0.4.0"
 
 # Public name: the module that has it.
 _PUBLIC = {
@@ -17,14 +17,14 @@ _PUBLIC = {
     "Colour": "index",
     "Entry": "index",
     "File": "pictures",
-    "Form": "enumerations",
-    "Kind": "enumerations",
+    "Form": "files",
+    "Kind": "files",
     "LibraryMissing": "library",
     "Picture": "pictures",
     "Plate": "pictures",
     "Pond": "index",
     "Rectangle": "pictures",
-    "RefusalNumber": "enumerations",
+    "RefusalNumber": "library",
     "Refused": "library",
     "Row": "pictures",
     "Tail": "pictures",
@@ -43,6 +43,8 @@ _PUBLIC = {
     "registers": "pictures",
     "screen_from_registers": "pictures",
     "tally": "index",
+    "to_elite": "pictures",
+    "to_plain": "pictures",
     "unpack_row": "pictures",
     "write": "pictures",
     "write_plate": "pictures",

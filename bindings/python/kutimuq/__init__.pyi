@@ -1,8 +1,7 @@
 """What type checkers see of the names that __init__.py imports at their first use."""
 
-from .enumerations import Form as Form
-from .enumerations import Kind as Kind
-from .enumerations import RefusalNumber as RefusalNumber
+from .files import Form as Form
+from .files import Kind as Kind
 from .files import find_kind as find_kind
 from .images import BadImage as BadImage
 from .index import BadText as BadText
@@ -14,6 +13,7 @@ from .index import pond as pond
 from .index import read_legend as read_legend
 from .index import tally as tally
 from .library import LibraryMissing as LibraryMissing
+from .library import RefusalNumber as RefusalNumber
 from .library import Refused as Refused
 from .pictures import File as File
 from .pictures import Picture as Picture
@@ -31,6 +31,8 @@ from .pictures import read as read
 from .pictures import read_plate as read_plate
 from .pictures import registers as registers
 from .pictures import screen_from_registers as screen_from_registers
+from .pictures import to_elite as to_elite
+from .pictures import to_plain as to_plain
 from .pictures import unpack_row as unpack_row
 from .pictures import write as write
 from .pictures import write_plate as write_plate

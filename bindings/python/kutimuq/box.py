@@ -1,4 +1,8 @@
-"""A box of files: each judged, hashed and listed, with duplicates found and an interrupted run taken up again."""
+"""A box of files, a line and a record for each.
+
+Files are judged, hashed and listed, with duplicates found and an interrupted run taken up again; or DEGAS files are
+converted, plain to Elite or back.
+"""
 
 from __future__ import annotations
 
@@ -11,24 +15,29 @@ from contextlib import ExitStack
 from errno import EEXIST
 from hashlib import sha256
 
-from .enumerations import Form, RefusalNumber
 from .files import (
     ERROR,
-    KIND_DEGAS,
+    FORMS,
+    KINDS,
+    UNKNOWN,
+    Form,
     Found,
+    Kind,
     Output,
     complain,
     decision,
+    degas_form,
     degas_resolution,
     find_kind,
     give_text,
     is_stream,
     kind_titled,
+    put,
     shown,
     take,
     title_of,
 )
-from .library import Refused, good_part, library, meaning_of
+from .library import RefusalNumber, Refused, good_part, library, meaning_of
 from .pictures import Picture, Plate, read_any, write, write_plate
 
 # What a record holds, in the order of the CSV file. A record is a dict, so that it can be a line of JSON.
@@ -51,10 +60,31 @@ COLUMNS = (
     "same_as",
     "error",
 )
+# The same for a file to convert: result, form, length, records and body are of the file that was written.
+CONVERTED_COLUMNS = (
+    "name",
+    "bytes",
+    "kind",
+    "kind_by",
+    "resolution",
+    "number",
+    "place",
+    "meaning",
+    "plane_row",
+    "good_bytes",
+    "result",
+    "form",
+    "length",
+    "records",
+    "body",
+    "error",
+)
 KEPT = (*COLUMNS, "modified")  # what every record has, so that an interrupted run can be taken up
 CHUNK = 32  # files handed to a process at once
 FEW = 200  # files that one process is quicker with
 BAR = 30  # characters of the progress bar
+ACCEPTED_FIELDS = {"number": 0, "place": 0, "meaning": meaning_of(RefusalNumber.ACCEPTED)}
+ONE_EXTENSION = "plain and raw Elite files have the same extension: -o puts them apart"
 
 
 def files_in(paths, complaint=complain) -> tuple[list[str], bool]:
@@ -75,7 +105,21 @@ def files_in(paths, complaint=complain) -> tuple[list[str], bool]:
 
 def judge(name: str, kind: int | None = None) -> dict:
     """The record of one file."""
-    record = dict.fromkeys(KEPT)
+    record, data, kind = opened(name, kind, COLUMNS)
+    if record["error"] is not None:
+        return record
+    try:
+        picture = read_any(data, kind)
+    except Refused as refusal:
+        record.update(refused_fields(refusal, data, kind))
+        return record
+    record.update(accepted_fields(picture))
+    return record
+
+
+def opened(name: str, kind: int | None, columns: tuple[str, ...]) -> tuple[dict, bytes, int]:
+    """A file's record with what is known before it is judged, its bytes, and the kind that is given or found."""
+    record = dict.fromkeys((*columns, "modified"))
     record["name"] = name
     try:
         status = os.stat(name)
@@ -85,23 +129,17 @@ def judge(name: str, kind: int | None = None) -> dict:
         data = take(name)
     except OSError as error:
         record["error"] = error.strerror or str(error)
-        return record
+        return record, b"", UNKNOWN
     found = Found(kind, "option") if kind is not None else find_kind(data, name)
     record.update(kind=title_of(found.kind), kind_by=found.by)
-    try:
-        picture = read_any(data, found.kind)
-    except Refused as refusal:
-        record.update(refused_fields(refusal, data, found.kind))
-        return record
-    record.update(accepted_fields(picture))
-    return record
+    return record, data, found.kind
 
 
 def refused_fields(refusal: Refused, data: bytes, kind: int) -> dict:
     """What a record says about a refused file."""
     return {
         # A DEGAS file that is refused in a plane row is a packed one of a known resolution.
-        "resolution": degas_resolution(data) if refusal.in_row and kind == KIND_DEGAS else None,
+        "resolution": degas_resolution(data) if refusal.in_row and kind == Kind.DEGAS else None,
         "number": refusal.number,
         "place": refusal.place,
         "meaning": refusal.meaning,
@@ -116,9 +154,7 @@ def accepted_fields(picture: Picture | Plate) -> dict:
     fields = {
         "records": picture.records,
         "body": picture.body,
-        "number": int(RefusalNumber.ACCEPTED),
-        "place": 0,
-        "meaning": meaning_of(RefusalNumber.ACCEPTED),
+        **ACCEPTED_FIELDS,
         "form": None if form is None else int(form),
         "sha256": sha256(file).hexdigest(),
     }
@@ -281,16 +317,10 @@ class Check:
 
 
 def line_of(record: dict) -> str:
-    """A record as a line for people."""
-    name = shown(record["name"])
-    if record["error"] is not None:
-        return f"{name}: not read: {record['error']}"
-    known = decision(record["kind"], record["kind_by"])
-    if record["number"]:
-        in_row = record["plane_row"] is not None
-        facts = f"{good_part(record['plane_row'], record['good_bytes'])}; {known}" if in_row else known
-        return f"{name}: refused {record['number']} at {record['place']}: {record['meaning']} ({facts})"
-    line = f"{name}: accepted: {known}"
+    """The record of a judged file as a line for people."""
+    if record["number"] != RefusalNumber.ACCEPTED:
+        return bad_line(record)
+    line = f"{shown(record['name'])}: accepted: {decision(record['kind'], record['kind_by'])}"
     if record["resolution"] is not None:
         line += f", resolution {record['resolution']}"
     if record["records"]:
@@ -300,19 +330,32 @@ def line_of(record: dict) -> str:
     return line
 
 
+def bad_line(record: dict) -> str:
+    """The line of a file that was not read or was refused."""
+    name = shown(record["name"])
+    if record["error"] is not None:
+        return f"{name}: not read: {record['error']}"
+    facts = [decision(record["kind"], record["kind_by"])]
+    if record["plane_row"] is not None:
+        facts.insert(0, good_part(record["plane_row"], record["good_bytes"]))
+    elif record["number"] == RefusalNumber.UNKNOWN_KIND and kind_titled(record["kind"]) == Kind.DEGAS:
+        facts.insert(0, "packed or with a tail")  # where a plain file is needed
+    return f"{name}: refused {record['number']} at {record['place']}: {record['meaning']} ({'; '.join(facts)})"
+
+
 def write_json(output: Output, records: list[dict]) -> None:
     """The records as JSON lines."""
     for record in records:
         output.write(json_line(record))
 
 
-def write_csv(output: Output, records: list[dict]) -> None:
+def write_csv(output: Output, records: list[dict], columns: tuple[str, ...] = COLUMNS) -> None:
     """The records as CSV, UTF-8, with a header."""
     import csv
     import io
 
     text = io.StringIO(newline="")
-    table = csv.DictWriter(text, COLUMNS, extrasaction="ignore", lineterminator="\n")
+    table = csv.DictWriter(text, columns, extrasaction="ignore", lineterminator="\n")
     table.writeheader()
     for record in records:
         table.writerow({key: int(value) if isinstance(value, bool) else value for key, value in record.items()})
@@ -408,3 +451,110 @@ def keep_results(check: Check, options, legend, outputs: dict[str, Output], jobs
             output.keep()
     if check.journal is not None:
         check.journal.remove()
+
+
+# DEGAS files converted.
+
+
+def to_convert(paths, folder: str | None) -> tuple[dict[str, str], bool]:
+    """The files in folders and below, each with the folder of its result; and whether everything could be listed."""
+    found: dict[str, str] = {}
+    all_listed = True
+    for path in paths:
+        names, listed = files_in([path])
+        all_listed = all_listed and listed
+        for name in names:
+            found.setdefault(name, result_folder(name, path, folder))
+    return found, all_listed
+
+
+def result_folder(name: str, path: str, folder: str | None) -> str:
+    """The file's own folder, or, in the one for results, as far below as the file is below the path that was named."""
+    own = os.path.dirname(name)
+    if folder is None:
+        return own
+    below = os.path.relpath(own, path) if name != path else os.curdir
+    return folder if below == os.curdir else os.path.join(folder, below)
+
+
+def convert(name: str, folder: str, conversion) -> dict:
+    """Converts one file into a folder and gives its record; the conversion is to_elite or to_plain.
+
+    The conversion judges every file; the kind that the content shows is only told.
+    """
+    record, data, _ = opened(name, None, CONVERTED_COLUMNS)
+    if record["error"] is not None:
+        return record
+    try:
+        file = conversion(data)
+    except Refused as refusal:
+        record.update(refused_fields(refusal, data, Kind.DEGAS))
+        return record
+    form, resolution = degas_form(file), degas_resolution(file)
+    result = os.path.join(folder, result_name(name, FORMS[form][resolution]))
+    record.update(ACCEPTED_FIELDS)
+    try:
+        os.makedirs(folder or os.curdir, exist_ok=True)
+        put(result, file, new=True)
+    except OSError as error:
+        hint = f" ({ONE_EXTENSION})" if result == name else ""
+        record["error"] = f"{shown(result)}: {error.strerror or error}{hint}"
+        return record
+    record.update(resolution=resolution, result=result, form=int(form), length=len(file))
+    record.update(records=file.records, body=file.body)
+    return record
+
+
+def result_name(name: str, extension: str) -> str:
+    """The name of a file's result, with this extension in place of another of DEGAS.
+
+    It is in the case of the one that it replaces, or of the whole name where there is none to replace.
+    """
+    base = os.path.basename(name)
+    stem, old = os.path.splitext(base)
+    if old.lower() not in KINDS[Kind.DEGAS].extensions:
+        stem, old = base, ""
+    return stem + (extension.upper() if (old or stem).isupper() else extension)
+
+
+def converted_line(record: dict) -> str:
+    """The record of a converted file as a line for people."""
+    if record["number"] != RefusalNumber.ACCEPTED:
+        return bad_line(record)
+    name = shown(record["name"])
+    if record["error"] is not None:
+        return f"{name}: not written: {record['error']}"
+    form = Form(record["form"]).name.lower()
+    line = f"{name}: written: {shown(record['result'])}, {form}, {record['length']} bytes"
+    if record["records"]:
+        line += f", {record['records']} records, body {record['body']}"
+    return line
+
+
+def run_conversion(options, conversion) -> int:
+    """The commands `elite` and `plain`; gives the exit status."""
+    library()  # a missing library is said once, before any file
+    folders, listed = to_convert(options.operands, options.folder)
+    if options.folder is not None:
+        os.makedirs(options.folder, exist_ok=True)
+    records = []
+    with ExitStack() as stack:
+        paths = [path for path in (options.json, options.csv) if path is not None]
+        outputs = {path: stack.enter_context(Output(path, new=not is_stream(path))) for path in paths}
+        for name, folder in folders.items():
+            records.append(convert(name, folder, conversion))
+            give_text(converted_line(records[-1]) + "\n")
+        if options.json is not None:
+            write_json(outputs[options.json], records)
+        if options.csv is not None:
+            write_csv(outputs[options.csv], records, CONVERTED_COLUMNS)
+        for output in outputs.values():
+            output.keep()
+    failed = sum(record["error"] is not None for record in records)
+    refused = sum(bool(record["number"]) for record in records)
+    if failed:
+        complain(f"{failed} not read or not written")
+    give_text(f"{len(records) - failed - refused} written, {refused} refused\n")
+    if failed or not listed:
+        return 2
+    return 1 if refused else 0

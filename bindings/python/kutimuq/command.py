@@ -27,6 +27,7 @@ from .files import (
 from .options import (
     SOURCES,
     TO_CHECK,
+    TO_CONVERT,
     TO_ENCODE,
     TO_ENVI,
     TO_FILES,
@@ -103,6 +104,11 @@ def end_in_order() -> None:
 # Files in, results out.
 
 
+def kind_of(options) -> int | None:
+    """The number of the kind that is named, or None."""
+    return None if options.kind is None else KIND_NAMES[options.kind]
+
+
 def legend_of(options):
     """The legend that is named, or None."""
     if options.legend is None:
@@ -130,7 +136,7 @@ def read_named(name: str, options):
 
 def refuse(refusal, name: str) -> None:
     """Says that a file was refused."""
-    from .enumerations import RefusalNumber
+    from .library import RefusalNumber
 
     unknown = refusal.number == RefusalNumber.UNKNOWN_KIND
     hint = ": neither content nor extension names a kind, --kind can" if unknown else ""
@@ -328,6 +334,28 @@ def plate_file(plate) -> tuple[str, bytes]:
     return PLATE_EXTENSIONS[0], write_plate(plate.bitmap)
 
 
+def elite(options) -> int:
+    """`elite`: plain DEGAS files converted to DEGAS Elite."""
+    from .pictures import to_elite
+
+    return convert_box(options, to_elite)
+
+
+def plain(options) -> int:
+    """`plain`: DEGAS Elite files converted to plain DEGAS."""
+    from .pictures import to_plain
+
+    return convert_box(options, to_plain)
+
+
+def convert_box(options, conversion) -> int:
+    """Many DEGAS files converted, a line for each."""
+    from .box import run_conversion
+
+    end_in_order()
+    return run_conversion(options, conversion)
+
+
 def encode(options) -> int:
     """`encode`: pictures from images of registers, plates from black and white ones."""
     from .images import IMAGE_LIMIT, BadImage, read_image
@@ -478,7 +506,7 @@ def check(options) -> int:
     from .box import run
 
     end_in_order()
-    options.kind = None if options.kind is None else KIND_NAMES[options.kind]
+    options.kind = kind_of(options)
     return run(options, legend_of(options))
 
 
@@ -497,6 +525,8 @@ COMMANDS = {
         colours_command, "a PPM with colours alone: never turn one back into classes", "FILE", TO_FILES
     ),
     "convert": Command(convert, "the picture in another form, or the plate with its least body", "FILE", TO_FORM),
+    "elite": Command(elite, "plain DEGAS files as DEGAS Elite, packed where a packed body exists", "FILE+", TO_CONVERT),
+    "plain": Command(plain, "DEGAS Elite files with a tail of zeros as plain DEGAS", "FILE+", TO_CONVERT),
     "encode": Command(
         encode, "a picture from an indexed PNG or a PGM of registers, a plate from a PBM", "IMAGE", TO_ENCODE
     ),

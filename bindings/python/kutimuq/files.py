@@ -5,24 +5,33 @@ from __future__ import annotations
 import os
 import stat
 from collections import namedtuple
-from itertools import count
+from enum import IntEnum
+from errno import EEXIST
 
-# Kinds of file, by the numbers that the library reads them under; `Kind` in enumerations.py is made of them.
-KIND_DEGAS = 1
-KIND_NEO = 2
-KIND_TINY = 3
-KIND_MAC = 0x100  # none of these numbers, which are bytes: plates have a function of their own
+
+class Kind(IntEnum):
+    """A kind of file, by the number that the library reads it under; it has a function of its own for MAC."""
+
+    DEGAS = 1
+    NEO = 2
+    TINY = 3
+    MAC = 0x100  # not a byte, so none of the numbers that reading takes
+
+
+class Form(IntEnum):
+    """A form of file, by the number that the library writes it under."""
+
+    PLAIN = 1  # DEGAS
+    ELITE = 2  # DEGAS Elite, raw
+    PACKED = 3  # DEGAS Elite, packed
+    NEO = 4  # NEOchrome
+
+
 UNKNOWN = 0  # no kind has this number: the library refuses it
 
-# Forms of file, by the numbers that the library writes them under; `Form` in enumerations.py is made of them.
-FORM_PLAIN = 1  # DEGAS
-FORM_ELITE = 2  # DEGAS Elite, raw
-FORM_PACKED = 3  # DEGAS Elite, packed
-FORM_NEO = 4  # NEOchrome
-
 # Their names at the command line.
-KIND_NAMES = {"mac": KIND_MAC, "degas": KIND_DEGAS, "neo": KIND_NEO, "tiny": KIND_TINY}
-FORM_NAMES = {"plain": FORM_PLAIN, "elite": FORM_ELITE, "packed": FORM_PACKED, "neo": FORM_NEO}
+KIND_NAMES = {"mac": Kind.MAC, "degas": Kind.DEGAS, "neo": Kind.NEO, "tiny": Kind.TINY}
+FORM_NAMES = {"plain": Form.PLAIN, "elite": Form.ELITE, "packed": Form.PACKED, "neo": Form.NEO}
 PLATE_FORM = "mac"  # the one form of a plate
 
 RAW_EXTENSIONS = (".pi1", ".pi2", ".pi3")
@@ -30,6 +39,10 @@ PACKED_EXTENSIONS = (".pc1", ".pc2", ".pc3")
 NEO_EXTENSIONS = (".neo", ".neo", ".neo")
 TINY_EXTENSIONS = (".tny", ".tn1", ".tn2", ".tn3", ".tn4", ".tn5", ".tn6")
 PLATE_EXTENSIONS = (".mac", ".pntg", ".pnt")
+
+# Of a raw DEGAS file: its length without and with a tail.
+PLAIN_LENGTH = 32_034
+ELITE_LENGTH = 32_066
 
 # Of a Tiny file: where its control bytes start, without and with rotation bytes, and the largest count of a section.
 TINY_HEADER = 37
@@ -42,10 +55,10 @@ PLATE_VERSIONS = (0, 2)
 
 # The extensions of each form, by resolution.
 FORMS: dict[int, tuple[str, ...]] = {
-    FORM_PLAIN: RAW_EXTENSIONS,
-    FORM_ELITE: RAW_EXTENSIONS,
-    FORM_PACKED: PACKED_EXTENSIONS,
-    FORM_NEO: NEO_EXTENSIONS,
+    Form.PLAIN: RAW_EXTENSIONS,
+    Form.ELITE: RAW_EXTENSIONS,
+    Form.PACKED: PACKED_EXTENSIONS,
+    Form.NEO: NEO_EXTENSIONS,
 }
 
 
@@ -62,8 +75,15 @@ def _is_degas(head: bytes, length: int) -> bool:
     """A raw length, or a first word with bit 15 set and bits 2 to 14 clear."""
     word = int.from_bytes(head[:2], "big")
     packed = word & 0xFFFC == 0x8000
-    raw = length in (32_034, 32_066) and word < 0x8000
+    raw = length in (PLAIN_LENGTH, ELITE_LENGTH) and word < 0x8000
     return packed or raw
+
+
+def degas_form(file: bytes) -> Form:
+    """The form of a DEGAS file that the library wrote."""
+    if file[0] & 0x80:
+        return Form.PACKED
+    return Form.PLAIN if len(file) == PLAIN_LENGTH else Form.ELITE
 
 
 def degas_resolution(head: bytes) -> int:
@@ -123,10 +143,10 @@ class Traits(namedtuple("Traits", "title extensions longest is_content")):
 
 # In the order in which content is looked at: a plate may have the length of a raw DEGAS file.
 KINDS: dict[int, Traits] = {
-    KIND_MAC: Traits("MacPaint", PLATE_EXTENSIONS, LONGEST_PLATE_FILE, _is_plate),
-    KIND_DEGAS: Traits("DEGAS", (*RAW_EXTENSIONS, *PACKED_EXTENSIONS), 32_066, _is_degas),
-    KIND_NEO: Traits("NEOchrome", NEO_EXTENSIONS, 32_128, _is_neo),
-    KIND_TINY: Traits("Tiny", TINY_EXTENSIONS, TINY_ROTATED_HEADER + 3 * TINY_LARGEST_COUNT, _is_tiny),
+    Kind.MAC: Traits("MacPaint", PLATE_EXTENSIONS, LONGEST_PLATE_FILE, _is_plate),
+    Kind.DEGAS: Traits("DEGAS", (*RAW_EXTENSIONS, *PACKED_EXTENSIONS), ELITE_LENGTH, _is_degas),
+    Kind.NEO: Traits("NEOchrome", NEO_EXTENSIONS, 32_128, _is_neo),
+    Kind.TINY: Traits("Tiny", TINY_EXTENSIONS, TINY_ROTATED_HEADER + 3 * TINY_LARGEST_COUNT, _is_tiny),
 }
 
 # A longer file is refused for its length whatever follows, so no more than this is ever read of one.
@@ -164,7 +184,7 @@ def find_kind(data: bytes, name: str = "") -> Found:
     extension = os.path.splitext(name)[1].lower()
     named = next((kind for kind, traits in KINDS.items() if extension in traits.extensions), UNKNOWN)
     # Where extension and version are MacPaint's, the length of another kind is no proof: a damaged plate may have it.
-    tried = (KIND_MAC,) if named == KIND_MAC and _has_plate_version(data) else KINDS
+    tried = (Kind.MAC,) if named == Kind.MAC and _has_plate_version(data) else KINDS
     for kind in tried:
         if KINDS[kind].is_content(data, len(data)):
             return Found(kind, "content")
@@ -184,8 +204,6 @@ def number_of(choice, names: dict[str, int]) -> int:
 # Files in and out.
 
 INPUT, OUTPUT, ERROR = 0, 1, 2
-
-_numbers = count()
 
 
 class naming:
@@ -266,20 +284,27 @@ def is_stream(path) -> bool:
 class Output:
     """A file that is written beside its place and moved there by `keep`.
 
-    Without `keep` nothing is left of it, and a file that stood at its place stays as it was.
+    Without `keep` nothing is left of it, and a file that stood at its place stays as it was. A new one is never put in
+    another's place, whoever made that one and when.
     """
 
-    def __init__(self, path):
+    def __init__(self, path, new: bool = False):
         self.name = os.fspath(path)
-        self.path = os.path.realpath(path)
+        self.path = self.name if new else os.path.realpath(path)
+        self.new = new
         self.beside: str | None = None
         with naming(self.name):
+            if new and os.path.lexists(path):
+                raise OSError(EEXIST, os.strerror(EEXIST))
             if is_stream(path):
                 self.file = open(path, "wb")  # there is nothing to move
                 return
-            beside = os.path.join(os.path.dirname(self.path), f".kutimuq-{os.getpid()}-{next(_numbers)}.part")
-            self.file = open(beside, "xb")
-            self.beside = beside
+            self.beside = os.path.join(os.path.dirname(self.path), f".kutimuq-{os.urandom(8).hex()}.part")
+            try:
+                self.file = open(self.beside, "xb")
+            except BaseException:  # an interrupt may come when it is made already
+                self.discard()
+                raise
 
     def write(self, data: bytes) -> None:
         """Adds bytes to the file."""
@@ -289,26 +314,60 @@ class Output:
     def keep(self) -> None:
         """Moves the file to its place."""
         with naming(self.name):
+            if self.new:
+                self.file.flush()
+                os.fsync(self.file.fileno())  # the name must not come to stand for less than the whole file
             self.file.close()
             if self.beside is not None:
-                os.replace(self.beside, self.path)
+                (move_new if self.new else os.replace)(self.beside, self.path)
                 self.beside = None
+
+    def discard(self) -> None:
+        """Removes what stands beside the place, if it was not moved."""
+        if self.beside is None:
+            return
+        try:
+            os.unlink(self.beside)
+        except OSError:
+            pass  # it was never made, or an interrupt came when it was moved already
+        self.beside = None
 
     def __enter__(self) -> Output:
         return self
 
     def __exit__(self, *_) -> None:
-        if self.beside is not None:
-            os.unlink(self.beside)
-            self.beside = None
+        self.discard()
         try:
             self.file.close()
         except OSError:
             pass  # a full disk or device, which writing or keeping has said
 
 
-def put(path, data: bytes) -> None:
-    """Writes a whole file, or leaves everything as it was."""
-    with Output(path) as output:
+def move_new(old: str, new: str) -> None:
+    """Moves a file to a new name in one step, which fails where the name is taken; os.rename would replace."""
+    try:
+        os.link(old, new)
+    except FileExistsError:
+        raise
+    except OSError:
+        rename_new(old, new)  # a file system without links, as FAT is
+    else:
+        os.unlink(old)
+
+
+def rename_new(old: str, new: str) -> None:
+    """What move_new does, by Linux's renameat2."""
+    import ctypes
+
+    working_folder, no_replace = -100, 1  # AT_FDCWD, RENAME_NOREPLACE
+    rename = ctypes.CDLL(None, use_errno=True).renameat2
+    if rename(working_folder, os.fsencode(old), working_folder, os.fsencode(new), no_replace):
+        number = ctypes.get_errno()
+        raise OSError(number, os.strerror(number), new)
+
+
+def put(path, data: bytes, new: bool = False) -> None:
+    """Writes a whole file, or leaves everything as it was; a new one only where none stands."""
+    with Output(path, new) as output:
         output.write(data)
         output.keep()

@@ -5,6 +5,7 @@ from __future__ import annotations
 import ctypes
 import os
 from ctypes import Structure, c_bool, c_char_p, c_size_t, c_uint8, c_uint16, c_uint32, c_void_p
+from enum import IntEnum
 from operator import index
 
 # Where the shared object is, and how it is built.
@@ -151,6 +152,8 @@ FUNCTIONS = {
     "kutimuq_pond": (PondAnswer, (*INPUT, c_uint16, Rectangle, c_uint8, c_uint8, Legend)),
     "kutimuq_read": (ReadAnswer, (c_uint8, *INPUT, *OUTPUT)),
     "kutimuq_write": (WriteAnswer, (c_uint8, Picture, *INPUT, *OUTPUT)),
+    "kutimuq_to_elite": (WriteAnswer, (*INPUT, *OUTPUT)),
+    "kutimuq_to_plain": (WriteAnswer, (*INPUT, *OUTPUT)),
     "kutimuq_read_plate": (BodyAnswer, (*INPUT, *OUTPUT)),
     "kutimuq_write_plate": (WriteAnswer, (*INPUT, *OUTPUT)),
 }
@@ -234,10 +237,38 @@ def room(length: int):
 # Refusals.
 
 
+class RefusalNumber(IntEnum):
+    """The numbers given back, named as in the library, with their meaning."""
+
+    meaning: str
+
+    def __new__(cls, number: int, meaning: str):
+        member = int.__new__(cls, number)
+        member._value_ = number
+        member.meaning = meaning
+        return member
+
+    ACCEPTED = 0, "accepted"
+    AREA_TOO_SHORT = 1, "a lent area too short"
+    UNKNOWN_KIND = 2, "unknown kind or form"
+    WRONG_LENGTH = 3, "file length not allowed"
+    WRONG_FLAG = 4, "NEOchrome flag not 0"
+    UNKNOWN_RESOLUTION = 5, "resolution above 2"
+    INPUT_ENDS = 6, "input ends before the screen or row is full"
+    RECORD_CROSSES = 7, "a record crosses its row's end"
+    WRONG_TAIL = 8, "bytes after the body not as the format has them"
+    NO_PACKED_BODY = 9, "no packed body below the format's limit exists"
+    OUT_OF_RANGE = 10, "a number out of range"
+    UNDEFINED_CONTROL = 11, "a control byte or a count that is not defined"
+    RUN_TOO_LONG = 12, "a count cut short, or a run past the words to make or the data"
+    SIZE_MISMATCH = 13, "data left or words missing after the last run"
+    IGNORED_BITS_SET = 17, "bits 2 to 14 of a plain file's first word not 0"
+    NO_ZERO_TAIL = 18, "a tail absent or not all zero"
+    WRONG_VERSION = 20, "MacPaint version neither 0 nor 2"
+
+
 def meaning_of(number: int) -> str:
     """What a number means, also one that only a later library knows."""
-    from .enumerations import RefusalNumber
-
     try:
         return RefusalNumber(number).meaning  # type: ignore[call-arg]
     except ValueError:
@@ -268,8 +299,6 @@ class Refused(Exception):
     @property
     def in_row(self) -> bool:
         """Whether a record of a packed row is at fault, so that the plane row and its good bytes are given."""
-        from .enumerations import RefusalNumber
-
         return self.number in (RefusalNumber.INPUT_ENDS, RefusalNumber.RECORD_CROSSES)
 
     def __str__(self) -> str:

@@ -177,6 +177,7 @@ KIND = Option(
 QUIET = Option(("-q", "--quiet"), None, "do not say which kind was found")
 OUTPUT_FILE = Option(("-o", "--output"), "FILE", "where the result goes; default: standard output")
 FOLDER = Option(("-d", "--folder"), "FOLDER", "one result for each file, named after it, in this folder")
+RESULTS = Option(("-o", *FOLDER.names), "FOLDER", "where the results go; default: beside each file")
 FORM = Option(
     ("--form",),
     "FORM",
@@ -204,6 +205,7 @@ TO_FILES = (KIND, QUIET, OUTPUT_FILE, FOLDER)
 TO_CHECK = (KIND, JSON, CSV, REPORT, LEGEND, JOBS, RESUME)
 TO_ENVI = (*TO_FILES, LEGEND)
 TO_FORM = (FORM, *TO_FILES)
+TO_CONVERT = (RESULTS, JSON, CSV)
 TO_ENCODE = (FORM, PALETTE, LIKE, OUTPUT_FILE, FOLDER)
 TO_TALLY = (RECTANGLE, *SOURCES)
 TO_READ_POND = (NEEDED_LEGEND, CLASS, FLOOR, RECTANGLE, *SOURCES)

@@ -1,4 +1,4 @@
-"""Pictures and MacPaint plates: read from files and written to files; PackBits rows; screens and their registers."""
+"""Pictures and MacPaint plates read, written and converted; PackBits rows; screens and their registers."""
 
 from __future__ import annotations
 
@@ -10,9 +10,9 @@ from collections import namedtuple
 from . import library as lib
 from .files import (
     FORM_NAMES,
-    KIND_MAC,
     KIND_NAMES,
     LONGEST_PLATE_FILE,
+    Kind,
     find_kind,
     form_named,
     number_of,
@@ -20,10 +20,10 @@ from .files import (
     take,
     take_from,
 )
-from .library import Refused, accepted, library
+from .library import RefusalNumber, Refused, accepted, library
 
 SCREEN_BYTES = 32_000
-FILE_BYTES = 32_128  # the output that writing asks for
+FILE_BYTES = 32_128  # the output that writing and converting ask for
 WIDEST_ROW = 128
 LONGEST_PACKED_ROW = 129
 NO_TABLE = (0, 0, 0, 0)
@@ -169,6 +169,29 @@ def picture_struct(picture: Picture) -> lib.Picture:
     return struct
 
 
+def to_elite(data) -> File:
+    """The DEGAS Elite file of a plain DEGAS file's bytes, with a tail of zeros; to_plain gives the same bytes back.
+
+    It is packed, or raw where no packed body below 32,000 bytes exists: its body is then 0. Refused as reading refuses
+    it, then with 2 if it is packed or has a tail, then with 17 if bits 2 to 14 of its first word are not 0.
+    """
+    return _converted(library().kutimuq_to_elite, data)
+
+
+def to_plain(data) -> File:
+    """The plain DEGAS file of a DEGAS Elite file's bytes, raw or packed.
+
+    Refused as reading refuses it, then with 18 if its tail is absent or not all zero.
+    """
+    return _converted(library().kutimuq_to_plain, data)
+
+
+def _converted(function, data) -> File:
+    data = lib.lent(data)
+    out = lib.room(FILE_BYTES)
+    return file_of(function(data, len(data), out, len(out)), out)
+
+
 # MacPaint plates.
 
 PLATE_WIDTH = 576
@@ -195,8 +218,6 @@ class Plate(namedtuple("Plate", "bitmap body records", defaults=(0, 0))):
 
     def rows(self) -> list[bytes]:
         """The rows from the top, eight pixels a byte; refused with 1 where bytes are missing."""
-        from .enumerations import RefusalNumber
-
         if len(self.bitmap) < PLATE_BYTES:
             raise Refused(RefusalNumber.AREA_TOO_SHORT)
         return [self.bitmap[start : start + PLATE_ROW_BYTES] for start in range(0, PLATE_BYTES, PLATE_ROW_BYTES)]
@@ -251,7 +272,7 @@ def write_plate(bitmap) -> File:
 
 def read_any(data, kind: int) -> Picture | Plate:
     """The plate in a MacPaint file's bytes, or the picture in those of another kind."""
-    return read_plate(data) if kind == KIND_MAC else read(data, kind)
+    return read_plate(data) if kind == Kind.MAC else read(data, kind)
 
 
 # Single rows.
@@ -394,8 +415,6 @@ def screen_from_registers(rows, resolution: int) -> bytes:
     Refused in order: an unknown resolution with 5, rows or numbers missing with 1, too many with 10, a number that
     is no register with 10. A masked numpy array is no array of registers: ValueError.
     """
-    from .enumerations import RefusalNumber
-
     if resolution not in SHAPES:
         return screen_in(b"", resolution)
     width, height, _ = shape(resolution)

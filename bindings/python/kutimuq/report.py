@@ -12,7 +12,7 @@ from importlib.resources import files as package_files
 
 from . import __version__
 from .box import Check, least_rewriting, spread_over
-from .files import KIND_MAC, kind_titled, shown, take
+from .files import Kind, kind_titled, shown, take
 from .images import PLATE_COLOURS
 from .index import colours
 from .library import Refused, good_part
@@ -98,7 +98,7 @@ def good_columns(record: dict) -> dict:
 
 
 def is_plate(record: dict) -> bool:
-    return kind_titled(record["kind"]) == KIND_MAC
+    return kind_titled(record["kind"]) == Kind.MAC
 
 
 def shape_of(record: dict) -> Shape:

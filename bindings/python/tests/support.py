@@ -50,6 +50,17 @@ def noise(seed=1):
     return random.Random(seed).randbytes(32_000)
 
 
+def tight_screen(four_equal):
+    """800 plane rows of three equal bytes and 37 more, the first rows with four and 36."""
+    no_two_equal = bytes([1, 2] * 20)
+    rows = [(bytes([9]) * (4 if row < four_equal else 3) + no_two_equal)[:40] for row in range(800)]
+    # Plane rows to screen: 20 groups a scan line, one word a plane.
+    lines = [rows[4 * y : 4 * y + 4] for y in range(200)]
+    return b"".join(
+        plane[2 * group : 2 * group + 2] for line in lines for group in range(20) for plane in line
+    )
+
+
 def broken(plane_row, good_bytes, fault=CROSSING, resolution=0):
     """A packed file of rows of zeros; this plane row has so many bytes, one a record, and then the fault."""
     row = bytes((257 - SHAPES[resolution][0] // 8, 0))

@@ -33,7 +33,8 @@ PROGRAM = shlex.join(support.PROGRAM)
 
 
 COMMANDS = (
-    "check summary palette tail png pbm envi registers colours convert encode tally pond ponds levels".split()
+    "check summary palette tail png pbm envi registers colours convert elite plain encode "
+    "tally pond ponds levels".split()
 )
 MEANING_8 = "bytes after the body not as the format has them"
 GREY_16 = b"P5\n320 200\n255\n" + bytes(63_999) + b"\x10"

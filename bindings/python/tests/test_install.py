@@ -16,7 +16,7 @@ HEADER = REPOSITORY / "include" / "kutimuq.h"
 
 # Costly to import, and not needed to start.
 NOT_AT_START = set(
-    "argparse re typing dataclasses enum functools inspect json csv hashlib zlib pathlib tempfile numpy subprocess "
+    "argparse re typing dataclasses inspect json csv hashlib zlib pathlib tempfile numpy subprocess "
     "multiprocessing concurrent.futures".split()
 )
 

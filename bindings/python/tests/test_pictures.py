@@ -8,20 +8,9 @@ from pathlib import Path
 import kutimuq
 from kutimuq import Form, Kind
 
-from .support import BLANK, CROSSING, PALETTE, SHAPES, TAIL, Case, blocks, broken, noise
+from .support import BLANK, CROSSING, PALETTE, SHAPES, TAIL, Case, blocks, broken, noise, tight_screen
 
 LENGTHS = {Form.PLAIN: 32_034, Form.ELITE: 32_066, Form.NEO: 32_128}
-
-
-def tight_screen(four_equal):
-    """800 plane rows of three equal bytes and 37 more, the first rows with four and 36."""
-    no_two_equal = bytes([1, 2] * 20)
-    rows = [(bytes([9]) * (4 if row < four_equal else 3) + no_two_equal)[:40] for row in range(800)]
-    # Plane rows to screen: 20 groups a scan line, one word a plane.
-    lines = [rows[4 * y : 4 * y + 4] for y in range(200)]
-    return b"".join(
-        plane[2 * group : 2 * group + 2] for line in lines for group in range(20) for plane in line
-    )
 
 
 class Reading(Case):

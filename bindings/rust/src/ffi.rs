@@ -175,6 +175,18 @@ extern "C" {
         out: *mut u8,
         out_len: usize,
     ) -> WriteAnswer;
+    pub fn kutimuq_to_elite(
+        file: *const u8,
+        file_len: usize,
+        out: *mut u8,
+        out_len: usize,
+    ) -> WriteAnswer;
+    pub fn kutimuq_to_plain(
+        file: *const u8,
+        file_len: usize,
+        out: *mut u8,
+        out_len: usize,
+    ) -> WriteAnswer;
     pub fn kutimuq_read_plate(
         file: *const u8,
         file_len: usize,

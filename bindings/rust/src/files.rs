@@ -1,6 +1,6 @@
 //! Files read and written.
 
-use crate::ffi::{self, Table};
+use crate::ffi::{self, Table, WriteAnswer};
 use crate::{Refusal, Resolution};
 
 /// What can be read.
@@ -84,6 +84,10 @@ pub fn write(
     // SAFETY: pointers and lengths are those of slices.
     let answer =
         unsafe { ffi::kutimuq_write(form as u8, (*picture).into(), from, from_len, to, to_len) };
+    written(answer)
+}
+
+pub(crate) fn written(answer: WriteAnswer) -> Result<Written, Refusal> {
     answer.refusal.judged()?;
     Ok(Written { length: answer.length, body: answer.body, records: answer.records })
 }

@@ -26,6 +26,7 @@
 //! # Ok::<(), kutimuq::Refusal>(())
 //! ```
 
+mod conversion;
 pub mod ffi;
 mod files;
 mod pixels;
@@ -34,6 +35,7 @@ pub mod refusal;
 mod resolution;
 mod rows;
 
+pub use conversion::{to_elite, to_plain};
 pub use ffi::{Legend, Rectangle};
 pub use files::{read, write, Form, Kind, Picture, Reading, Tail, Written};
 pub use pixels::{
@@ -55,7 +57,7 @@ pub const LONGEST_FILE: usize = 32_128;
 /// The longest Tiny file that reading accepts: a run for each word.
 pub const LONGEST_TINY_FILE: usize = 48_041;
 
-/// The output that writing needs, in any form.
+/// The output that writing, in any form, and converting need.
 pub const WRITE_AREA_BYTES: usize = 32_128;
 
 /// The registers of a scan line at the greatest width.

@@ -1,5 +1,6 @@
 //! MacPaint plates read and written.
 
+use crate::files::written;
 use crate::{ffi, Refusal, Written};
 
 /// What reading a plate finds. Body: the packed body's bytes; records: its records.
@@ -25,7 +26,5 @@ pub fn read_plate(file: &[u8], plate: &mut [u8]) -> Result<PlateReading, Refusal
 pub fn write_plate(plate: &[u8], out: &mut [u8]) -> Result<Written, Refusal> {
     let (from, from_len) = (plate.as_ptr(), plate.len());
     // SAFETY: pointers and lengths are those of slices.
-    let answer = unsafe { ffi::kutimuq_write_plate(from, from_len, out.as_mut_ptr(), out.len()) };
-    answer.refusal.judged()?;
-    Ok(Written { length: answer.length, body: answer.body, records: answer.records })
+    written(unsafe { ffi::kutimuq_write_plate(from, from_len, out.as_mut_ptr(), out.len()) })
 }

@@ -6,8 +6,8 @@ use std::fmt;
 /// Why an operation refused its input; all zero in the answer of one that accepted it.
 ///
 /// The place is an offset for 6, 7, 8, 11 and 12, and else 0. Plane row and good bytes come with 6
-/// and 7 only and are else 0: `read` and `read_plate` give both, `unpack_row` good bytes, and plane
-/// row 0.
+/// and 7 only and are else 0: `read`, `to_elite`, `to_plain` and `read_plate` give both,
+/// `unpack_row` good bytes, and plane row 0.
 #[repr(C)]
 #[derive(Clone, Copy, Debug, Default, PartialEq, Eq)]
 pub struct Refusal {
@@ -44,6 +44,8 @@ numbers! {
     UNDEFINED_CONTROL = 11, "a control byte or a count that is not defined";
     RUN_TOO_LONG = 12, "a count cut short, or a run past the words to make or the data";
     SIZE_MISMATCH = 13, "data left or words missing after the last run";
+    IGNORED_BITS_SET = 17, "bits 2 to 14 of a plain file's first word not 0";
+    NO_ZERO_TAIL = 18, "a tail absent or not all zero";
     WRONG_VERSION = 20, "MacPaint version neither 0 nor 2";
 }
 

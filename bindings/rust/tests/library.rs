@@ -292,18 +292,116 @@ fn a_tiny_file_and_its_damage() {
     assert!(area.iter().all(|byte| *byte == UNTOUCHED));
 }
 
-#[test]
-fn noise_has_no_packed_body() {
+/// A screen without a packed body at any resolution.
+fn noise() -> Vec<u8> {
     let mut state = 1_u32;
-    let mut noise = || {
+    let mut byte = || {
         state = state.wrapping_mul(1_664_525).wrapping_add(1_013_904_223);
         (state >> 24) as u8
     };
-    let screen: Vec<u8> = (0..SCREEN_BYTES).map(|_| noise()).collect();
+    (0..SCREEN_BYTES).map(|_| byte()).collect()
+}
+
+#[test]
+fn noise_has_no_packed_body() {
+    let screen = noise();
     let picture = Picture { resolution: Resolution::Low, palette: [0; 16], tail: None };
     let mut out = vec![UNTOUCHED; WRITE_AREA_BYTES];
     let answer = write(Form::ElitePacked, &picture, &screen, &mut out);
     assert_eq!(refused(answer), (refusal::NO_PACKED_BODY, 0));
+    assert!(out.iter().all(|byte| *byte == UNTOUCHED));
+}
+
+const PLAIN_FILE_BYTES: usize = 32_034;
+const ELITE_RAW_FILE_BYTES: usize = 32_066;
+
+/// A file in this form, of a picture without a tail.
+fn written_file(form: Form, resolution: Resolution, screen: &[u8]) -> Vec<u8> {
+    let palette = std::array::from_fn(|register| 0xF000 + 0x111 * register as u16);
+    let picture = Picture { resolution, palette, tail: None };
+    let mut out = vec![UNTOUCHED; WRITE_AREA_BYTES];
+    let written = write(form, &picture, screen, &mut out).expect("a file");
+    out.truncate(written.length);
+    out
+}
+
+#[test]
+fn a_plain_file_becomes_elite_and_comes_back() {
+    for resolution in Resolution::ALL {
+        let packable = screen_of(resolution, &pattern(resolution));
+        for (screen, form) in [(packable, Form::ElitePacked), (noise(), Form::EliteRaw)] {
+            let plain = written_file(Form::Plain, resolution, &screen);
+            let elite = written_file(form, resolution, &screen);
+            let mut out = vec![UNTOUCHED; WRITE_AREA_BYTES];
+            let made = to_elite(&plain, &mut out).expect("an Elite file");
+            assert_eq!(out[..made.length], elite[..]);
+            assert!(out[made.length..].iter().all(|byte| *byte == UNTOUCHED));
+            let found = read(Kind::Degas, &elite, &mut vec![0; SCREEN_BYTES]).expect("a picture");
+            assert_eq!(found.picture.tail, Some(Tail::default()));
+            assert_eq!((made.body, made.records), (found.body, found.records));
+
+            out.fill(UNTOUCHED);
+            let back = to_plain(&elite, &mut out).expect("a plain file");
+            assert_eq!(back, Written { length: PLAIN_FILE_BYTES, body: 0, records: 0 });
+            assert_eq!(out[..back.length], plain[..]);
+            assert!(out[back.length..].iter().all(|byte| *byte == UNTOUCHED));
+        }
+    }
+}
+
+#[test]
+fn bits_2_to_14_are_refused_in_a_plain_file_and_ignored_in_an_elite_one() {
+    let plain = vec![0; PLAIN_FILE_BYTES];
+    let elite = written_file(Form::ElitePacked, Resolution::Low, &plain[34..]);
+    let mut out = vec![UNTOUCHED; WRITE_AREA_BYTES];
+    for bit in 2..=14 {
+        let [high, low] = (1_u16 << bit).to_be_bytes();
+        let mut with_bit = plain.clone();
+        with_bit[..2].copy_from_slice(&[high, low]);
+        assert_eq!(refused(to_elite(&with_bit, &mut out)), (refusal::IGNORED_BITS_SET, 0));
+        assert!(out.iter().all(|byte| *byte == UNTOUCHED));
+
+        let mut with_bit = elite.clone();
+        with_bit[0] |= high;
+        with_bit[1] |= low;
+        let made = to_plain(&with_bit, &mut out).expect("a plain file");
+        assert_eq!((made.length, out[0], out[1]), (PLAIN_FILE_BYTES, 0, 0));
+        assert_eq!(refused(to_elite(&with_bit, &mut out)), (refusal::UNKNOWN_KIND, 0));
+        out.fill(UNTOUCHED);
+    }
+}
+
+#[test]
+fn conversions_are_refused() {
+    let screen = screen_of(Resolution::Medium, &pattern(Resolution::Medium));
+    let plain = written_file(Form::Plain, Resolution::Medium, &screen);
+    let elite = written_file(Form::EliteRaw, Resolution::Medium, &screen);
+    let packed = written_file(Form::ElitePacked, Resolution::Medium, &screen);
+    let mut out = vec![UNTOUCHED; WRITE_AREA_BYTES];
+    assert_eq!(refused(to_elite(&[], &mut out[1..])), (refusal::AREA_TOO_SHORT, 0));
+    assert_eq!(refused(to_plain(&[], &mut out[1..])), (refusal::AREA_TOO_SHORT, 0));
+    for file in [&elite, &packed] {
+        assert_eq!(refused(to_elite(file, &mut out)), (refusal::UNKNOWN_KIND, 0));
+        for place in [file.len() - 32, file.len() - 1] {
+            let mut other = file.clone();
+            other[place] = 1;
+            assert_eq!(refused(to_plain(&other, &mut out)), (refusal::NO_ZERO_TAIL, 0));
+        }
+    }
+    assert_eq!(refused(to_plain(&plain, &mut out)), (refusal::NO_ZERO_TAIL, 0));
+    let cut = &packed[..packed.len() - 1];
+    let unknown = [0xFF; ELITE_RAW_FILE_BYTES];
+    let crossing = broken_file(Resolution::Low, 26, 11, &[29]);
+    let at_fault = Refusal { number: 7, place: 108, plane_row: 26, good_bytes: 11 };
+    for convert in [to_elite, to_plain] {
+        assert_eq!(
+            refused(convert(&plain[..PLAIN_FILE_BYTES - 1], &mut out)),
+            (refusal::WRONG_LENGTH, 0)
+        );
+        assert_eq!(refused(convert(&unknown, &mut out)), (refusal::UNKNOWN_RESOLUTION, 0));
+        assert_eq!(refused(convert(cut, &mut out)), (refusal::WRONG_TAIL, packed.len() - 32));
+        assert_eq!(convert(&crossing, &mut out), Err(at_fault));
+    }
     assert!(out.iter().all(|byte| *byte == UNTOUCHED));
 }
 
