@@ -3,7 +3,7 @@
 #
 # Usage: instructions.sh [OPERATION...]
 #
-# OPERATION is an operation of the tables of times, or pack-row alone; twelve are counted where none is named. The
+# OPERATION is an operation of the tables of times, or pack-row alone; fourteen are counted where none is named. The
 # environment variable SCREEN is a screen of the first table, by default map; 64 screens in turn count as one call.
 # An operation on plates is counted on each plate.
 set -eu
@@ -109,7 +109,8 @@ pictures=
 plates=
 case "$*" in
 "")
-    pictures="packed-read tiny-read form3-write lines-in lines-out screen-in screen-out tally pond raw-read"
+    pictures="packed-read tiny-read form3-write to-elite to-plain"
+    pictures="$pictures lines-in lines-out screen-in screen-out tally pond raw-read"
     plates="plate-read plate-write"
     ;;
 pack-row) ;;

@@ -117,6 +117,8 @@ static const char *name_of(enum KutimuqNumber number)
         NAME(UNDEFINED_CONTROL);
         NAME(RUN_TOO_LONG);
         NAME(SIZE_MISMATCH);
+        NAME(IGNORED_BITS_SET);
+        NAME(NO_ZERO_TAIL);
         NAME(WRONG_VERSION);
     }
     return NULL;

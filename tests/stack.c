@@ -15,10 +15,14 @@ enum {
     STACK_BYTES = 1 << 17,
     PAINT = 0xA5,
     /* Limits: a raw file read, or a file refused before its body or runs are unpacked;
-       a packed or Tiny file unpacked; a MacPaint file unpacked; any other operation. */
+       a packed or Tiny file unpacked; a MacPaint file unpacked; a raw DEGAS file made
+       Elite or plain, or refused before its body is unpacked; a packed one unpacked for
+       that; any other operation. */
     NOT_UNPACKED = 1000,
     UNPACKED = 35000,
     PLATE_UNPACKED = 55000,
+    CONVERTED = 35000,
+    CONVERTED_UNPACKED = 68000,
     NOT_READ = 3000,
 
     LONG_AREA = KUTIMUQ_SCREEN_BYTES + 1,
@@ -30,6 +34,8 @@ enum {
     PACKED = 0x80,
     BODY = 34,
     LONG_LITERAL = 127,
+    /* One of the bits of the first word that reading ignores. */
+    IGNORED = 0x40,
     /* Tiny: offsets without rotation bytes; an undefined control byte; half a screen's words. */
     COUNTS = 33,
     CONTROLS = 37,
@@ -50,6 +56,7 @@ static uint8_t number;
 static uint8_t screen[KUTIMUQ_SCREEN_BYTES];
 static uint8_t area[LONG_AREA];
 static uint8_t file[KUTIMUQ_WRITE_AREA_BYTES];
+static uint8_t converted[KUTIMUQ_WRITE_AREA_BYTES];
 static uint8_t plate[LONG_PLATE];
 static uint8_t plate_file[KUTIMUQ_LONGEST_PLATE_FILE];
 static uint8_t registers[PIXELS];
@@ -57,7 +64,7 @@ static KutimuqPicture picture;
 static KutimuqLegend legend;
 static KutimuqRectangle whole;
 static uint8_t kind, form;
-static size_t file_len, area_len;
+static size_t file_len, area_len, converted_len;
 
 static bool printing;
 static int passed, failed;
@@ -75,6 +82,16 @@ static void write_file(void)
         kutimuq_write(form, picture, screen, sizeof screen, file, sizeof file);
     file_len = answer.length;
     number = answer.refusal.number;
+}
+
+static void to_elite(void)
+{
+    number = kutimuq_to_elite(file, file_len, converted, converted_len).refusal.number;
+}
+
+static void to_plain(void)
+{
+    number = kutimuq_to_plain(file, file_len, converted, converted_len).refusal.number;
 }
 
 static void tally(void)
@@ -237,6 +254,51 @@ static void tiny_files(void)
                   KUTIMUQ_UNKNOWN_RESOLUTION);
 }
 
+/* A file that is refused either way. */
+static void check_both_refused(const char *what, size_t limit, uint8_t expected)
+{
+    check(what, to_elite, limit, expected);
+    check(what, to_plain, limit, expected);
+}
+
+static void plain_files_converted(void)
+{
+    check_writing("DEGAS written", KUTIMUQ_FORM_PLAIN);
+    check("DEGAS to Elite packed", to_elite, CONVERTED, KUTIMUQ_ACCEPTED);
+    check("DEGAS to plain", to_plain, CONVERTED, KUTIMUQ_NO_ZERO_TAIL);
+    for (size_t i = BODY; i < file_len; i++) {
+        file[i] = (uint8_t)i;
+    }
+    check("DEGAS to Elite raw", to_elite, CONVERTED, KUTIMUQ_ACCEPTED);
+    file[0] = IGNORED;
+    check("ignored bits to Elite", to_elite, CONVERTED, KUTIMUQ_IGNORED_BITS_SET);
+    file_len--;
+    check_both_refused("DEGAS cut, converted", CONVERTED, KUTIMUQ_WRONG_LENGTH);
+    file[1] = RESOLUTIONS;
+    check_both_refused("no resolution, converted", CONVERTED, KUTIMUQ_UNKNOWN_RESOLUTION);
+    converted_len--;
+    check_both_refused("output too short", NOT_UNPACKED, KUTIMUQ_AREA_TOO_SHORT);
+    converted_len++;
+}
+
+static void elite_files_converted(void)
+{
+    check_writing("DEGAS Elite written", KUTIMUQ_FORM_ELITE_RAW);
+    check("DEGAS Elite to Elite", to_elite, CONVERTED, KUTIMUQ_UNKNOWN_KIND);
+    check("DEGAS Elite to plain", to_plain, CONVERTED, KUTIMUQ_ACCEPTED);
+    file[file_len - 1] = 1;
+    check("other tail to plain", to_plain, CONVERTED, KUTIMUQ_NO_ZERO_TAIL);
+
+    check_writing("packed written", KUTIMUQ_FORM_ELITE_PACKED);
+    check("packed to Elite", to_elite, CONVERTED_UNPACKED, KUTIMUQ_UNKNOWN_KIND);
+    check("packed to plain", to_plain, CONVERTED_UNPACKED, KUTIMUQ_ACCEPTED);
+    file_len--;
+    check_both_refused("packed, tail cut, converted", CONVERTED_UNPACKED, KUTIMUQ_WRONG_TAIL);
+    file[BODY] = LONG_LITERAL;
+    check_both_refused("packed, record at fault, converted", CONVERTED_UNPACKED,
+                       KUTIMUQ_RECORD_CROSSES);
+}
+
 static void plates(void)
 {
     check("plate written", write_plate, NOT_READ, KUTIMUQ_ACCEPTED);
@@ -273,10 +335,13 @@ int main(int argc, char **argv)
 {
     printing = argc == 2 && strcmp(argv[1], "--depths") == 0;
     fill_screen();
+    converted_len = sizeof converted;
     for (picture.resolution = 0; picture.resolution < RESOLUTIONS; picture.resolution++) {
         raw_files();
         packed_files();
         tiny_files();
+        plain_files_converted();
+        elite_files_converted();
         pixels();
     }
     picture.resolution = 0;

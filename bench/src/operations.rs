@@ -19,6 +19,8 @@ pub enum Operation {
     PackedRead,
     TinyRead,
     PackedWrite,
+    ToElite,
+    ToPlain,
     LinesOut,
     LinesIn,
     ScreenOut,
@@ -43,6 +45,8 @@ pub const OPERATIONS: &[(Operation, &str)] = &[
     (Operation::PackedRead, "packed-read"),
     (Operation::TinyRead, "tiny-read"),
     (Operation::PackedWrite, "form3-write"),
+    (Operation::ToElite, "to-elite"),
+    (Operation::ToPlain, "to-plain"),
     (Operation::LinesOut, "lines-out"),
     (Operation::LinesIn, "lines-in"),
     (Operation::ScreenOut, "screen-out"),
@@ -64,8 +68,15 @@ pub enum By {
 impl Operation {
     /// Whether it is measured on this series: on many screens only what branches on their bytes.
     pub fn takes(self, series: Series) -> bool {
-        let branching = [Operation::PackedRead, Operation::TinyRead, Operation::PackedWrite];
-        series.screens == 1 || branching.contains(&self)
+        let branching = matches!(
+            self,
+            Operation::PackedRead
+                | Operation::TinyRead
+                | Operation::PackedWrite
+                | Operation::ToElite
+                | Operation::ToPlain
+        );
+        series.screens == 1 || branching
     }
 }
 
@@ -131,6 +142,8 @@ fn perform(operation: Operation, by: By, subject: &mut Subject, sink: &mut impl 
             Operation::PackedRead => read(by, KIND_DEGAS, &input.packed_file, areas, sink),
             Operation::TinyRead => read(by, KIND_TINY, &input.tiny_file, areas, sink),
             Operation::PackedWrite => write(by, input, areas, sink),
+            Operation::ToElite => to_elite(by, &input.raw_file, areas, sink),
+            Operation::ToPlain => to_plain(by, &input.packed_file, areas, sink),
             Operation::LinesOut => lines_out(by, shape, input, areas, sink),
             Operation::LinesIn => lines_in(by, shape, input, areas, sink),
             Operation::ScreenOut => screen_out(by, input, areas, sink),
@@ -156,6 +169,24 @@ fn write(by: By, input: &Input, areas: &mut Areas, sink: &mut impl Sink) {
     let answer = match by {
         By::Library => Library.write(FORM_ELITE_PACKED, *picture, screen, out),
         By::Plain => plain::write_packed(picture, screen, out),
+    };
+    sink.take(answer, out);
+}
+
+fn to_elite(by: By, file: &[u8], areas: &mut Areas, sink: &mut impl Sink) {
+    let out = &mut areas.file;
+    let answer = match by {
+        By::Library => Library.to_elite(file, out),
+        By::Plain => plain::to_elite(file, out),
+    };
+    sink.take(answer, out);
+}
+
+fn to_plain(by: By, file: &[u8], areas: &mut Areas, sink: &mut impl Sink) {
+    let out = &mut areas.file;
+    let answer = match by {
+        By::Library => Library.to_plain(file, out),
+        By::Plain => plain::to_plain(file, out),
     };
     sink.take(answer, out);
 }

@@ -3,7 +3,7 @@
 use kutimuq::ffi::Picture;
 use kutimuq::refusal::Refusal;
 use kutimuq_tests::generate::{
-    column_words, even_file, padded_file, screen_with_body, shape_of, TinyFile,
+    column_words, even_file, padded_file, screen_with_body, shape_of, with_zero_tail, TinyFile,
 };
 use kutimuq_tests::random::Random;
 use kutimuq_tests::reference::{
@@ -67,7 +67,7 @@ pub struct Input {
     pub raw_file: Vec<u8>,
     /// The screen's form 3 where it has one. For noise here stands noise of the longest body
     /// allowed, and for the worst case the most records that a body can have: one repeat a row
-    /// and do-nothing records everywhere.
+    /// and do-nothing records everywhere. Its tail is zero.
     pub packed_file: Vec<u8>,
     /// The screen with equal neighbours as repeats; for the worst case with a run for each word.
     pub tiny_file: Vec<u8>,
@@ -115,7 +115,9 @@ impl Input {
             Kind::Noise => {
                 packed(&picture, &screen_with_body(&mut random, resolution, PACKED_BODY_LIMIT - 1))
             }
-            Kind::Worst => padded_file(&mut random, resolution, PACKED_BODY_LIMIT - 1),
+            Kind::Worst => {
+                with_zero_tail(padded_file(&mut random, resolution, PACKED_BODY_LIMIT - 1))
+            }
             _ => packed(&picture, &screen),
         };
         let mut raw_file = packed_file[..DEGAS_HEADER_BYTES].to_vec();

@@ -2,6 +2,7 @@
 //!
 //! Each judges before it writes, as the library does.
 
+mod conversion;
 mod counts;
 mod degas;
 mod lines;
@@ -11,6 +12,7 @@ mod screens;
 mod tiny;
 mod unpacking;
 
+pub use conversion::{to_elite, to_plain};
 pub use counts::{pond, tally};
 pub use lines::{line_in, line_out};
 pub use packing::{pack_row, write_packed};

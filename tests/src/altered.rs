@@ -1,13 +1,18 @@
 //! The reference altered: wrong versions that the checks must find.
 
+mod conversions;
 mod plates;
 
+pub use conversions::{
+    Convert, ConvertBy, RARELY_WRONG_TO_ELITE, RARELY_WRONG_TO_PLAIN, WRONG_BOTH_WAYS,
+    WRONG_TO_ELITE, WRONG_TO_PLAIN,
+};
 pub use plates::{
     ReadPlate, WritePlate, RARELY_WRONG_PLATE_READINGS, WRONG_PLATE_READINGS, WRONG_PLATE_WRITINGS,
 };
 
 use crate::operations::{Operations, Reference};
-use crate::reference::{Shape, SCREEN_BYTES};
+use crate::reference::{self, Shape, SCREEN_BYTES};
 use kutimuq::ffi::*;
 use kutimuq::refusal::{self, Refusal};
 
@@ -18,6 +23,10 @@ pub enum Altered {
     LinesBottomUp,
     /// Entries past the last pixel of a whole screen judged.
     AllEntriesJudged,
+    ToElite(Convert),
+    ToPlain(Convert),
+    /// Both conversions, by way of the right ones.
+    Conversions(ConvertBy),
     PlateReading(ReadPlate),
     PlateWriting(WritePlate),
 }
@@ -125,6 +134,24 @@ impl Operations for Altered {
 
     fn write(&self, form: u8, picture: Picture, screen: &[u8], out: &mut [u8]) -> WriteAnswer {
         Reference.write(form, picture, screen, out)
+    }
+
+    fn to_elite(&self, file: &[u8], out: &mut [u8]) -> WriteAnswer {
+        let answer = match self {
+            Altered::ToElite(convert) => convert(file, out),
+            Altered::Conversions(convert) => convert(reference::to_elite, file, out),
+            _ => Reference.to_elite(file, out),
+        };
+        WriteAnswer { refusal: self.refusal(answer.refusal), ..answer }
+    }
+
+    fn to_plain(&self, file: &[u8], out: &mut [u8]) -> WriteAnswer {
+        let answer = match self {
+            Altered::ToPlain(convert) => convert(file, out),
+            Altered::Conversions(convert) => convert(reference::to_plain, file, out),
+            _ => Reference.to_plain(file, out),
+        };
+        WriteAnswer { refusal: self.refusal(answer.refusal), ..answer }
     }
 
     fn read_plate(&self, file: &[u8], plate: &mut [u8]) -> BodyAnswer {

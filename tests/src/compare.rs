@@ -4,7 +4,7 @@
 //! every byte of the lent areas and of the guard bytes around them must agree,
 //! and the library must leave its inputs as they were.
 
-use crate::operations::Operations;
+use crate::operations::{Conversion, Operations, Reference};
 use crate::reference::{self, PLATE_HEADER_BYTES};
 use crate::report::Report;
 use kutimuq::ffi::*;
@@ -241,6 +241,17 @@ impl<'a> Comparison<'a> {
             let screen = shown(screen);
             format!("form {form}, {picture:04X?}, screen {screen}, output of {out_len}")
         });
+    }
+
+    /// Compares, and gives back what the library answered.
+    pub fn convert(&mut self, conversion: Conversion, file: &[u8], out_len: usize) -> WriteAnswer {
+        self.prepare(file, out_len);
+        let expected = conversion.run(&Reference, file, self.expected_area.lent());
+        let actual = conversion.run(self.library, &self.input, self.actual_area.lent());
+        self.judge(expected, actual, file, || {
+            format!("{}, file {}, output of {out_len}", conversion.name(), shown(file))
+        });
+        actual
     }
 
     /// Compares, and gives back what the library answered.

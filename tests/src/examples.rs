@@ -1,6 +1,7 @@
 //! Every example of document 01, as a check of its own, on one implementation; then Tiny files,
-//! rows at fault and MacPaint plates.
+//! rows at fault, DEGAS files made Elite and plain, and MacPaint plates.
 
+mod conversion;
 mod macpaint;
 mod row_at_fault;
 mod tiny;
@@ -52,7 +53,14 @@ pub fn run(operations: &dyn Operations, report: &mut Report) {
     tiny::run(&mut examples);
     examples.report.section(&format!("examples of faults: {}", operations.name()));
     row_at_fault::run(&mut examples);
+    run_conversions(operations, report);
     run_plates(operations, report);
+}
+
+/// Only the examples of DEGAS files made Elite and plain.
+pub fn run_conversions(operations: &dyn Operations, report: &mut Report) {
+    report.section(&format!("examples of conversions: {}", operations.name()));
+    conversion::run(&mut Examples { operations, report });
 }
 
 /// Only the examples of MacPaint plates.

@@ -115,6 +115,14 @@ impl Operations for Library {
         }
     }
 
+    fn to_elite(&self, file: &[u8], out: &mut [u8]) -> WriteAnswer {
+        unsafe { kutimuq_to_elite(file.as_ptr(), file.len(), out.as_mut_ptr(), out.len()) }
+    }
+
+    fn to_plain(&self, file: &[u8], out: &mut [u8]) -> WriteAnswer {
+        unsafe { kutimuq_to_plain(file.as_ptr(), file.len(), out.as_mut_ptr(), out.len()) }
+    }
+
     fn read_plate(&self, file: &[u8], plate: &mut [u8]) -> BodyAnswer {
         unsafe { kutimuq_read_plate(file.as_ptr(), file.len(), plate.as_mut_ptr(), plate.len()) }
     }

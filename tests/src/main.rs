@@ -56,6 +56,8 @@ fn check_library(report: &mut Report, seed: u64) {
     roundtrip::run_plates(&Library, report, seed + 5, 300);
     rewriting::run_plates(&Library, report, seed + 6, 60);
     completion::run_plates(&Library, report, seed + 7, 6);
+    roundtrip::run_conversions(&Library, report, seed + 8, 60);
+    rewriting::run_conversions(&Library, report, seed + 9, 60);
     cases::run_all(&mut Comparison::new(&Library, report), seed);
 }
 

@@ -1,6 +1,6 @@
 //! The public operations, so that one check can run on any implementation.
 
-use crate::reference;
+use crate::reference::{self, WRITE_AREA_BYTES};
 use kutimuq::ffi::*;
 use kutimuq::refusal::Refusal;
 
@@ -26,8 +26,41 @@ pub trait Operations {
     ) -> PondAnswer;
     fn read(&self, kind: u8, file: &[u8], area: &mut [u8]) -> ReadAnswer;
     fn write(&self, form: u8, picture: Picture, screen: &[u8], out: &mut [u8]) -> WriteAnswer;
+    fn to_elite(&self, file: &[u8], out: &mut [u8]) -> WriteAnswer;
+    fn to_plain(&self, file: &[u8], out: &mut [u8]) -> WriteAnswer;
     fn read_plate(&self, file: &[u8], plate: &mut [u8]) -> BodyAnswer;
     fn write_plate(&self, plate: &[u8], out: &mut [u8]) -> WriteAnswer;
+}
+
+/// A DEGAS file made Elite, or plain.
+#[derive(Clone, Copy, Debug, PartialEq, Eq)]
+pub enum Conversion {
+    ToElite,
+    ToPlain,
+}
+
+impl Conversion {
+    pub fn name(self) -> &'static str {
+        match self {
+            Conversion::ToElite => "to elite",
+            Conversion::ToPlain => "to plain",
+        }
+    }
+
+    pub fn run(self, operations: &dyn Operations, file: &[u8], out: &mut [u8]) -> WriteAnswer {
+        match self {
+            Conversion::ToElite => operations.to_elite(file, out),
+            Conversion::ToPlain => operations.to_plain(file, out),
+        }
+    }
+
+    /// The file made; nothing if it is refused.
+    pub fn file_made(self, operations: &dyn Operations, file: &[u8]) -> Option<Vec<u8>> {
+        let mut out = vec![0; WRITE_AREA_BYTES];
+        let answer = self.run(operations, file, &mut out);
+        out.truncate(answer.length);
+        (answer.refusal == Refusal::default()).then_some(out)
+    }
 }
 
 /// The reference implementation.
@@ -94,6 +127,14 @@ impl Operations for Reference {
 
     fn write(&self, form: u8, picture: Picture, screen: &[u8], out: &mut [u8]) -> WriteAnswer {
         reference::write(form, picture, screen, out)
+    }
+
+    fn to_elite(&self, file: &[u8], out: &mut [u8]) -> WriteAnswer {
+        reference::to_elite(file, out)
+    }
+
+    fn to_plain(&self, file: &[u8], out: &mut [u8]) -> WriteAnswer {
+        reference::to_plain(file, out)
     }
 
     fn read_plate(&self, file: &[u8], plate: &mut [u8]) -> BodyAnswer {

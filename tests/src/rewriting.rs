@@ -1,9 +1,11 @@
 //! Packed DEGAS files and MacPaint files read and written again: one file for each picture or plate.
+//! A packed DEGAS file made plain and Elite again is its rewriting.
 
 use crate::generate::{
-    packed_file, padded_plate_file, plate_file, plate_header, plate_with_body, version, DO_NOTHING,
-    RESOLUTIONS,
+    packed_file, padded_file, padded_plate_file, plate_file, plate_header, plate_with_body,
+    version, with_zero_tail, DO_NOTHING, RESOLUTIONS,
 };
+use crate::operations::Conversion::{ToElite, ToPlain};
 use crate::operations::Operations;
 use crate::random::Random;
 use crate::reference::*;
@@ -56,6 +58,29 @@ fn one_file(operations: &dyn Operations, report: &mut Report, random: &mut Rando
     other[place] ^= 1 << random.below(8);
     let differs = rewritten(operations, &other).is_some_and(|other| once != Some(other));
     report.check(differs, || format!("two pictures, different at {place}, have one rewriting"));
+}
+
+pub fn run_conversions(operations: &dyn Operations, report: &mut Report, seed: u64, rounds: usize) {
+    report.section(&format!("packed files made plain and back: {}", operations.name()));
+    let mut random = Random::seeded(seed);
+    for round in 0..rounds {
+        for resolution in RESOLUTIONS {
+            let file = match round % 4 {
+                0 => padded_file(&mut random, resolution, PACKED_BODY_LIMIT - 1 - round),
+                _ => packed_file(&mut random, resolution, true).bytes,
+            };
+            if file.len() <= LONGEST_PACKED_FILE {
+                plain_and_back(operations, report, &with_zero_tail(file));
+            }
+        }
+    }
+}
+
+fn plain_and_back(operations: &dyn Operations, report: &mut Report, file: &[u8]) {
+    let plain = ToPlain.file_made(operations, file);
+    let again = plain.and_then(|plain| ToElite.file_made(operations, &plain));
+    let holds = again.is_some() && again == rewritten(operations, file);
+    report.check(holds, || format!("of {} bytes another file comes back", file.len()));
 }
 
 pub fn run_plates(operations: &dyn Operations, report: &mut Report, seed: u64, rounds: usize) {

@@ -1,6 +1,8 @@
-//! Writing a picture or a plate and reading it back, within one implementation.
+//! Writing a picture or a plate and reading it back, and DEGAS files made Elite, plain and back,
+//! within one implementation.
 
-use crate::generate::{picture, plate, screen, RESOLUTIONS};
+use crate::generate::{file_of_screen, picture, plate, screen, RESOLUTIONS};
+use crate::operations::Conversion::{ToElite, ToPlain};
 use crate::operations::Operations;
 use crate::random::Random;
 use crate::reference::*;
@@ -27,6 +29,22 @@ pub fn run_plates(operations: &dyn Operations, report: &mut Report, seed: u64, r
     let mut random = Random::seeded(seed);
     for _ in 0..rounds {
         one_plate(operations, report, &plate(&mut random));
+    }
+}
+
+pub fn run_conversions(operations: &dyn Operations, report: &mut Report, seed: u64, rounds: usize) {
+    report.section(&format!("conversions and back: {}", operations.name()));
+    let mut random = Random::seeded(seed);
+    for _ in 0..rounds {
+        for resolution in RESOLUTIONS {
+            let screen = screen(&mut random, resolution);
+            let plain = file_of_screen(&mut random, resolution, &screen);
+            plain_to_elite_and_back(operations, report, &plain);
+            let first_word = random.word() & IGNORED_BITS | resolution;
+            let mut elite = file_of_screen(&mut random, first_word, &screen);
+            elite.extend([0; TAIL_BYTES]);
+            elite_to_plain_and_back(operations, report, &elite);
+        }
     }
 }
 
@@ -82,4 +100,39 @@ fn one_plate(operations: &dyn Operations, report: &mut Report, plate: &[u8]) {
     let holds =
         written.refusal == Refusal::default() && found == expected && area == plate && lengths_fit;
     report.check(holds, || format!("{written:?}, then {found:?}, same plate: {}", area == plate));
+}
+
+/// What reading finds in a DEGAS file, and its screen.
+fn read_degas(operations: &dyn Operations, file: &[u8]) -> (ReadAnswer, Vec<u8>) {
+    let mut screen = vec![0; SCREEN_BYTES];
+    (operations.read(KIND_DEGAS, file, &mut screen), screen)
+}
+
+/// The Elite file is the writing of what is read, form 3 or else form 2, with that writing's
+/// answer; back come all bytes.
+fn plain_to_elite_and_back(operations: &dyn Operations, report: &mut Report, plain: &[u8]) {
+    let (found, screen) = read_degas(operations, plain);
+    let mut out = [[0xEE; WRITE_AREA_BYTES]; 2];
+    let mut written = operations.write(FORM_ELITE_PACKED, found.picture, &screen, &mut out[0]);
+    if written.refusal.number == refusal::NO_PACKED_BODY {
+        written = operations.write(FORM_ELITE_RAW, found.picture, &screen, &mut out[0]);
+    }
+    let made = operations.to_elite(plain, &mut out[1]);
+    report.check(made == written && out[0] == out[1], || format!("{made:?}, not {written:?}"));
+    let back = ToPlain.file_made(operations, &out[1][..made.length]);
+    report.check(back.as_deref() == Some(plain), || format!("{made:?}, and back another file"));
+}
+
+/// The Elite file made again reads as the first one: the same picture and screen.
+fn elite_to_plain_and_back(operations: &dyn Operations, report: &mut Report, elite: &[u8]) {
+    let (first, screen) = read_degas(operations, elite);
+    let plain = ToPlain.file_made(operations, elite);
+    let again = plain.and_then(|plain| ToElite.file_made(operations, &plain));
+    let same = again.is_some_and(|again| {
+        let (found, screen_again) = read_degas(operations, &again);
+        found.refusal == Refusal::default()
+            && found.picture == first.picture
+            && screen_again == screen
+    });
+    report.check(same, || format!("read as {:?}, not so when made again", first.picture));
 }

@@ -11,6 +11,8 @@ pub fn run(report: &mut Report, seed: u64) {
     roundtrip::run(&Reference, report, seed, 30);
     completion::run(&Reference, report, seed, 12);
     screens::run(&Reference, report, seed, 4);
+    roundtrip::run_conversions(&Reference, report, seed, 20);
+    rewriting::run_conversions(&Reference, report, seed, 12);
     roundtrip::run_plates(&Reference, report, seed, 20);
     rewriting::run_plates(&Reference, report, seed, 12);
     completion::run_plates(&Reference, report, seed, 2);

@@ -1,14 +1,17 @@
 //! The reference's own tests.
 
 use crate::altered::{
-    Altered, RARELY_WRONG_PLATE_READINGS, WRONG_PLATE_READINGS, WRONG_PLATE_WRITINGS,
+    Altered, RARELY_WRONG_PLATE_READINGS, RARELY_WRONG_TO_ELITE, RARELY_WRONG_TO_PLAIN,
+    WRONG_BOTH_WAYS, WRONG_PLATE_READINGS, WRONG_PLATE_WRITINGS, WRONG_TO_ELITE, WRONG_TO_PLAIN,
 };
 use crate::compare::Comparison;
-use crate::operations::Reference;
+use crate::operations::{Conversion, Reference};
 use crate::random::Random;
 use crate::reference::*;
 use crate::report::Report;
-use crate::{cases, completion, examples, fast, generate, layout, roundtrip, screens, selfcheck};
+use crate::{
+    cases, completion, examples, fast, generate, layout, rewriting, roundtrip, screens, selfcheck,
+};
 use kutimuq::ffi::*;
 use kutimuq::refusal::{self, Refusal};
 
@@ -285,6 +288,44 @@ fn judging_order_of_plates() {
 }
 
 #[test]
+fn judging_order_of_conversions() {
+    let mut out = vec![0xEE; WRITE_AREA_BYTES];
+    let number_of = |convert: fn(&[u8], &mut [u8]) -> WriteAnswer, file: &[u8], out: &mut [u8]| {
+        convert(file, out).refusal.number
+    };
+    let plain_with = |first: u8| [&[first][..], &[0; 32_033]].concat();
+    let elite_with = |first: u8| [&[first][..], &[0; 32_064], &[1]].concat();
+    let blank = generate::blank_file();
+    for convert in [to_elite, to_plain] {
+        assert_eq!(number_of(convert, &[], &mut out[1..]), 1);
+        assert_eq!(number_of(convert, &[0xFF; 33], &mut out), 3);
+        assert_eq!(number_of(convert, &[0xFF; 34], &mut out), 5);
+        assert_eq!(number_of(convert, &[0x7C; 34], &mut out), 3);
+        assert_eq!(number_of(convert, &[0xFC; 32_066], &mut out), 3);
+        assert_eq!(number_of(convert, &blank[..34], &mut out), 6);
+        assert_eq!(number_of(convert, &[&blank[..34], &[0x81]].concat(), &mut out), 7);
+        assert_eq!(number_of(convert, &blank[..1_665], &mut out), 8);
+    }
+    for first in [0x00, 0x04, 0x7F] {
+        assert_eq!(number_of(to_elite, &elite_with(first), &mut out), 2);
+        assert_eq!(number_of(to_plain, &elite_with(first), &mut out), 18);
+        assert_eq!(number_of(to_plain, &plain_with(first), &mut out), 18);
+    }
+    assert_eq!(number_of(to_elite, &blank, &mut out), 2);
+    assert_eq!(number_of(to_elite, &plain_with(0x40), &mut out), 17);
+    assert!(out.iter().all(|byte| *byte == 0xEE));
+    assert_eq!(to_elite(&plain_with(0), &mut out).length, 1_666);
+    assert!(out[..1_666] == blank);
+    assert_eq!(to_plain(&blank, &mut out).length, 32_034);
+}
+
+#[test]
+fn conversions_and_back() {
+    assert_all_pass(|report| roundtrip::run_conversions(&Reference, report, 19, 4));
+    assert_all_pass(|report| rewriting::run_conversions(&Reference, report, 20, 4));
+}
+
+#[test]
 fn plates_have_the_body_asked_for() {
     let mut random = Random::seeded(16);
     for body in (51_195..=51_205).chain([51_100, 52_559, 52_560]) {
@@ -434,6 +475,7 @@ fn wrong_rows_at_fault_are_found() {
         let altered = Altered::Refusals(wrong);
         assert_found(|report| examples::run(&altered, report), version);
         assert_found(|report| completion::run(&altered, report, 11, 3), version);
+        assert_found(|report| examples::run_conversions(&altered, report), version);
     }
 }
 
@@ -478,4 +520,53 @@ fn rarely_wrong_plates_are_found() {
         };
         assert_found(compare, version);
     }
+}
+
+#[test]
+fn wrong_conversions_are_found() {
+    let both = WRONG_BOTH_WAYS.map(Altered::Conversions);
+    let to_elite = WRONG_TO_ELITE.map(Altered::ToElite);
+    let to_plain = WRONG_TO_PLAIN.map(Altered::ToPlain);
+    for (version, altered) in both.iter().chain(&to_elite).chain(&to_plain).enumerate() {
+        assert_found(|report| examples::run_conversions(altered, report), version);
+    }
+}
+
+#[test]
+#[ignore = "half a minute: cargo test --release --no-default-features -- --ignored"]
+fn rarely_wrong_conversions_are_found() {
+    let to_elite =
+        RARELY_WRONG_TO_ELITE.map(|wrong| (Altered::ToElite(wrong), Conversion::ToElite));
+    let to_plain =
+        RARELY_WRONG_TO_PLAIN.map(|wrong| (Altered::ToPlain(wrong), Conversion::ToPlain));
+    for (version, (altered, conversion)) in to_elite.iter().chain(&to_plain).enumerate() {
+        let compare = |report: &mut Report| {
+            cases::run_conversion(&mut Comparison::new(altered, report), 21, *conversion);
+        };
+        assert_found(compare, version);
+    }
+}
+
+/// The round trips alone find files that come back changed.
+#[test]
+fn wrong_conversions_do_not_come_back() {
+    let kept_bits = Altered::ToPlain(|file, out| {
+        let answer = to_plain(file, out);
+        if answer.length > 0 {
+            out[0] |= file[0] & 0x7F;
+        }
+        answer
+    });
+    let always_raw = Altered::ToElite(|file, out| {
+        let answer = to_elite(file, out);
+        if answer.body > 0 {
+            let mut screen = vec![0; SCREEN_BYTES];
+            let found = read(KIND_DEGAS, file, &mut screen);
+            return write(FORM_ELITE_RAW, found.picture, &screen, out);
+        }
+        answer
+    });
+    assert_found(|report| roundtrip::run_conversions(&kept_bits, report, 22, 4), 0);
+    assert_found(|report| roundtrip::run_conversions(&always_raw, report, 22, 4), 1);
+    assert_found(|report| rewriting::run_conversions(&always_raw, report, 23, 4), 1);
 }

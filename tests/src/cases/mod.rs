@@ -1,6 +1,7 @@
 //! The inputs on which library and reference are compared.
 
 mod colours;
+mod conversion;
 mod counts;
 mod degas;
 mod lines;
@@ -15,6 +16,7 @@ mod writing;
 
 use crate::compare::Comparison;
 use crate::generate::RESOLUTIONS;
+use crate::operations::Conversion;
 use crate::random::Random;
 
 /// Lengths of the area lent for a file's screen.
@@ -43,8 +45,15 @@ pub fn run_all(comparison: &mut Comparison, seed: u64) {
     reading::read(comparison, &mut random);
     writing::write(comparison, &mut random);
     row_at_fault::run(comparison, &mut random);
+    conversion::run(comparison, &mut random, Conversion::ToElite);
+    conversion::run(comparison, &mut random, Conversion::ToPlain);
     macpaint::read(comparison, &mut random);
     macpaint::write(comparison, &mut random);
+}
+
+/// Only the inputs for a DEGAS file made Elite, or plain.
+pub fn run_conversion(comparison: &mut Comparison, seed: u64, conversion: Conversion) {
+    conversion::run(comparison, &mut Random::seeded(seed), conversion);
 }
 
 /// Only the inputs for reading MacPaint plates.

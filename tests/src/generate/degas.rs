@@ -22,6 +22,27 @@ pub fn raw_file(random: &mut Random, first_word: u16, with_tail: bool) -> Vec<u8
     bytes
 }
 
+/// The raw file of a screen, without a tail, with a random palette.
+pub fn file_of_screen(random: &mut Random, first_word: u16, screen: &[u8]) -> Vec<u8> {
+    [&degas_header(random, first_word), screen].concat()
+}
+
+/// The file with another first word, if it has one.
+pub fn with_first_word(file: &[u8], first_word: u16) -> Vec<u8> {
+    let mut file = file.to_vec();
+    if let Some(bytes) = file.first_chunk_mut() {
+        *bytes = first_word.to_be_bytes();
+    }
+    file
+}
+
+/// The file with zeros in place of its last bytes, the tail.
+pub fn with_zero_tail(mut file: Vec<u8>) -> Vec<u8> {
+    let body_end = file.len() - TAIL_BYTES;
+    file[body_end..].fill(0);
+    file
+}
+
 /// A well-formed packed DEGAS file; few are above the allowed length.
 pub fn packed_file(random: &mut Random, resolution: u16, with_nothing: bool) -> PackedFile {
     let shape = shape_of(resolution);

@@ -13,7 +13,10 @@ mod screens;
 mod tiny;
 
 pub use costs::CostlyRows;
-pub use degas::{blank_file, degas_header, even_file, packed_file, padded_file, raw_file};
+pub use degas::{
+    blank_file, degas_header, even_file, file_of_screen, packed_file, padded_file, raw_file,
+    with_first_word, with_zero_tail,
+};
 pub use faults::{recorded_file, recorded_plate_file, recorded_row, Faulty, RecordedBody};
 pub use macpaint::{
     even_plate_file, padded_plate_file, page_of_text, plate, plate_file, plate_header,

@@ -85,6 +85,7 @@ fn judge_write(form: u8, picture: Picture, area: &[u8], out: &[u8]) -> Judged<Wr
     }
 }
 
-fn unpacked_file(bytes: Vec<u8>) -> WrittenFile {
+/// A file whose counts are 0.
+pub fn unpacked_file(bytes: Vec<u8>) -> WrittenFile {
     WrittenFile { bytes, body: 0, records: 0 }
 }

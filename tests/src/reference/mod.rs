@@ -7,6 +7,7 @@
 
 mod body;
 mod colour;
+mod conversion;
 mod degas;
 mod files;
 mod judging;
@@ -23,6 +24,7 @@ mod words;
 
 pub use body::least_body;
 pub use colour::colour;
+pub use conversion::{to_elite, to_plain, IGNORED_BITS};
 pub use degas::{
     DEGAS_HEADER_BYTES, ELITE_RAW_FILE_BYTES, LONGEST_PACKED_FILE, PACKED_BIT, PACKED_BODY_LIMIT,
     PLAIN_FILE_BYTES, TAIL_BYTES,
