@@ -187,7 +187,7 @@ class Converted(Folder):
         self.assertEqual((below / "LOW.PC1").read_bytes(), to_elite(other.read_bytes()))
         self.assertEqual((self.plain / "LOW.PC1").read_bytes(), to_elite(self.low.read_bytes()))
         exists = f"{self.noise}: not written: {self.noise}: File exists"
-        self.assertIn(f"{exists} (plain and raw Elite files have the same extension: --folder puts them apart)", lines)
+        self.assertIn(f"{exists} (plain and raw Elite files have the same extension: -o puts them apart)", lines)
         self.assertEqual(self.noise.read_bytes(), file_of(noise()))
 
     def test_folders_below(self):
