@@ -35,9 +35,9 @@ extern "C" {
 #endif
 
 #define KUTIMUQ_VERSION_MAJOR 0
-#define KUTIMUQ_VERSION_MINOR 4
+#define KUTIMUQ_VERSION_MINOR 5
 #define KUTIMUQ_VERSION_PATCH 0
-#define KUTIMUQ_VERSION "0.4.0"
+#define KUTIMUQ_VERSION "0.5.0"
 
 /* The answer must be looked at; no pointer may be null. */
 #ifdef __GNUC__
@@ -69,7 +69,8 @@ enum KutimuqNumber {
     KUTIMUQ_WRONG_TAIL = 8,
     /* None below 32,000 bytes for DEGAS, below 51,200 for MacPaint. */
     KUTIMUQ_NO_PACKED_BODY = 9,
-    /* Of a row width, line, register, rectangle, floor or confidence. */
+    /* Of a row width, line, register, rectangle, party, class, floor, confidence
+       or legend. */
     KUTIMUQ_OUT_OF_RANGE = 10,
     /* Of a Tiny file. Place: the control byte's offset, here and for 12. */
     KUTIMUQ_UNDEFINED_CONTROL = 11,
@@ -83,6 +84,9 @@ enum KutimuqNumber {
     KUTIMUQ_IGNORED_BITS_SET = 17,
     /* Of a DEGAS file to convert to plain, which has no tail. */
     KUTIMUQ_NO_ZERO_TAIL = 18,
+    /* Of a legend entry to set that another party owns, or to release that is
+       free or another's. */
+    KUTIMUQ_NOT_OWNED = 19,
     /* Of a MacPaint file. */
     KUTIMUQ_WRONG_VERSION = 20
 };
@@ -123,6 +127,8 @@ static inline const char *kutimuq_meaning(uint8_t number)
         return "bits 2 to 14 of a plain file's first word not 0";
     case KUTIMUQ_NO_ZERO_TAIL:
         return "a tail absent or not all zero";
+    case KUTIMUQ_NOT_OWNED:
+        return "a legend entry of another party, or a free one to release";
     case KUTIMUQ_WRONG_VERSION:
         return "MacPaint version neither 0 nor 2";
     default:
@@ -260,14 +266,23 @@ typedef struct KutimuqColourAnswer {
     uint8_t blue;
 } KutimuqColourAnswer;
 
-/* For each register a class (0 to 255) and a confidence (0 to 100). */
+/* For each register an owner (0 free, 1 or 2 a party), a class (0 to 255) and a
+   confidence (0 to 100). A free entry has class 0 and confidence 0. */
 typedef struct KutimuqLegend {
+    uint8_t owners[16];
     uint8_t classes[16];
     uint8_t confidences[16];
 } KutimuqLegend;
 
-/* Pixels of the class at or above the floor, of the class below the floor, and
-   of any other class. They add up to the rectangle's pixels. */
+/* The answer of a set or a release, with the legend that it leaves: after a
+   refusal the one that was given, unchanged. */
+typedef struct KutimuqLegendAnswer {
+    KutimuqRefusal refusal;
+    KutimuqLegend legend;
+} KutimuqLegendAnswer;
+
+/* Pixels of the class at or above the floor and of the class below it, each in
+   entries of the party, and all others. They add up to the rectangle's pixels. */
 typedef struct KutimuqPondAnswer {
     KutimuqRefusal refusal;
     uint32_t sure;
@@ -358,15 +373,42 @@ KUTIMUQ_MUST_USE
 KutimuqColourAnswer kutimuq_colour(uint16_t resolution, KutimuqPalette palette,
                                    uint8_t register_number);
 
+/* A new legend: all 16 entries free. */
+KUTIMUQ_MUST_USE
+KutimuqLegend kutimuq_new_legend(void);
+
 /*
- * Counts the pixels of a class in a rectangle, sure and unsure ones apart.
- * Refusals in order: 1 screen below 32,000 bytes, 5, 10 rectangle, or the floor
- * or any of the 16 confidences above 100.
+ * A party sets a free entry or its own to a class and a confidence; the entry is
+ * then the party's. No other entry changes.
+ * Refusals in order: 10 party neither 1 nor 2, register above 15, class above
+ * 255, confidence above 100, or a legend in which an owner is above 2, a
+ * confidence above 100 or a free entry not zero; 19 another party's entry.
+ */
+KUTIMUQ_MUST_USE
+KutimuqLegendAnswer kutimuq_set_entry(KutimuqLegend legend, uint8_t party,
+                                      uint8_t register_number, uint16_t class_number,
+                                      uint8_t confidence);
+
+/*
+ * A party releases its own entry, which is then free. No other entry changes.
+ * Refusals in order: 10 party, register or legend, as above; 19 a free entry or
+ * another party's.
+ */
+KUTIMUQ_MUST_USE
+KutimuqLegendAnswer kutimuq_release_entry(KutimuqLegend legend, uint8_t party,
+                                          uint8_t register_number);
+
+/*
+ * Counts the pixels of a class in a rectangle for a party, sure and unsure ones
+ * apart: only entries that the party owns count as sure or unsure, the rest is
+ * other.
+ * Refusals in order: 1 screen below 32,000 bytes, 5, 10 rectangle, party, class
+ * above 255, floor above 100, or legend, as above.
  */
 KUTIMUQ_MUST_USE KUTIMUQ_NONNULL
 KutimuqPondAnswer kutimuq_pond(const uint8_t *screen, size_t screen_len, uint16_t resolution,
-                               KutimuqRectangle rectangle, uint8_t class_number, uint8_t floor,
-                               KutimuqLegend legend);
+                               KutimuqRectangle rectangle, uint8_t party,
+                               uint16_t class_number, uint8_t floor, KutimuqLegend legend);
 
 /*
  * Reads a DEGAS (kind 1), NEOchrome (kind 2) or Tiny (kind 3) file: the screen

@@ -10,6 +10,8 @@ ghost use Rattle.lines.specs.Lines.{lineOut, lineIn};
 ghost use Rattle.lines.specs.Screens.{screenOut, screenIn};
 ghost use Rattle.tally.specs.Counts.{tallied, tallyAnswer};
 ghost use Rattle.colour.specs.Shown.{shown, colourAnswer};
+ghost use Rattle.legend.specs.Entries.{newLegend};
+ghost use Rattle.legend.specs.Setting.{setting, releasing, legendAnswer};
 ghost use Rattle.pond.specs.Reading.{pondReading, pondAnswer};
 ghost use Rattle.picture.specs.Reading.{readAnswer, readArea};
 ghost use Rattle.picture.specs.Writing.{writeAnswer, writeOutput};
@@ -24,12 +26,13 @@ ghost use Rattle.conversion.specs.Converting.{convert};
 use bodies::BodyAnswer;
 use colour::ColourAnswer;
 use conversion::Conversion;
+use legend::Legend;
+use legend::LegendAnswer;
 use outcome::Refusal;
 use packbits::RowAnswer;
 use picture::Picture;
 use picture::ReadAnswer;
 use picture::WriteAnswer;
-use pond::Legend;
 use pond::PondAnswer;
 use tally::Rectangle;
 use tally::TallyAnswer;
@@ -133,19 +136,51 @@ pub extern "C" fn kutimuq_colour(resolution: u16, palette: Palette, register: u8
     colour::colour(resolution, words, register)
 }
 
-// Pond reading.
+// A new legend.
+#[no_mangle]
+pub extern "C" fn kutimuq_new_legend() -> Legend
+    ensures { λ l. ⌜ l ≡ newLegend ⌝ }
+{
+    legend::new_legend()
+}
+
+// A party sets an entry of a legend.
+#[no_mangle]
+pub extern "C" fn kutimuq_set_entry(
+    legend: Legend,
+    party: u8,
+    register: u8,
+    class: u16,
+    confidence: u8,
+) -> LegendAnswer
+    ensures { λ a. ⌜ a ≡ legendAnswer legend (setting legend party register class confidence) ⌝ }
+{
+    legend::set_entry(legend, party, register, class, confidence)
+}
+
+// A party releases an entry of a legend.
+#[no_mangle]
+pub extern "C" fn kutimuq_release_entry(legend: Legend, party: u8, register: u8) -> LegendAnswer
+    ensures { λ a. ⌜ a ≡ legendAnswer legend (releasing legend party register) ⌝ }
+{
+    legend::release_entry(legend, party, register)
+}
+
+// Pond reading for a party.
 #[no_mangle]
 pub extern "C" fn kutimuq_pond(
     screen: &[u8],
     resolution: u16,
     rectangle: Rectangle,
-    class: u8,
+    party: u8,
+    class: u16,
     floor: u8,
     legend: Legend,
 ) -> PondAnswer
-    ensures { λ a. ⌜ a ≡ pondAnswer (pondReading (now (screen .entry)) resolution rectangle class floor legend) ⌝ }
+    ensures { λ a. ⌜ a
+        ≡ pondAnswer (pondReading (now (screen .entry)) resolution rectangle party class floor legend) ⌝ }
 {
-    pond::read_pond(screen, resolution, rectangle, class, floor, legend)
+    pond::read_pond(screen, resolution, rectangle, party, class, floor, legend)
 }
 
 // Read.

@@ -12,7 +12,7 @@ use lib.Seq.{ext-getD, length-take-le}
 use borrow.Author.Tests.{eqb-true, eq-eqb, not-false}
 use Rattle.lists.specs.All.{allFirst}
 use Rattle.lists.specs.Bytes.{Bytes}
-use Rattle.lists.proofs.All.{allFirst-each, each-allFirst}
+use Rattle.lists.proofs.All.{allBelow-each, each-allBelow}
 use Rattle.lists.proofs.Bytes.{bytes-drop, bytes-front}
 use Rattle.lists.proofs.Cond.{cond-elim, cond-ltb, and-true}
 use Rattle.outcome.specs.declared.Refusal.{Refusal}
@@ -58,9 +58,9 @@ zeros-exactly n l size = (
       ext-getD 0 l (replicate n 0) (size ∙ sym (length-replicate n 0))
       (λ i h.
       let below : i < n = omega (arith, size) in
-      eqb-true (getD l i 0) 0 (allFirst-each (λ b. eqb b 0) l n e i below) ∙ sym (getD-replicate n i 0 0 below)),
+      eqb-true (getD l i 0) 0 (allBelow-each _ n e i below) ∙ sym (getD-replicate n i 0 0 below)),
   λ e.
-      each-allFirst (λ b. eqb b 0) l n
+      each-allBelow _ n
       (λ k h. eq-eqb (getD l k 0) 0 (ap (λ (s : List ℕ). getD s k 0) e ∙ getD-replicate n k 0 0 h)),
 )
 

@@ -8,14 +8,16 @@ use Prim.Native.Nat.{ℕ, zero, suc, _+_, _-_, _/_, _%_, _≤_, _<_}
 use native.Mathlib.Omega.{arith}
 use lib.ListN.{length, getD, drop}
 use lib.Dec.{ltb, leb, eqb}
-use borrow.Author.Tests.{lt-ltb, le-ltb, leb-true, leb-false, ltb-true, ltb-false, eqb-false, ne-eqb, not-true}
+use borrow.Author.Tests.{lt-ltb, le-ltb, leb-true, leb-false, ltb-true, ltb-false, eqb-true, eqb-false, ne-eqb}
+use borrow.Author.Tests.{not-true}
 use Rattle.lists.specs.All.{allFirst}
+use Rattle.lists.proofs.All.{allBelow-ext}
 use Rattle.lists.proofs.Cond.{cond-elim, cond-eqb, and-true}
 use Rattle.outcome.specs.Outcome.{Outcome, accepted, refused, refusal, refuse, refuseIf, map, bind, placed, refusalOf}
 use Rattle.outcome.specs.Outcome.{Judged}
 use Rattle.outcome.specs.Refusal.{areaTooShort, wrongLength, wrongFlag, unknownResolution, wrongTail, noPackedBody}
 use Rattle.outcome.specs.Refusal.{wrongVersion, unknownKind, ignoredBitsSet, noZeroTail}
-use Rattle.outcome.specs.Refusal.{outOfRange, undefinedControl, runTooLong, sizeMismatch}
+use Rattle.outcome.specs.Refusal.{outOfRange, undefinedControl, runTooLong, sizeMismatch, notOwned}
 use Rattle.words.specs.Word.{wordAt}
 use Rattle.packbits.specs.declared.Record.{Record}
 use Rattle.packbits.specs.declared.Record.the-variants.{Literal, Repeat, Nothing, Truncated, Crossing}
@@ -41,10 +43,13 @@ use Rattle.bodies.specs.Reading.{judgeEnd, readBody}
 use Rattle.bodies.specs.Packing.{leastBody, PackedBody}
 use Rattle.colour.specs.Palette.{Rgb}
 use Rattle.colour.specs.Shown.{judgeRegister, shown, colourAnswer}
-use Rattle.pond.specs.declared.Legend.{Legend}
+use Rattle.legend.specs.declared.Legend.{Legend}
+use Rattle.legend.specs.Entries.{isParty, isAnothers, owns, ownerOf, classOf, confidenceOf, registerFits, classFits}
+use Rattle.legend.specs.Entries.{confidenceFits, entryFits, legendFits, withEntry, free}
+use Rattle.legend.specs.Setting.{setting, releasing}
+use Rattle.legend.proofs.Entries.{party-some}
 use Rattle.pond.specs.declared.PondCounts.{PondCounts}
-use Rattle.pond.specs.Entries.{confidenceFits, confidencesFit}
-use Rattle.pond.specs.Reading.{pondOf, judgeLegend, pondReading, pondAnswer}
+use Rattle.pond.specs.Reading.{pondOf, questionFits, pondReading, pondAnswer}
 use Rattle.picture.specs.declared.Picture.{Picture}
 use Rattle.picture.specs.declared.Table.{Table}
 use Rattle.picture.specs.Tables.{tailBytes}
@@ -85,13 +90,14 @@ use Rattle.conversion.proofs.Elite.{elite-number}
 use Rattle.demands.specs.Orders.{Test, firstRefusal, width, height, registers, rowPackOrder, recordMakes}
 use Rattle.demands.specs.Orders.{recordTakes, recordOrder, recordFaults, rowUnpackOrder, lineOutOrder}
 use Rattle.demands.specs.Orders.{lineInOrder, colourOrder, rectangleTests, tallyOrder, pondOrder, runMakes}
+use Rattle.demands.specs.Orders.{noParty, wrongEntry, wrongLegend, anothers, setOrder, releaseOrder}
 use Rattle.demands.specs.Orders.{runTakes, runOrder, degasResolution, degasPacked, rawTests, bodyProgress}
 use Rattle.demands.specs.Orders.{packedTests, degasTests, neochromeTests, rotated, tinyHeader, controlBytes}
 use Rattle.demands.specs.Orders.{dataWords, sectionTests, tinyTests, readOrder, rasterAt, writeOrder, oneOf}
 use Rattle.demands.specs.Orders.{rowPackNumbers, rowUnpackNumbers, colourNumbers, screenNumbers, readNumbers}
 use Rattle.demands.specs.Orders.{writeNumbers, readPlateOrder, writePlateOrder, readPlateNumbers}
 use Rattle.demands.specs.Orders.{writePlateNumbers, conversionOrder, hasTail, lastTail, toEliteOrder}
-use Rattle.demands.specs.Orders.{toPlainOrder, toEliteNumbers, toPlainNumbers}
+use Rattle.demands.specs.Orders.{toPlainOrder, toEliteNumbers, toPlainNumbers, legendNumbers}
 
 -- ---- an outcome judged by tests, in order
 
@@ -315,18 +321,144 @@ tally-order screen number a =
 abbrev pondNumber : Outcome PondCounts → ℕ
 pondNumber o = pondAnswer o .refusal .number
 
-module _ (screen : List ℕ) (number : ℕ) (a : Rectangle) (class floor : ℕ) (l : Legend) where
-  pub pond-order : pondNumber (pondReading screen number a class floor l)
-      ≡ firstRefusal (pondOrder screen number a floor l)
+-- each test of party, register and legend as the definitions have it
+
+party-test : (party : ℕ) → noParty party ≡ not (isParty party)
+unfolding isParty
+party-test party = go (eqb party 0) refl
+  where
+    go : (b : Bool) → eqb party 0 ≡ b → b || ltb 2 party ≡ not (ltb 0 party && leb party 2)
+    go true e = rw (eqb-true party 0 e)
+    go false e =
+        let some : party ≡ 0 → ⊥ = eqb-false party 0 e in rw (lt-ltb 0 party (omega arith), above party 2)
+
+register-test : (v : ℕ) → ltb 15 v ≡ not (registerFits v)
+register-test v = go (ltb v 16) refl
+  where
+    go : (b : Bool) → ltb v 16 ≡ b → ltb 15 v ≡ not b
+    go true e = le-ltb 15 v (omega (arith, ltb-true v 16 e))
+    go false e = lt-ltb 15 v (omega (arith, ltb-false v 16 e))
+
+entry-test : (owner class confidence : ℕ)
+    → not (wrongEntry owner class confidence) ≡ entryFits owner class confidence
+unfolding entryFits
+entry-test owner class confidence =
+    rw (above owner 2, above confidence 100)
+    (go (leb owner 2) (leb confidence 100) (eqb owner 0) (eqb class 0 && eqb confidence 0))
+  where
+    go : (o c f z : Bool) → not (not o || (not c || (f && not z))) ≡ o && (c && cond f z true)
+    go true true true true = refl
+    go true true true false = refl
+    go true true false z = refl
+    go true false f z = refl
+    go false c f z = refl
+
+legend-test : (l : Legend) → wrongLegend l ≡ not (legendFits l)
+unfolding legendFits
+legend-test l =
+    ap not (allBelow-ext _ _ 16 (λ v. entry-test (ownerOf l v) (classOf l v) (confidenceOf l v)))
+
+module _ (screen : List ℕ) (number : ℕ) (a : Rectangle) (party class floor : ℕ) (l : Legend) where
+  pub pond-order : pondNumber (pondReading screen number a party class floor l)
+      ≡ firstRefusal (pondOrder screen number a party class floor l)
   unfolding pondReading
   pond-order =
       rectangle-order pondNumber (λ n. refl) screen number a
-      ((ltb 100 floor, 10) ∷ (not (allFirst 16 (λ c. leb c 100) (l .confidences)), 10) ∷ [])
-      (λ r. judgeLegend floor l (accepted (pondOf screen r a class floor l)))
+      ((noParty party, 10) ∷ (ltb 255 class, 10) ∷ (ltb 100 floor, 10) ∷ (wrongLegend l, 10) ∷ [])
+      (λ r. refuseIf (not (questionFits party class floor l)) outOfRange (counted r))
       (λ r.
-      rw (above floor 100)
-      (first-test pondNumber (λ n. refl) (not (confidenceFits floor)) outOfRange (λ _.
-      first-test pondNumber (λ n. refl) (not (confidencesFit l)) outOfRange (λ _. refl))))
+      rw (party-test party, above class 255, above floor 100, legend-test l)
+      (go (counted r) refl (isParty party) (classFits class) (confidenceFits floor) (legendFits l)))
+    where
+      counted : Resolution → Outcome PondCounts
+      counted r = accepted (pondOf screen r a party class floor l)
+
+      go : (o : Outcome PondCounts) → pondNumber o ≡ 0 → (p c f g : Bool)
+          → pondNumber (refuseIf (not ((p && (c && f)) && g)) outOfRange o)
+          ≡ firstRefusal ((not p, 10) ∷ (not c, 10) ∷ (not f, 10) ∷ (not g, 10) ∷ [])
+      go o e true true true true = e
+      go o e true true true false = refl
+      go o e true true false g = refl
+      go o e true false f g = refl
+      go o e false c f g = refl
+
+-- ---- the legend
+
+abbrev legendNumber : Outcome Legend → ℕ
+legendNumber o = refusalOf o .number
+
+pub set-order : (l : Legend) (party register class confidence : ℕ)
+    → legendNumber (setting l party register class confidence)
+    ≡ firstRefusal (setOrder l party register class confidence)
+unfolding setting
+set-order l party register class confidence =
+    rw (party-test party, register-test register, above class 255, above confidence 100, legend-test l)
+    (go
+    (withEntry l register party class confidence)
+    (isParty party)
+    (registerFits register)
+    (classFits class)
+    (confidenceFits confidence)
+    (legendFits l)
+    (isAnothers l party register))
+  where
+    go : (next : Legend) (p r c f g o : Bool)
+        → legendNumber
+        (refuseIf (not ((c && (f && (p && r))) && g)) outOfRange (refuseIf o notOwned (accepted next)))
+        ≡ firstRefusal
+        ((not p, 10) ∷ (not r, 10) ∷ (not c, 10) ∷ (not f, 10) ∷ (not g, 10) ∷ (o, 19) ∷ [])
+    go next true true true true true true = refl
+    go next true true true true true false = refl
+    go next true true true true false o = refl
+    go next true true true false g o = refl
+    go next true true false f g o = refl
+    go next true false true true g o = refl
+    go next true false true false g o = refl
+    go next true false false f g o = refl
+    go next false r true true g o = refl
+    go next false r true false g o = refl
+    go next false r false f g o = refl
+
+pub release-order : (l : Legend) (party register : ℕ)
+    → legendNumber (releasing l party register) ≡ firstRefusal (releaseOrder l party register)
+unfolding releasing
+release-order l party register =
+    rw (party-test party, register-test register, legend-test l)
+    (go (isParty party) refl (registerFits register) (legendFits l))
+  where
+    next : Legend
+    next = withEntry l register free 0 0
+
+    owner : ℕ
+    owner = ownerOf l register
+
+    -- an entry that is not a party's is another's or free
+    unowned : isParty party ≡ true → (b : Bool) → eqb owner 0 ≡ b
+        → not (owns l party register) ≡ (not b && not (owns l party register)) || b
+    unowned known true e =
+        let some : 0 ≡ party → ⊥ = party-some party known in
+        rw (ne-eqb owner party (λ is. some (sym (eqb-true owner 0 e) ∙ is)))
+    unowned known false e = same (owns l party register)
+      where
+        same : (b : Bool) → not b ≡ not b || false
+        same true = refl
+        same false = refl
+
+    go : (p : Bool) → isParty party ≡ p → (r g : Bool)
+        → legendNumber
+        (refuseIf (not ((p && r) && g)) outOfRange
+        (refuseIf (not (owns l party register)) notOwned (accepted next)))
+        ≡ firstRefusal
+        ((not p, 10) ∷ (not r, 10) ∷ (not g, 10)
+        ∷ (anothers owner party || eqb owner 0, 19) ∷ [])
+    go true e true true = rw (← unowned e (eqb owner 0) refl) (own (owns l party register))
+      where
+        own : (b : Bool) → legendNumber (refuseIf (not b) notOwned (accepted next)) ≡ cond (not b) 19 0
+        own true = refl
+        own false = refl
+    go true e true false = refl
+    go true e false g = refl
+    go false e r g = refl
 
 -- ---- reading
 
@@ -791,10 +923,24 @@ pub tally-numbers : (screen : List ℕ) (number : ℕ) (a : Rectangle)
     → oneOf screenNumbers (tallyNumber (tallied screen number a)) ≡ true
 tally-numbers screen number a = in-order screenNumbers (tallyOrder screen number a) (tally-order screen number a) refl
 
-pub pond-numbers : (screen : List ℕ) (number : ℕ) (a : Rectangle) (class floor : ℕ) (l : Legend)
-    → oneOf screenNumbers (pondNumber (pondReading screen number a class floor l)) ≡ true
-pond-numbers screen number a class floor l =
-    in-order screenNumbers (pondOrder screen number a floor l) (pond-order screen number a class floor l) refl
+pub pond-numbers : (screen : List ℕ) (number : ℕ) (a : Rectangle) (party class floor : ℕ) (l : Legend)
+    → oneOf screenNumbers (pondNumber (pondReading screen number a party class floor l)) ≡ true
+pond-numbers screen number a party class floor l =
+    in-order screenNumbers (pondOrder screen number a party class floor l)
+    (pond-order screen number a party class floor l)
+    refl
+
+pub set-numbers : (l : Legend) (party register class confidence : ℕ)
+    → oneOf legendNumbers (legendNumber (setting l party register class confidence)) ≡ true
+set-numbers l party register class confidence =
+    in-order legendNumbers (setOrder l party register class confidence)
+    (set-order l party register class confidence)
+    refl
+
+pub release-numbers : (l : Legend) (party register : ℕ)
+    → oneOf legendNumbers (legendNumber (releasing l party register)) ≡ true
+release-numbers l party register =
+    in-order legendNumbers (releaseOrder l party register) (release-order l party register) refl
 
 module _ (kind : ℕ) (file area : List ℕ) where
   pub read-numbers : oneOf (readNumbers kind) (readNumber (readFile kind file (length area))) ≡ true

@@ -11,7 +11,7 @@ use Rattle.lists.proofs.Cond.{cond-elim, cond-eqb}
 use Rattle.outcome.specs.declared.Refusal.{Refusal}
 use Rattle.outcome.specs.Outcome.{Outcome, accepted, refused, refusal, refuseIf, map, bind, placed, refusalOf}
 use Rattle.outcome.specs.Refusal.{areaTooShort, unknownKind, wrongLength, wrongFlag, unknownResolution, wrongTail}
-use Rattle.outcome.specs.Refusal.{ignoredBitsSet, noZeroTail}
+use Rattle.outcome.specs.Refusal.{ignoredBitsSet, noZeroTail, notOwned}
 use Rattle.outcome.specs.Refusal.{inputEnds, recordCrosses, noPackedBody, outOfRange, sizeMismatch, wrongVersion}
 use Rattle.words.specs.Word.{wordAt}
 use Rattle.packbits.specs.Row.{Row, widthOutOfRange, rowAnswer}
@@ -32,10 +32,11 @@ use Rattle.tally.specs.declared.Rectangle.{Rectangle}
 use Rattle.tally.specs.Rectangles.{rectangleFits, judgeRectangle}
 use Rattle.tally.specs.Counts.{tallied, tallyAnswer}
 use Rattle.colour.specs.Shown.{judgeRegister, shown, colourAnswer}
-use Rattle.pond.specs.declared.Legend.{Legend}
+use Rattle.legend.specs.declared.Legend.{Legend}
+use Rattle.legend.specs.Entries.{isAnothers, owns}
+use Rattle.legend.specs.Setting.{callFits, setFits, setting, releasing}
 use Rattle.pond.specs.declared.PondCounts.{PondCounts}
-use Rattle.pond.specs.Entries.{confidenceFits, confidencesFit}
-use Rattle.pond.specs.Reading.{pondReading, pondAnswer}
+use Rattle.pond.specs.Reading.{questionFits, pondReading, pondAnswer}
 use Rattle.bodies.specs.Packing.{leastBody, PackedBody, belowLimit}
 use Rattle.bodies.specs.Unpacking.{UnpackedBody, bodyOf, unpackBody, unpackedAnswer}
 use Rattle.bodies.specs.Reading.{judgeEnd, readBody}
@@ -300,14 +301,29 @@ tally-zero screen number a =
     answer-zero (tallied screen number a) (tally-answer (tallied screen number a))
     (by-rectangle (length screen) number a _ (λ r. accepts _))
 
-pub pond-zero : (screen : List ℕ) (number : ℕ) (a : Rectangle) (class floor : ℕ) (l : Legend)
-    → BothZero (pondAnswer (pondReading screen number a class floor l) .refusal)
+pub pond-zero : (screen : List ℕ) (number : ℕ) (a : Rectangle) (party class floor : ℕ) (l : Legend)
+    → BothZero (pondAnswer (pondReading screen number a party class floor l) .refusal)
 unfolding pondReading
-pond-zero screen number a class floor l =
-    let o : Outcome PondCounts = pondReading screen number a class floor l in
+pond-zero screen number a party class floor l =
+    let o : Outcome PondCounts = pondReading screen number a party class floor l in
     answer-zero o (pond-answer o)
     (by-rectangle (length screen) number a _
-    (λ r. by-if (not (confidenceFits floor)) outOfRange (by-if (not (confidencesFit l)) outOfRange (accepts _))))
+    (λ r. by-if (not (questionFits party class floor l)) outOfRange (accepts _)))
+
+pub set-zero : (l : Legend) (party register class confidence : ℕ)
+    → BothZero (refusalOf (setting l party register class confidence))
+unfolding setting
+set-zero l party register class confidence =
+    answer-zero (setting l party register class confidence) refl
+    (by-if (not (setFits l party register class confidence)) outOfRange
+    (by-if (isAnothers l party register) notOwned (accepts _)))
+
+pub release-zero : (l : Legend) (party register : ℕ) → BothZero (refusalOf (releasing l party register))
+unfolding releasing
+release-zero l party register =
+    answer-zero (releasing l party register) refl
+    (by-if (not (callFits l party register)) outOfRange
+    (by-if (not (owns l party register)) notOwned (accepts _)))
 
 pub colour-zero : (number : ℕ) (palette : List ℕ) (register : ℕ)
     → BothZero (colourAnswer (shown number palette register) .refusal)

@@ -26,7 +26,8 @@ use Rattle.tally.specs.declared.Rectangle.{Rectangle}
 use Rattle.tally.specs.Counts.{tallied}
 use Rattle.colour.specs.Palette.{Rgb}
 use Rattle.colour.specs.Shown.{shown}
-use Rattle.pond.specs.declared.Legend.{Legend}
+use Rattle.legend.specs.declared.Legend.{Legend}
+use Rattle.legend.specs.Setting.{setting, releasing}
 use Rattle.pond.specs.declared.PondCounts.{PondCounts}
 use Rattle.pond.specs.Reading.{pondReading}
 use Rattle.picture.specs.declared.Picture.{Picture}
@@ -45,7 +46,7 @@ use Rattle.writer.specs.Writing.{writeFile}
 use Rattle.conversion.specs.declared.Conversion.{Conversion}
 use Rattle.conversion.specs.Converting.{convert}
 use Rattle.demands.specs.Refusals.{Kept, RowRefusal, BodyRefusal, BodyReadRefusal, TallyRefusal, ColourRefusal}
-use Rattle.demands.specs.Refusals.{PondRefusal, ReadRefusal, WriteRefusal}
+use Rattle.demands.specs.Refusals.{LegendRefusal, PondRefusal, ReadRefusal, WriteRefusal}
 
 -- ---- any outcome
 
@@ -68,6 +69,10 @@ tally-refusal (refused why) h = refl
 colour-refusal : (o : Outcome Rgb) → ColourRefusal o
 colour-refusal (accepted c) h = absurd (h refl)
 colour-refusal (refused why) h = (refl, refl, refl)
+
+legend-refusal : (l : Legend) (o : Outcome Legend) → LegendRefusal l o
+legend-refusal l (accepted next) h = absurd (h refl)
+legend-refusal l (refused why) h = refl
 
 pond-refusal : (o : Outcome PondCounts) → PondRefusal o
 pond-refusal (accepted p) h = absurd (h refl)
@@ -165,6 +170,13 @@ colour-refused number palette register = colour-refusal (shown number palette re
 pub tally-refused : (screen : List ℕ) (number : ℕ) (a : Rectangle) → TallyRefusal (tallied screen number a)
 tally-refused screen number a = tally-refusal (tallied screen number a)
 
-pub pond-refused : (screen : List ℕ) (number : ℕ) (a : Rectangle) (class floor : ℕ) (l : Legend)
-    → PondRefusal (pondReading screen number a class floor l)
-pond-refused screen number a class floor l = pond-refusal (pondReading screen number a class floor l)
+pub pond-refused : (screen : List ℕ) (number : ℕ) (a : Rectangle) (party class floor : ℕ) (l : Legend)
+    → PondRefusal (pondReading screen number a party class floor l)
+pond-refused screen number a party class floor l = pond-refusal (pondReading screen number a party class floor l)
+
+pub set-refused : (l : Legend) (party register class confidence : ℕ)
+    → LegendRefusal l (setting l party register class confidence)
+set-refused l party register class confidence = legend-refusal l (setting l party register class confidence)
+
+pub release-refused : (l : Legend) (party register : ℕ) → LegendRefusal l (releasing l party register)
+release-refused l party register = legend-refusal l (releasing l party register)

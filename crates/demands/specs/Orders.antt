@@ -1,19 +1,19 @@
 -- The order of judging of each operation as the papers give it (document 01, "Order of judging", "Numbers given back";
--- document 02, tickets 1, 7 and 9): a list of tests, each with its refusal number. The papers' numbers stand here a
+-- document 02, tickets 1, 7, 8 and 9): a list of tests, each with its refusal number. The papers' numbers stand here a
 -- second time; that the contracts' definitions judge in these orders is proved (proofs/Orders.antt).
 use Prim.Native.Nat.{ℕ, _+_, _-_, _*_, _/_, _%_, _^_}
 use mathlib.Core.Bool.{Bool, false, not, cond, _&&_, _||_}
 use mathlib.Core.List.{List, [], _∷_, _++_}
 use lib.ListN.{length, getD, take, drop}
 use lib.Dec.{ltb, leb, eqb}
-use Rattle.lists.specs.All.{allFirst}
+use Rattle.lists.specs.All.{allBelow, allFirst}
 use Rattle.words.specs.Word.{wordAt, wordsAt}
 use Rattle.packbits.specs.Unpack.{progress}
 use Rattle.packbits.specs.Rows.{RowsProgress, rowsProgress}
 use Rattle.raster.specs.declared.Raster.{Raster}
 use Rattle.bodies.specs.Packing.{leastBody}
 use Rattle.tally.specs.declared.Rectangle.{Rectangle}
-use Rattle.pond.specs.declared.Legend.{Legend}
+use Rattle.legend.specs.declared.Legend.{Legend}
 use Rattle.picture.specs.declared.Picture.{Picture}
 use Rattle.picture.specs.Tables.{tailAt, tailBytes}
 use Rattle.tiny.specs.Expansion.{Expansion, expand}
@@ -121,11 +121,50 @@ rectangleTests screen number a rest =
 abbrev pub tallyOrder : List ℕ → ℕ → Rectangle → List Test
 tallyOrder screen number a = rectangleTests screen number a []
 
--- "a floor or any entry above 100 gets 10"
-abbrev pub pondOrder : List ℕ → ℕ → Rectangle → ℕ → Legend → List Test
-pondOrder screen number a floor l =
+-- "10 for party"; the parties are 1 and 2
+abbrev pub noParty : ℕ → Bool
+noParty party = eqb party 0 || ltb 2 party
+
+-- "an owner above 2, a confidence above 100 or a free entry not zero", of an entry and of any of 16
+abbrev pub wrongEntry : ℕ → ℕ → ℕ → Bool
+wrongEntry owner class confidence =
+    ltb 2 owner || (ltb 100 confidence || (eqb owner 0 && not (eqb class 0 && eqb confidence 0)))
+
+abbrev pub wrongLegend : Legend → Bool
+wrongLegend l =
+    not (allBelow 16 (λ v. not (wrongEntry (getD (l .owners) v 0) (getD (l .classes) v 0) (getD (l .confidences) v 0))))
+
+-- "1, 5, 10", with "a floor .. above 100", a class of 0 to 255, and party and legend as ticket 8 has them
+abbrev pub pondOrder : List ℕ → ℕ → Rectangle → ℕ → ℕ → ℕ → Legend → List Test
+pondOrder screen number a party class floor l =
     rectangleTests screen number a
-    ((ltb 100 floor, 10) ∷ (not (allFirst 16 (λ c. leb c 100) (l .confidences)), 10) ∷ [])
+    ((noParty party, 10) ∷ (ltb 255 class, 10) ∷ (ltb 100 floor, 10) ∷ (wrongLegend l, 10) ∷ [])
+
+-- ---- the legend
+
+-- "another's entry"
+abbrev pub anothers : ℕ → ℕ → Bool
+anothers owner party = not (eqb owner 0) && not (eqb owner party)
+
+-- "10 for party, register, class or confidence, or a legend ..; then 19 for another's entry"
+abbrev pub setOrder : Legend → ℕ → ℕ → ℕ → ℕ → List Test
+setOrder l party register class confidence =
+    (noParty party, 10)
+    ∷ (ltb 15 register, 10)
+    ∷ (ltb 255 class, 10)
+    ∷ (ltb 100 confidence, 10)
+    ∷ (wrongLegend l, 10)
+    ∷ (anothers (getD (l .owners) register 0) party, 19)
+    ∷ []
+
+-- "or for the release of a free one"
+abbrev pub releaseOrder : Legend → ℕ → ℕ → List Test
+releaseOrder l party register =
+    (noParty party, 10)
+    ∷ (ltb 15 register, 10)
+    ∷ (wrongLegend l, 10)
+    ∷ (anothers (getD (l .owners) register 0) party || eqb (getD (l .owners) register 0) 0, 19)
+    ∷ []
 
 -- ---- a run of a Tiny file, from its control byte x and the control bytes behind it
 
@@ -311,6 +350,10 @@ colourNumbers = 0 ∷ 5 ∷ 10 ∷ []
 -- line out, line in, tally and pond reading
 abbrev pub screenNumbers : List ℕ
 screenNumbers = 0 ∷ 1 ∷ 5 ∷ 10 ∷ []
+
+-- an entry of a legend set or released
+abbrev pub legendNumbers : List ℕ
+legendNumbers = 0 ∷ 10 ∷ 19 ∷ []
 
 -- a reading of a kind
 abbrev pub readNumbers : ℕ → List ℕ

@@ -13,6 +13,8 @@ use Rattle.bodies.specs.Unpacking.{UnpackedBody, unpackedAnswer}
 use Rattle.tally.specs.Counts.{tallyAnswer}
 use Rattle.colour.specs.Palette.{Rgb}
 use Rattle.colour.specs.Shown.{colourAnswer}
+use Rattle.legend.specs.declared.Legend.{Legend}
+use Rattle.legend.specs.Setting.{legendAnswer}
 use Rattle.pond.specs.declared.PondCounts.{PondCounts}
 use Rattle.pond.specs.Reading.{pondAnswer}
 use Rattle.picture.specs.Tables.{noPicture}
@@ -52,6 +54,10 @@ abbrev pub ColourRefusal : Outcome Rgb → Type 0
 ColourRefusal o =
     Refuses (colourAnswer o .refusal) → (colourAnswer o .red ≡ 0) × (colourAnswer o .green ≡ 0) ×
     (colourAnswer o .blue ≡ 0)
+
+-- "the legend is then unchanged": the answer has the legend that was given
+abbrev pub LegendRefusal : Legend → Outcome Legend → Type 0
+LegendRefusal l o = Refuses (legendAnswer l o .refusal) → legendAnswer l o .legend ≡ l
 
 abbrev pub PondRefusal : Outcome PondCounts → Type 0
 PondRefusal o =

@@ -1,8 +1,8 @@
 // Inputs with two faults: the number is that of the fault that document 01 judges first ("Order of judging").
+use legend::Legend;
 use libc::STDOUT_FILENO;
 use outcome::Refusal;
 use picture::FILE_BYTES;
-use pond::Legend;
 use reader::KIND_DEGAS;
 use reader::KIND_NEOCHROME;
 use resolution::SCREEN_BYTES;
@@ -213,13 +213,27 @@ fn index_orders() {
         lines: 1,
     };
     let legend = Legend {
+        owners: [1u8; 16],
         classes: [0u8; 16],
         confidences: [101u8; 16],
     };
-    let pond = pond::read_pond(&screen, RESOLUTION, rectangle, 0, 101, legend);
+    let pond = pond::read_pond(&screen, RESOLUTION, rectangle, 1, 0, 101, legend);
     show_refusal(b"pond reading, resolution 3, confidence 101", pond.refusal);
     let colour = colour::colour(RESOLUTION, [0u16; 16], 16);
     show_refusal(b"colour, resolution 3, register 16", colour.refusal);
+}
+
+// An entry set and released: 10, 19.
+fn legend_orders() {
+    let ours = legend::set_entry(legend::new_legend(), 1, 0, 7, 90);
+    let set = legend::set_entry(ours.legend, 2, 0, 256, 90);
+    show_refusal(b"set, class 256, another's entry", set.refusal);
+    let anothers = legend::set_entry(ours.legend, 2, 0, 7, 90);
+    show_refusal(b"set, another's entry", anothers.refusal);
+    let release = legend::release_entry(ours.legend, 3, 0);
+    show_refusal(b"release, party 3, another's entry", release.refusal);
+    let free = legend::release_entry(ours.legend, 1, 1);
+    show_refusal(b"release, free entry", free.refusal);
 }
 
 // All of them.
@@ -233,4 +247,5 @@ pub(crate) fn run() {
     line_in_order();
     tally_order();
     index_orders();
+    legend_orders();
 }

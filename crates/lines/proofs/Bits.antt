@@ -11,7 +11,7 @@ use lib.Dec.{ltb}
 use lib.ListN.{getD}
 use lib.Pow.{pow-pos}
 use borrow.Author.Tests.{lt-ltb, le-ltb}
-use Rattle.lists.specs.All.{allFirst}
+use Rattle.lists.specs.All.{allBelow, allFirst}
 
 or-ltb : (a b p : ℕ) → ltb (bitOr a b) (2 ^ p) ≡ (ltb b (2 ^ p) && ltb a (2 ^ p))
 or-ltb a b p = go (decLt a (2 ^ p)) (decLt b (2 ^ p))
@@ -30,12 +30,12 @@ or-ltb a b p = go (decLt a (2 ^ p)) (decLt b (2 ^ p))
 
 -- before the loop's first turn
 pub zero-bits : (l : List ℕ) (p : ℕ) → ltb 0 (2 ^ p) ≡ allFirst 0 (λ x. ltb x (2 ^ p)) l
-unfolding allFirst
+unfolding allBelow
 zero-bits l p = lt-ltb 0 (2 ^ p) (pow-pos p)
 
 -- a turn of the loop
 pub more-bits : (l : List ℕ) (i bits p : ℕ) → ltb bits (2 ^ p) ≡ allFirst i (λ x. ltb x (2 ^ p)) l
     → ltb (bitOr bits (getD l i 0)) (2 ^ p) ≡ allFirst (i + 1) (λ x. ltb x (2 ^ p)) l
-unfolding allFirst
+unfolding allBelow
 more-bits l i bits p is =
     or-ltb bits (getD l i 0) p ∙ rw (add-one i) (ap (λ (b : Bool). ltb (getD l i 0) (2 ^ p) && b) is)

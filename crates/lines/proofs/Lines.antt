@@ -12,7 +12,7 @@ use borrow.Author.Tests.{ltb-true, ltb-false, leb-false, lt-ltb, lt-leb, le-ltb,
 use Rattle.lists.specs.Bytes.{Bytes}
 use Rattle.lists.specs.Over.{over, overAt}
 use Rattle.lists.specs.Tabulate.{tabulate}
-use Rattle.lists.proofs.All.{allFirst-each, each-allFirst}
+use Rattle.lists.proofs.All.{allBelow-each, each-allBelow}
 use Rattle.lists.proofs.Digits.{fromBits-ext, bit-fromBits, fromBits-bits, sum-digits, sum-digit}
 use Rattle.lists.proofs.Over.{length-over, getD-over-in, length-overAt, getD-overAt-before, getD-overAt-in, overAt-ext}
 use Rattle.lists.proofs.Sum.{sum-ext}
@@ -225,7 +225,7 @@ module _ (s : List ℕ) (number y : ℕ) (r : Resolution) (known : chosen number
       let room = le-ltb (length line) (widthOf r) hw in
       let below : ℕ → Bool = λ v. ltb v (registersOf r) in
       let fit : registersFit r line ≡ true =
-      each-allFirst below line (widthOf r) (λ x h. lt-ltb (getD line x 0) (registersOf r) (each x h)) in
+      each-allBelow _ (widthOf r) (λ x h. lt-ltb (getD line x 0) (registersOf r) (each x h)) in
       rw known (simp (le-ltb (length s) screenBytes long, lt-leb (heightOf r) y hy, room, fit))
 
 -- ---- the two theorems
@@ -244,7 +244,7 @@ out-after-in s line after number y room r known hw e =
     let q = passed (not (registersFit r line)) outOfRange (accepted t) after (j .2) in
     let fit = not-false (registersFit r line) (q .0) in
     let each : EachFits r line = λ x h.
-    ltb-true (getD line x 0) (registersOf r) (allFirst-each below line (widthOf r) fit x h) in
+    ltb-true (getD line x 0) (registersOf r) (allBelow-each _ (widthOf r) fit x h) in
     let same : accepted t ≡ accepted after = q .1 in
     let is : t ≡ after = cc in
     ap (λ (u : List ℕ). lineOut u number y room) (sym is)

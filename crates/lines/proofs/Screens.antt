@@ -16,7 +16,7 @@ use lib.Seq.{length-take-le, getD-take, getD-drop, getD-append-add, ext-getD}
 use Rattle.lists.specs.Bytes.{Bytes}
 use Rattle.lists.specs.Over.{over}
 use Rattle.lists.specs.Tabulate.{tabulate}
-use Rattle.lists.proofs.All.{allFirst-each, each-allFirst}
+use Rattle.lists.proofs.All.{allBelow-each, each-allBelow}
 use Rattle.lists.proofs.Flatten.{length-flatten, flatten-turn}
 use Rattle.lists.proofs.Over.{length-over, getD-over-in}
 use Rattle.lists.proofs.Parts.{tail-part}
@@ -93,11 +93,11 @@ module _ (r : Resolution) (registers : List ℕ) (y n : ℕ) (e : n ≡ y * widt
   pub part-fits : y < heightOf r → allFit r registers ≡ true → registersFit r part ≡ true
   part-fits h fit =
       let below : ℕ → Bool = λ v. ltb v (registersOf r) in
-      each-allFirst below part (widthOf r)
+      each-allBelow _ (widthOf r)
       (λ k b.
       ap (λ (l : List ℕ). below (getD l k 0)) (tail-part registers n)
       ∙ ap below (getD-drop n registers k 0)
-      ∙ allFirst-each below registers (pixelsOf r) fit (n + k)
+      ∙ allBelow-each _ (pixelsOf r) fit (n + k)
       (omega (arith, piece-within y (heightOf r) (widthOf r) h)))
 
   pub withLines-turn : (s screen : List ℕ) → screen ≡ withLines s r registers y
@@ -227,7 +227,7 @@ module _ (s : List ℕ) (number : ℕ) (r : Resolution) (known : chosen number �
   in-accepted registers h each =
       let below : ℕ → Bool = λ v. ltb v (registersOf r) in
       let fit : allFit r registers ≡ true =
-      each-allFirst below registers (pixelsOf r) (λ i l. lt-ltb (getD registers i 0) (registersOf r) (each i l)) in
+      each-allBelow _ (pixelsOf r) (λ i l. lt-ltb (getD registers i 0) (registersOf r) (each i l)) in
       rw known (simp (le-ltb (length s) screenBytes long, le-ltb (length registers) (pixelsOf r) h, fit))
 
 -- ---- the two theorems
@@ -246,7 +246,7 @@ screen-out-after-in s registers after number room r known h e =
     let q = passed (not (allFit r registers)) outOfRange (accepted t) after (j .1) in
     let fit = not-false (allFit r registers) (q .0) in
     let each : EachFits r registers = λ i l.
-    ltb-true (getD registers i 0) (registersOf r) (allFirst-each below registers (pixelsOf r) fit i l) in
+    ltb-true (getD registers i 0) (registersOf r) (allBelow-each _ (pixelsOf r) fit i l) in
     let same : accepted t ≡ accepted after = q .1 in
     let is : t ≡ after = cc in
     let size = length-withLines s r registers long (heightOf r) (le-refl (heightOf r)) in

@@ -61,6 +61,10 @@ ignoredBitsSet = 17
 abbrev pub noZeroTail : ℕ
 noZeroTail = 18
 
+-- another party's legend entry, or the release of a free one
+abbrev pub notOwned : ℕ
+notOwned = 19
+
 -- MacPaint version neither 0 nor 2
 abbrev pub wrongVersion : ℕ
 wrongVersion = 20

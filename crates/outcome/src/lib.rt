@@ -47,6 +47,9 @@ pub const IGNORED_BITS_SET: u8 = 17;
 // A DEGAS file's tail is absent or not all zero.
 pub const NO_ZERO_TAIL: u8 = 18;
 
+// A legend entry to set is another party's, or one to release is free or another party's.
+pub const NOT_OWNED: u8 = 19;
+
 // The version of a MacPaint file is neither 0 nor 2.
 pub const WRONG_VERSION: u8 = 20;
 

@@ -8,7 +8,7 @@ use lib.Dec.{eqb}
 use borrow.Author.Needs.{needs}
 use borrow.Author.Tests.{eq-eqb, ne-eqb, not-true, not-false}
 use Rattle.lists.specs.All.{allFirst}
-use Rattle.lists.proofs.All.{allFirst-start, allFirst-fails, allFirst-passes}
+use Rattle.lists.proofs.All.{allBelow-start, allBelow-fails, allBelow-passes}
 use Rattle.degas.specs.Layout.{tailLength}
 use Rattle.conversion.proofs.zero_tail.Statement.{statement}
 use Rattle.conversion.proofs.zero_tail.Tie as tie
@@ -23,7 +23,7 @@ abbrev μ-loop : tie.MeasureT-loop
 μ-loop bytes zero₀ i₀ zero i = tailLength - i
 
 loop-holds : tie.Need-loop-holds Inv-loop μ-loop
-loop-holds c = (search needs, allFirst-start isZero _)
+loop-holds c = (search needs, allBelow-start _)
 
 add-i : tie.Need-add-i Inv-loop μ-loop
 add-i c = omega arith
@@ -36,8 +36,8 @@ loop-again c =
     let l = c .before .before .loop in (
       omega arith,
       ⊎-elim
-          (λ w. w .1 ∙ allFirst-fails isZero _ (l .i) (ne-eqb _ _ (w .0 .taken)))
-          (λ w. w .1 ∙ allFirst-passes isZero _ (l .i) (l .zero) (eq-eqb _ _ (w .0 .left)) (l .inv .1))
+          (λ w. w .1 ∙ allBelow-fails _ (l .i) (ne-eqb _ _ (w .0 .taken)))
+          (λ w. w .1 ∙ allBelow-passes _ (l .i) (l .zero) (eq-eqb _ _ (w .0 .left)) (l .inv .1))
           (c .if2 .came),
     )
 

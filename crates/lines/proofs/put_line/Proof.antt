@@ -11,7 +11,7 @@ use lib.ListN.{getD}
 use borrow.Author.Tests.{ltb-true}
 use Rattle.lists.specs.Over.{overAt}
 use Rattle.lists.specs.Tabulate.{tabulate}
-use Rattle.lists.proofs.All.{allFirst-each}
+use Rattle.lists.proofs.All.{allBelow-each}
 use Rattle.lists.proofs.Tabulate.{tabulate-ext}
 use Rattle.resolution.specs.declared.Resolution.{Resolution}
 use Rattle.resolution.specs.declared.Resolution.the-variants.{Low, Medium, High}
@@ -33,7 +33,7 @@ module _ (r q : Resolution) (e : r ≡ q) where
   below : (line : List ℕ) → registersFit r line ≡ true → (x : ℕ) → x < widthOf q → getD line x 0 < registersOf q
   below line fit x h =
       let test : ℕ → Bool = λ v. ltb v (registersOf r) in
-      let passed = allFirst-each test line (widthOf r) fit x (omega (arith, ap widthOf e)) in
+      let passed = allBelow-each _ (widthOf r) fit x (omega (arith, ap widthOf e)) in
       omega (arith, ltb-true (getD line x 0) (registersOf r) passed, ap registersOf e)
 
   made : (y : ℕ) (line s : List ℕ) {f : ℕ → ℕ} → ((i : ℕ) → i < lineBytesOf q → f i ≡ lineByte q line i)

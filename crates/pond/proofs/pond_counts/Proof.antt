@@ -7,6 +7,7 @@ use lib.ListN.{getD}
 use borrow.Author.Needs.{needs}
 use Rattle.lists.specs.Sum.{sum}
 use Rattle.tally.specs.Counts.{mostPixels}
+use Rattle.legend.specs.Entries.{entries}
 use Rattle.pond.specs.declared.PondCounts.{PondCounts}
 use Rattle.pond.specs.Reading.{entryCounts, pondFrom}
 use Rattle.pond.proofs.Entries.{entries-le}
@@ -14,14 +15,14 @@ use Rattle.pond.proofs.pond_counts.Statement.{statement}
 use Rattle.pond.proofs.pond_counts.Tie as tie
 
 abbrev Inv-loop : tie.InvT-loop
-Inv-loop legend class floor counts sure₀ unsure₀ other₀ v₀ sure unsure other v =
-    (v ≤ 16)
-    × (sure ≡ sum v (λ v. entryCounts legend class floor v (getD counts v 0) .sure))
-    × (unsure ≡ sum v (λ v. entryCounts legend class floor v (getD counts v 0) .unsure))
-    × (other ≡ sum v (λ v. entryCounts legend class floor v (getD counts v 0) .other))
+Inv-loop legend party class floor counts sure₀ unsure₀ other₀ v₀ sure unsure other v =
+    (v ≤ entries)
+    × (sure ≡ sum v (λ v. entryCounts legend party class floor v (getD counts v 0) .sure))
+    × (unsure ≡ sum v (λ v. entryCounts legend party class floor v (getD counts v 0) .unsure))
+    × (other ≡ sum v (λ v. entryCounts legend party class floor v (getD counts v 0) .other))
 
 abbrev μ-loop : tie.MeasureT-loop
-μ-loop legend class floor counts sure₀ unsure₀ other₀ v₀ sure unsure other v = 16 - v
+μ-loop legend party class floor counts sure₀ unsure₀ other₀ v₀ sure unsure other v = entries - v
 
 loop-holds : tie.Need-loop-holds Inv-loop μ-loop
 unfolding sum
@@ -30,15 +31,15 @@ loop-holds c = search needs
 -- the sums with one register more
 sums-le : (c : tie.After-entry-counts Inv-loop μ-loop) → let l = c .before .before .loop in
     let e = c .entry-counts .result in
-    (l .sure + e .sure ≤ 16 * mostPixels) × (l .unsure + e .unsure ≤ 16 * mostPixels)
-    × (l .other + e .other ≤ 16 * mostPixels)
+    (l .sure + e .sure ≤ entries * mostPixels) × (l .unsure + e .unsure ≤ entries * mostPixels)
+    × (l .other + e .other ≤ entries * mostPixels)
 unfolding sum
 sums-le c =
     let l = c .before .before .loop in
     let o = c .before .before .before in
     let a = o .args in
     let e = c .entry-counts .ensures in
-    let n = entries-le (a .legend) (a .class) (a .floor) (a .t1) mostPixels (suc (l .v)) (o .pre) in (
+    let n = entries-le (a .legend) (a .party) (a .class) (a .floor) (a .t1) mostPixels (suc (l .v)) (o .pre) in (
       omega (arith, l .inv .1, ap (λ (p : PondCounts). p .sure) e, n .0),
       omega (arith, l .inv .2, ap (λ (p : PondCounts). p .unsure) e, n .1),
       omega (arith, l .inv .3, ap (λ (p : PondCounts). p .other) e, n .2),
@@ -68,7 +69,7 @@ returns : tie.Need-returns Inv-loop μ-loop
 unfolding pondFrom
 returns c =
     let l = c .before .loop in
-    let e : l .v ≡ 16 = omega arith in
+    let e : l .v ≡ entries = omega arith in
     rw (l .inv .1, l .inv .2, l .inv .3, e)
 
 pub pond-counts-spec : {M : Type 1} → statement M
