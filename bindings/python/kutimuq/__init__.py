@@ -8,17 +8,18 @@
 Each name is imported at its first use.
 """
 
-__version__ = "0.4.0"
+__version__ = "0.5.0"
 
 # Public name: the module that has it.
 _PUBLIC = {
     "BadImage": "images",
-    "BadText": "index",
+    "BadText": "legend",
     "Colour": "index",
-    "Entry": "index",
+    "Entry": "legend",
     "File": "pictures",
     "Form": "files",
     "Kind": "files",
+    "Legend": "legend",
     "LibraryMissing": "library",
     "Picture": "pictures",
     "Plate": "pictures",
@@ -28,6 +29,7 @@ _PUBLIC = {
     "Refused": "library",
     "Row": "pictures",
     "Tail": "pictures",
+    "change_legend": "legend",
     "colour": "index",
     "find_kind": "files",
     "from_registers": "pictures",
@@ -38,7 +40,7 @@ _PUBLIC = {
     "pack_row": "pictures",
     "pond": "index",
     "read": "pictures",
-    "read_legend": "index",
+    "read_legend": "legend",
     "read_plate": "pictures",
     "registers": "pictures",
     "screen_from_registers": "pictures",

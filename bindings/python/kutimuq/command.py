@@ -20,6 +20,8 @@ from .files import (
     find_kind,
     give,
     give_text,
+    is_stream,
+    printable,
     put,
     shown,
     take,
@@ -32,8 +34,11 @@ from .options import (
     TO_ENVI,
     TO_FILES,
     TO_FORM,
+    TO_MAKE_LEGEND,
     TO_READ_POND,
     TO_READ_PONDS,
+    TO_RELEASE,
+    TO_SET,
     TO_TALLY,
     Command,
     WrongUse,
@@ -62,7 +67,7 @@ def main(arguments: list[str] | None = None) -> int:
 
 
 def run(arguments: list[str]) -> int:
-    """Runs the command that the first argument names."""
+    """Runs the command that the first argument names, or the first two."""
     name = arguments[0] if arguments else ""
     if name == "--version":
         from . import __version__
@@ -70,13 +75,15 @@ def run(arguments: list[str]) -> int:
         give_text(f"{PROGRAM} {__version__}\n")
         return ACCEPTED
     if name in ("-h", "--help"):
-        give_text(help_text())
+        give_text(help_text(COMMANDS))
         return ACCEPTED
+    words = 1 if name in COMMANDS else 2
+    name = " ".join(arguments[:words])
     if name not in COMMANDS:
-        raise WrongUse((f"no command {name!r}" if name else "a COMMAND is needed") + f": {PROGRAM} --help tells more")
+        return help_on_group(arguments)
     command = COMMANDS[name]
     try:
-        options = parse(PROGRAM, name, command, arguments[1:])
+        options = parse(PROGRAM, name, command, arguments[words:])
     except WrongUse as error:
         raise WrongUse(f"{error}: {PROGRAM} {name} --help tells more") from None
     if options.help:
@@ -85,9 +92,21 @@ def run(arguments: list[str]) -> int:
     return command.run(options)
 
 
-def help_text() -> str:
-    """The help on all commands."""
-    rows = columns([(name, command.about) for name, command in COMMANDS.items()])
+def help_on_group(arguments: list[str]) -> int:
+    """The help on the commands that begin with one word, where it is asked for; else what is wrong."""
+    name = arguments[0] if arguments else ""
+    group = {each: command for each, command in COMMANDS.items() if each.startswith(f"{name} ")}
+    if group and arguments[1:2] in (["-h"], ["--help"]):
+        give_text(help_text(group))
+        return ACCEPTED
+    if group:
+        raise WrongUse(f"one of {', '.join(group)} is needed: {PROGRAM} {name} --help tells more")
+    raise WrongUse((f"no command {name!r}" if name else "a COMMAND is needed") + f": {PROGRAM} --help tells more")
+
+
+def help_text(commands: dict[str, Command]) -> str:
+    """The help on these commands."""
+    rows = columns([(name, command.about) for name, command in commands.items()])
     about = "Reads, checks and writes Atari ST pictures and MacPaint plates."
     start = [f"usage: {PROGRAM} COMMAND [OPTION]... [FILE]...", "", about, ""]
     end = ["", f"{PROGRAM} COMMAND --help tells more, {PROGRAM} --version the version."]
@@ -109,14 +128,14 @@ def kind_of(options) -> int | None:
     return None if options.kind is None else KIND_NAMES[options.kind]
 
 
-def legend_of(options):
-    """The legend that is named, or None."""
-    if options.legend is None:
+def legend_at(path: str | None):
+    """The legend in a file, or None if none is named."""
+    if path is None:
         return None
-    from .index import BadText, read_legend
+    from .legend import BadText, read_legend
 
     try:
-        return read_legend(options.legend)
+        return read_legend(path)
     except BadText as error:
         raise WrongUse(error) from None
 
@@ -295,7 +314,7 @@ def envi(options) -> int:
     """`envi`: ENVI classifications."""
     from .images import envi_of
 
-    entries = legend_of(options)
+    entries = legend_at(options.legend)
     places = destinations(options)
 
     def save(name, picture):
@@ -435,9 +454,9 @@ def tally_command(options) -> int:
 def pond_command(options) -> int:
     """`pond`: one pond of each map."""
     from .index import pond
+    from .legend import US
 
-    entries = legend_of(options)
-    question = (options.class_, options.floor, entries)
+    question = (options.class_, options.floor, legend_at(options.legend), options.party or US)
 
     def lines(name, picture):
         reading = on_screen(pond, picture, options.rectangle, "option --rectangle:", *question)
@@ -448,25 +467,27 @@ def pond_command(options) -> int:
 
 def ponds_command(options) -> int:
     """`ponds`: a table of many ponds of many maps."""
-    from .index import BadText, pond, read_questions
+    from .index import pond
+    from .legend import OWNERS, US, BadText, read_questions
 
     end_in_order()
-    entries = legend_of(options)
+    party = options.party or OWNERS[US]
+    legend = legend_at(options.legend)
     try:
-        questions = read_questions(options.list, entries)
+        questions = read_questions(options.list, legend, party)
     except BadText as error:
         raise WrongUse(error) from None
-    titles = {entry.class_: entry.name for entry in entries}
-    table = [tuple("map pond class class_name floor sure unsure other refused".split())]
+    titles = legend.names(party)
+    table = [tuple("map pond class class_name floor sure unsure other refused party".split())]
 
     def read_ponds(name, picture):
         for title, area, class_, floor in questions:
             what = f"{shown(options.list)}: pond {title!r}: rectangle"
-            reading = on_screen(pond, picture, area, what, class_, floor, entries)
-            table.append((name, title, class_, titles.get(class_, ""), floor, *reading, ""))
+            reading = on_screen(pond, picture, area, what, class_, floor, legend, party)
+            table.append((name, title, class_, titles.get(class_, ""), floor, *reading, "", party))
 
     def refused(name, refusal):
-        table.append((name, *[""] * 7, str(refusal)))
+        table.append((name, *[""] * 7, str(refusal), party))
 
     status = each(options, read_ponds, refused)
     if status == WRONG:
@@ -489,6 +510,75 @@ def give_table(path: str | None, rows: list[tuple]) -> None:
         put(path, data)
 
 
+def legend_new(options) -> int:
+    """`legend new`: a legend with all entries free."""
+    from .legend import Legend, legend_file
+
+    end_in_order()
+    give_legend(options.output, legend_file(Legend()))
+    return ACCEPTED
+
+
+def legend_show(options) -> int:
+    """`legend show`: a table of the entries."""
+    from .legend import FREE, OWNERS
+
+    rows = [("register", "owner", "class", "confidence", "name")]
+    for register, (class_, confidence, owner, name) in enumerate(legend_at(options.operands[0])):
+        numbers = ("-", "-") if owner == OWNERS[FREE] else (class_, confidence)
+        rows.append((register, owner, *numbers, printable(name)))
+    give_text("".join("{:>8}  {:5}  {:>5}  {:>10}  {}".format(*row).rstrip() + "\n" for row in rows))
+    return ACCEPTED
+
+
+def legend_set(options) -> int:
+    """`legend set`: a free entry, or the party's own, set."""
+    entry = (options.register, options.class_, options.confidence, options.party, options.name)
+    return changed_legend(options, lambda legend: legend.set(*entry))
+
+
+def legend_release(options) -> int:
+    """`legend release`: the party's own entry freed."""
+    return changed_legend(options, lambda legend: legend.release(options.register, options.party))
+
+
+def changed_legend(options, change) -> int:
+    """A legend after `change(legend)`, in its own file or elsewhere; after a refusal everything is as it was."""
+    from .legend import BadText, change_legend, legend_file, legend_in, text_of
+    from .library import Refused
+
+    end_in_order()
+    path = options.operands[0]
+    try:
+        if options.output is not None and is_same_file(path, options.output):
+            with change_legend(options.output) as legend:
+                change(legend)
+            return ACCEPTED
+        text = text_of(path)
+        legend = legend_in(text, path)
+        change(legend)
+        give_legend(options.output, legend_file(legend, text))
+    except Refused as refusal:
+        complain(refusal, path)
+        return REFUSED
+    except BadText as error:
+        raise WrongUse(error) from None
+    return ACCEPTED
+
+
+def is_same_file(path: str, output: str) -> bool:
+    """Whether an output's path is that of a file that is read."""
+    return path != "-" and os.path.exists(output) and not is_stream(output) and os.path.samefile(path, output)
+
+
+def give_legend(path: str | None, file: bytes) -> None:
+    """A legend to standard output or a new file: another one that stands there is not this command's to replace."""
+    if path in (None, "-"):
+        give(file)
+    else:
+        put(path, file, new=not is_stream(path))
+
+
 def levels_command(options) -> int:
     """`levels`: the table of colour levels."""
     from .index import levels
@@ -507,7 +597,7 @@ def check(options) -> int:
 
     end_in_order()
     options.kind = kind_of(options)
-    return run(options, legend_of(options))
+    return run(options, legend_at(options.legend))
 
 
 COMMANDS = {
@@ -533,5 +623,9 @@ COMMANDS = {
     "tally": Command(tally_command, "the pixels of each register", "FILE", TO_TALLY),
     "pond": Command(pond_command, "the sure, unsure and other pixels of a class", "FILE", TO_READ_POND),
     "ponds": Command(ponds_command, "many ponds of many maps, as CSV", "MAP", TO_READ_PONDS),
+    "legend new": Command(legend_new, "a new legend: all 16 entries free", None, TO_MAKE_LEGEND),
+    "legend show": Command(legend_show, "the entries of a legend, with their owners", "FILE?", ()),
+    "legend set": Command(legend_set, "the legend with a free entry, or the party's own, set", "FILE?", TO_SET),
+    "legend release": Command(legend_release, "the legend with the party's own entry freed", "FILE?", TO_RELEASE),
     "levels": Command(levels_command, "the eight colour levels, their bits and the values shown", None, ()),
 }

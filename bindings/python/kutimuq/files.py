@@ -192,7 +192,7 @@ def find_kind(data: bytes, name: str = "") -> Found:
 
 
 def number_of(choice, names: dict[str, int]) -> int:
-    """A kind or form given as a member, as a number or by its name."""
+    """The number of a kind, form, party or owner that is given as a member, as a number or by its name."""
     if not isinstance(choice, str):
         return choice
     try:
@@ -241,6 +241,34 @@ def take_from(file, limit: int = READ_LIMIT) -> bytes:
     return b"".join(pieces)
 
 
+class held:
+    """A context with a file, open for bytes, that nobody else holds meanwhile, though it be replaced."""
+
+    def __init__(self, path):
+        self.path = path
+
+    def __enter__(self):
+        from fcntl import LOCK_EX, flock
+
+        with naming(self.path):
+            while True:
+                self.file = open(self.path, "r+b")
+                try:
+                    flock(self.file, LOCK_EX)
+                    if os.path.samestat(os.fstat(self.file.fileno()), os.stat(self.path)):
+                        return self.file
+                except BaseException:
+                    self.file.close()
+                    raise
+                self.file.close()  # who held it before has put another in its place
+
+    def __exit__(self, *_) -> None:
+        from fcntl import LOCK_UN, flock
+
+        flock(self.file, LOCK_UN)  # a process that was forked meanwhile has it open, too
+        self.file.close()
+
+
 def give(data: bytes, stream: int = OUTPUT) -> None:
     """Writes all bytes to standard output or standard error."""
     left = memoryview(data)
@@ -266,12 +294,15 @@ def complain(about, name: str | None = None) -> None:
 
 
 def shown(name: str) -> str:
-    """A file's name on one line, with control and undecodable characters escaped."""
-    if name == "-":
-        return "standard input"
-    if name.isprintable():
-        return name
-    return "".join(c if c.isprintable() else c.encode("unicode_escape").decode("ascii") for c in name)
+    """A file's name on one line."""
+    return "standard input" if name == "-" else printable(name)
+
+
+def printable(text: str) -> str:
+    """A text with control and undecodable characters escaped."""
+    if text.isprintable():
+        return text
+    return "".join(c if c.isprintable() else c.encode("unicode_escape").decode("ascii") for c in text)
 
 
 def is_stream(path) -> bool:
@@ -284,8 +315,8 @@ def is_stream(path) -> bool:
 class Output:
     """A file that is written beside its place and moved there by `keep`.
 
-    Without `keep` nothing is left of it, and a file that stood at its place stays as it was. A new one is never put in
-    another's place, whoever made that one and when.
+    Without `keep` nothing is left of it, and a file that stood at its place stays as it was. What replaces a file has
+    its group and permissions. A new one is never put in another's place, whoever made that one and when.
     """
 
     def __init__(self, path, new: bool = False):
@@ -314,13 +345,17 @@ class Output:
     def keep(self) -> None:
         """Moves the file to its place."""
         with naming(self.name):
-            if self.new:
+            if self.beside is None:
+                self.file.close()
+                return
+            if not self.new:
+                take_rights(self.beside, self.path)
+            if self.new or os.path.lexists(self.path):
                 self.file.flush()
                 os.fsync(self.file.fileno())  # the name must not come to stand for less than the whole file
             self.file.close()
-            if self.beside is not None:
-                (move_new if self.new else os.replace)(self.beside, self.path)
-                self.beside = None
+            (move_new if self.new else os.replace)(self.beside, self.path)
+            self.beside = None
 
     def discard(self) -> None:
         """Removes what stands beside the place, if it was not moved."""
@@ -341,6 +376,26 @@ class Output:
             self.file.close()
         except OSError:
             pass  # a full disk or device, which writing or keeping has said
+
+
+def take_rights(path: str, old: str) -> None:
+    """Gives a file the group and the permissions of the one that it replaces: who shared that one shares this one.
+
+    Where the group cannot be kept, no group has permissions: what one was allowed is not for another.
+    """
+    try:
+        status = os.stat(old)
+    except OSError:
+        return  # it replaces none
+    mode = stat.S_IMODE(status.st_mode)
+    try:
+        os.chown(path, -1, status.st_gid)
+    except OSError:
+        mode &= ~(stat.S_IRWXG | stat.S_ISGID)  # a group that the caller is not in
+    try:
+        os.chmod(path, mode)
+    except OSError:
+        pass  # a file system without permissions
 
 
 def move_new(old: str, new: str) -> None:

@@ -93,13 +93,16 @@ def envi_of(picture: Picture, legend=None) -> tuple[bytes, bytes]:
 
 
 def class_name(register: int, legend=None) -> str:
-    """A register's name for a header in which commas and braces separate."""
+    """A register's name for a header in which commas and braces separate; it says the owner that is not us."""
     if legend is None:
         return f"register {register}"
-    entry = legend[register]
-    name = entry.name or f"class {entry.class_}"
-    plain = "".join(" " if c in ",{}=\\" or not c.isprintable() else c for c in name)
-    return f"{register} {plain} {entry.confidence}%"
+    from .legend import FREE, OWNERS, US
+
+    class_, confidence, owner, name = legend[register]
+    if owner == OWNERS[FREE]:
+        return f"{register} {owner}"
+    plain = "".join(" " if c in ",{}=\\" or not c.isprintable() else c for c in name or f"class {class_}")
+    return f"{register} {plain} {confidence}%" + ("" if owner == OWNERS[US] else f" ({owner})")
 
 
 def greymap_of(picture: Picture) -> bytes:

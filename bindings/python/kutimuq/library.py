@@ -126,7 +126,11 @@ class ColourAnswer(Structure):
 
 
 class Legend(Structure):
-    _fields_ = [("classes", c_uint8 * 16), ("confidences", c_uint8 * 16)]
+    _fields_ = [("owners", c_uint8 * 16), ("classes", c_uint8 * 16), ("confidences", c_uint8 * 16)]
+
+
+class LegendAnswer(Structure):
+    _fields_ = [("refusal", Refusal), ("legend", Legend)]
 
 
 class PondAnswer(Structure):
@@ -149,7 +153,10 @@ FUNCTIONS = {
     "kutimuq_screen_in": (Refusal, (*OUTPUT, c_uint16, *INPUT)),
     "kutimuq_tally": (TallyAnswer, (*INPUT, c_uint16, Rectangle)),
     "kutimuq_colour": (ColourAnswer, (c_uint16, Palette, c_uint8)),
-    "kutimuq_pond": (PondAnswer, (*INPUT, c_uint16, Rectangle, c_uint8, c_uint8, Legend)),
+    "kutimuq_new_legend": (Legend, ()),
+    "kutimuq_set_entry": (LegendAnswer, (Legend, c_uint8, c_uint8, c_uint16, c_uint8)),
+    "kutimuq_release_entry": (LegendAnswer, (Legend, c_uint8, c_uint8)),
+    "kutimuq_pond": (PondAnswer, (*INPUT, c_uint16, Rectangle, c_uint8, c_uint16, c_uint8, Legend)),
     "kutimuq_read": (ReadAnswer, (c_uint8, *INPUT, *OUTPUT)),
     "kutimuq_write": (WriteAnswer, (c_uint8, Picture, *INPUT, *OUTPUT)),
     "kutimuq_to_elite": (WriteAnswer, (*INPUT, *OUTPUT)),
@@ -183,8 +190,8 @@ def load(path: str) -> ctypes.CDLL:
 
 
 # Python numbers fitted to the widths of the library's numbers. ctypes would cut upper bits off: kind 257 would pass
-# for kind 1. The largest number of each width is out of range for all but a class, so the library refuses it.
-# 255 is a class: index.pond sees to classes out of range.
+# for kind 1. The largest number of each width is out of range, so the library refuses it. Only a class in a legend is a
+# byte of which every number is good: legend.legend_struct sees to those.
 
 BYTE_MAX = 0xFF
 WORD_MAX = 0xFFFF
@@ -197,12 +204,12 @@ def _fitted(number: int, largest: int) -> int:
 
 
 def byte(number: int) -> int:
-    """A kind, form, register, class, floor or confidence."""
+    """A kind, form, register, party, owner, floor or confidence."""
     return _fitted(number, BYTE_MAX)
 
 
 def word(number: int) -> int:
-    """A resolution."""
+    """A resolution, or a class that is asked for or set."""
     return _fitted(number, WORD_MAX)
 
 
@@ -264,6 +271,7 @@ class RefusalNumber(IntEnum):
     SIZE_MISMATCH = 13, "data left or words missing after the last run"
     IGNORED_BITS_SET = 17, "bits 2 to 14 of a plain file's first word not 0"
     NO_ZERO_TAIL = 18, "a tail absent or not all zero"
+    NOT_OWNED = 19, "a legend entry of another party, or a free one to release"
     WRONG_VERSION = 20, "MacPaint version neither 0 nor 2"
 
 

@@ -33,12 +33,18 @@ class Option(namedtuple("Option", "names metavar about parse required", defaults
 
 
 class Command(namedtuple("Command", "run about operands options")):
-    """A command: its function, help, the name and help of its operands (None if it has none), options.
+    """A command: its function, help, the name of its operands (None if it has none), options.
 
-    Operands default to standard input, unless their name is marked with a `+`: then one is needed.
+    Operands default to standard input, unless their name is marked with a `+`: then one is needed. With a `?` there is
+    one at most.
     """
 
     __slots__ = ()
+
+    @property
+    def operand(self) -> str:
+        """The operands' name without a mark."""
+        return (self.operands or "").rstrip("+?")
 
 
 def parse(program: str, name: str, command: Command, arguments: list[str]) -> SimpleNamespace:
@@ -93,13 +99,14 @@ def take_option(found: SimpleNamespace, by_name: dict[str, Option], argument: st
 
 def check_operands(found: SimpleNamespace, command: Command) -> None:
     """Standard input where no file is named; no operands where none are taken."""
-    if command.operands is None:
-        if found.operands:
-            raise WrongUse(f"{found.operands[0]!r} is too much")
-    elif not found.operands:
-        if command.operands.endswith("+"):
-            raise WrongUse(f"a {command.operands[:-1]} is needed")
-        found.operands = ["-"]
+    most = 0 if command.operands is None else 1 if command.operands.endswith("?") else len(found.operands)
+    if len(found.operands) > most:
+        raise WrongUse(f"{found.operands[most]!r} is too much")
+    if command.operands is None or found.operands:
+        return
+    if command.operands.endswith("+"):
+        raise WrongUse(f"a {command.operand} is needed")
+    found.operands = ["-"]
 
 
 def choice(names: list[str]):
@@ -116,10 +123,12 @@ def choice(names: list[str]):
 def command_help(program: str, name: str, command: Command) -> str:
     """The help of a command."""
     needed = "".join(f" {option.shown}" for option in command.options if option.required)
-    operands = "" if command.operands is None else f" {command.operands.rstrip('+')}..."
+    operands = ""
+    if command.operands is not None:
+        operands = f" [{command.operand}]" if command.operands.endswith("?") else f" {command.operand}..."
     lines = [f"usage: {program} {name}{needed} [OPTION]...{operands}", "", command.about, ""]
     if command.operands is not None and not command.operands.endswith("+"):
-        lines += [f"Without {command.operands} standard input is read.", ""]
+        lines += [f"Without {command.operand} standard input is read.", ""]
     rows = [(option.shown, option.about or "") for option in command.options] + [("-h, --help", "this help")]
     return "\n".join(lines + columns(rows)) + "\n"
 
@@ -134,21 +143,40 @@ def columns(rows: list[tuple[str, str]]) -> list[str]:
 
 
 def parse_rectangle(text: str):
-    from .index import rectangle_of
+    from .legend import rectangle_of
 
     return rectangle_of(text)
 
 
 def parse_class(text: str) -> int:
-    from .index import number_within
+    from .legend import number_within
 
     return number_within(text, 255, "class")
 
 
 def parse_confidence(text: str) -> int:
-    from .index import CONFIDENCE_MAX, number_within
+    from .legend import CONFIDENCE_MAX, number_within
 
     return number_within(text, CONFIDENCE_MAX, "confidence")
+
+
+def parse_register(text: str) -> int:
+    from .legend import REGISTERS, number_within
+
+    return number_within(text, REGISTERS - 1, "register")
+
+
+def parse_party(text: str) -> str:
+    from .legend import PARTIES
+
+    named = {str(number): name for name, number in PARTIES.items()}
+    return choice(list(PARTIES))(named.get(text, text))
+
+
+def parse_name(text: str) -> str:
+    from .legend import checked_name
+
+    return checked_name(text)
 
 
 def parse_palette(text: str) -> list[int]:
@@ -161,7 +189,7 @@ def parse_palette(text: str) -> list[int]:
 
 
 def parse_jobs(text: str) -> int:
-    from .index import number_within
+    from .legend import number_within
 
     return max(1, number_within(text, 1024, "processes"))
 
@@ -191,6 +219,13 @@ NEEDED_LEGEND = LEGEND._replace(required=True)
 PALETTE = Option(("--palette",), "WORDS", "16 hexadecimal words; default: the PNG's palette", parse_palette)
 LIKE = Option(("--like",), "PICTURE", "take palette and tail from this picture file")
 CLASS = Option(("--class",), "CLASS", "0 to 255", parse_class, True)
+PARTY = Option(("--party",), "PARTY", "whose entries count: us (1) or them (2); default: us", parse_party)
+NEEDED_PARTY = PARTY._replace(about="who does it: us (1) or them (2)", required=True)
+REGISTER = Option(("--register",), "REGISTER", "0 to 15", parse_register, True)
+CONFIDENCE = Option(("--confidence",), "CONFIDENCE", "0 to 100", parse_confidence, True)
+NAME = Option(("--name",), "NAME", "what the party calls the class; default: the name that it has", parse_name)
+NEW_FILE = OUTPUT_FILE._replace(about="a new file for it; default: standard output")
+SAME_OR_NEW_FILE = OUTPUT_FILE._replace(about="where it goes, the same file or a new one; default: standard output")
 FLOOR = Option(("--floor",), "CONFIDENCE", "0 to 100; pixels below it are unsure", parse_confidence, True)
 LIST = Option(("--list",), "FILE", "CSV with the columns name, rectangle, class and floor", None, True)
 JSON = Option(("--json",), "FILE", "a line of JSON for each file")
@@ -208,5 +243,8 @@ TO_FORM = (FORM, *TO_FILES)
 TO_CONVERT = (RESULTS, JSON, CSV)
 TO_ENCODE = (FORM, PALETTE, LIKE, OUTPUT_FILE, FOLDER)
 TO_TALLY = (RECTANGLE, *SOURCES)
-TO_READ_POND = (NEEDED_LEGEND, CLASS, FLOOR, RECTANGLE, *SOURCES)
-TO_READ_PONDS = (NEEDED_LEGEND, LIST, OUTPUT_FILE, *SOURCES)
+TO_READ_POND = (NEEDED_LEGEND, CLASS, FLOOR, PARTY, RECTANGLE, *SOURCES)
+TO_READ_PONDS = (NEEDED_LEGEND, LIST, PARTY, OUTPUT_FILE, *SOURCES)
+TO_MAKE_LEGEND = (NEW_FILE,)
+TO_SET = (NEEDED_PARTY, REGISTER, CLASS, CONFIDENCE, NAME, SAME_OR_NEW_FILE)
+TO_RELEASE = (NEEDED_PARTY, REGISTER, SAME_OR_NEW_FILE)

@@ -33,8 +33,8 @@ PROGRAM = shlex.join(support.PROGRAM)
 
 
 COMMANDS = (
-    "check summary palette tail png pbm envi registers colours convert elite plain encode "
-    "tally pond ponds levels".split()
+    *"check summary palette tail png pbm envi registers colours convert elite plain encode tally pond ponds".split(),
+    *("legend new", "legend show", "legend set", "legend release", "levels"),
 )
 MEANING_8 = "bytes after the body not as the format has them"
 GREY_16 = b"P5\n320 200\n255\n" + bytes(63_999) + b"\x10"
@@ -171,7 +171,7 @@ class Accepted(unittest.TestCase):
         listed = command("--help").stdout.decode()
         for name in COMMANDS:
             self.assertIn(f"\n  {name} ", listed)
-            self.assertIn(f"usage: kutimuq {name}".encode(), command(name, "--help").stdout)
+            self.assertIn(f"usage: kutimuq {name}".encode(), command(*name.split(), "--help").stdout)
 
     def test_ways_to_give_options(self):
         path = self.folder / "-q"
@@ -263,12 +263,12 @@ class Many(unittest.TestCase):
         self.assertEqual((done.stdout, done.returncode), (b"", 1))
         rows = list(csv.reader(out.read_text().splitlines()))
         a, torn, b = map(str, self.paths)
-        self.assertEqual(rows[0], "map pond class class_name floor sure unsure other refused".split())
-        self.assertEqual(rows[1], [a, "all", "0", "ground", "40", "64000", "0", "0", ""])
-        self.assertEqual(rows[2], [a, "north, old", "1", "brine", "95", "0", "0", "100", ""])
-        self.assertEqual(rows[3], [torn, *[""] * 7, f"refused 8 at 1634: {MEANING_8}"])
+        self.assertEqual(rows[0], "map pond class class_name floor sure unsure other refused party".split())
+        self.assertEqual(rows[1], [a, "all", "0", "ground", "40", "64000", "0", "0", "", "us"])
+        self.assertEqual(rows[2], [a, "north, old", "1", "brine", "95", "0", "0", "100", "", "us"])
+        self.assertEqual(rows[3], [torn, *[""] * 7, f"refused 8 at 1634: {MEANING_8}", "us"])
         counts = kutimuq.pond(kutimuq.open(b).screen, 0, (0, 0, 10, 10), 1, 95, [(0, 50)] + [(1, 90)] * 15)
-        self.assertEqual(rows[5], [b, "north, old", "1", "brine", "95", *map(str, counts), ""])
+        self.assertEqual(rows[5], [b, "north, old", "1", "brine", "95", *map(str, counts), "", "us"])
         self.assertEqual(len(rows), 6)
 
     def test_ponds_outside_the_screen(self):
@@ -308,6 +308,7 @@ class NothingLost(unittest.TestCase):
         done = command("convert", "--form", "packed", "-o", self.out, data=BLANK)
         self.assertEqual((done.returncode, self.out.read_bytes()), (0, BLANK))
         self.assertEqual(list(self.folder.iterdir()), [self.out])
+        self.assertEqual(self.out.stat().st_mode & 0o777, 0o640)
 
     def test_a_link_stays_a_link(self):
         link = self.folder / "link"

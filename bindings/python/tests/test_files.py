@@ -1,10 +1,15 @@
-"""How a file's kind is found."""
+"""How a file's kind is found, and how a file is replaced."""
 
+import os
+import stat
+import tempfile
 import unittest
+from pathlib import Path
+from unittest import mock
 
 import kutimuq
 from kutimuq import Form, Kind
-from kutimuq.files import FORM_NAMES, FORMS, KIND_NAMES, KINDS, READ_LIMIT, UNKNOWN, find_kind
+from kutimuq.files import FORM_NAMES, FORMS, KIND_NAMES, KINDS, READ_LIMIT, UNKNOWN, find_kind, put
 
 from .support import BLANK, PALETTE, Case, noise
 
@@ -62,3 +67,66 @@ class Doubt(Case):
         self.assertEqual(find_kind(padded), (UNKNOWN, "nothing"))
         self.assertEqual(find_kind(padded, "MAP.PI1"), (Kind.DEGAS, "extension"))
         self.assertRefused(3, 0, kutimuq.read, padded, Kind.DEGAS)
+
+
+class Replacing(unittest.TestCase):
+    def setUp(self):
+        folder = tempfile.TemporaryDirectory()
+        self.addCleanup(folder.cleanup)
+        self.path = Path(folder.name) / "file"
+        self.path.write_bytes(b"old")
+
+    def mode(self):
+        return stat.S_IMODE(self.path.stat().st_mode)
+
+    def test_permissions_stay(self):
+        for mode in (0o600, 0o640, 0o664, 0o444):
+            self.path.chmod(mode)
+            put(self.path, b"new")
+            self.assertEqual((self.path.read_bytes(), self.mode()), (b"new", mode))
+
+    def test_the_group_is_kept(self):
+        own = os.getegid()
+        group = own + 1 if os.geteuid() == 0 else next((each for each in os.getgroups() if each != own), None)
+        if group is None:
+            self.skipTest("the caller is in one group only")
+        os.chown(self.path, -1, group)
+        self.path.chmod(0o660)
+        with mock.patch("os.chown", wraps=os.chown) as chown:
+            put(self.path, b"new")
+        self.assertEqual([call.args[1:] for call in chown.call_args_list], [(-1, group)])
+        self.assertEqual((self.path.stat().st_gid, self.mode()), (group, 0o660))
+
+    def test_without_its_group_no_group_has_permissions(self):
+        for mode, left in ((0o600, 0o600), (0o640, 0o600), (0o664, 0o604), (0o2770, 0o700), (0o444, 0o404)):
+            self.path.chmod(mode)
+            with mock.patch("os.chown", side_effect=PermissionError):
+                put(self.path, b"new")
+            self.assertEqual((self.path.read_bytes(), self.mode()), (b"new", left))
+
+    def test_a_file_system_without_permissions(self):
+        with mock.patch("os.chown", side_effect=PermissionError), mock.patch("os.chmod", side_effect=PermissionError):
+            put(self.path, b"new")
+        self.assertEqual(self.path.read_bytes(), b"new")
+
+    def test_the_group_comes_before_its_permissions(self):
+        calls = []
+        with mock.patch("os.chown", lambda *_: calls.append("group")):
+            with mock.patch("os.chmod", lambda *_: calls.append("permissions")):
+                put(self.path, b"new")
+                put(self.path.with_name("another"), b"new")
+        self.assertEqual(calls, ["group", "permissions"])
+
+    def test_it_is_on_the_disk_before_it_replaces_a_file_or_is_never_to_be_replaced(self):
+        for name, new, move in (("file", False, "replace"), ("third", True, "link")):
+            place, steps = self.path.with_name(name), []
+            with mock.patch("os.fsync", lambda number: steps.append(os.fstat(number).st_size)):
+                with mock.patch.object(os, move, wraps=getattr(os, move)) as moved:
+                    moved.side_effect = lambda *_: steps.append(move) or mock.DEFAULT
+                    put(place, b"longer", new)
+            self.assertEqual((steps, place.read_bytes()), ([len(b"longer"), move], b"longer"))
+
+    def test_a_stream_and_a_file_where_none_stood_are_not_flushed_to_disk(self):
+        with mock.patch("os.fsync", side_effect=OSError):
+            put("/dev/null", b"new")
+            put(self.path.with_name("second"), b"new")

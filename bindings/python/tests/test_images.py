@@ -13,7 +13,7 @@ from pathlib import Path
 
 import kutimuq
 from kutimuq import images
-from kutimuq.index import Entry
+from kutimuq.legend import Entry, Legend
 
 from .support import SAMPLES, SHAPES, TAIL, Case, expected_registers, noise
 
@@ -204,6 +204,14 @@ print(repr(shown))
             if expanded.returncode:  # an older netpbm
                 expanded = subprocess.run(["ppmtoppm"], input=shown, capture_output=True, check=True)
             self.assertEqual(expanded.stdout[-100_000:], images.pixmap_of(picture)[-100_000:])
+
+
+class ClassNames(Case):
+    def test_owners(self):
+        legend = [(2, 95, "us", "brine, mixed"), (2, 60, "them", "gypsum"), (0, 0, "free"), (7, 5, "them"), (7, 5)]
+        _, header = images.envi_of(picture_at(0), Legend(legend + [(0, 0, "free")] * 11))
+        names = "0 brine  mixed 95%, 1 gypsum 60% (them), 2 free, 3 class 7 5% (them), 4 class 7 5%, 5 free, 6 free"
+        self.assertIn(f"class names = {{{names}", header.decode())
 
 
 class Registers(Case):

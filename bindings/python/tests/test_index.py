@@ -4,7 +4,8 @@ import tempfile
 from pathlib import Path
 
 import kutimuq
-from kutimuq.index import BadText, Entry, levels, read_legend, read_questions
+from kutimuq.index import levels
+from kutimuq.legend import BadText, Entry, Legend, read_legend, read_questions
 
 from .support import SHAPES, Case, expected_registers, noise
 
@@ -94,6 +95,9 @@ class Ponds(Case):
         for legend in (LEGEND[:15], LEGEND + LEGEND[:1]):
             with self.assertRaises(ValueError):
                 kutimuq.pond(bytes(32_000), 0, (0, 0, 1, 1), 0, 0, legend)
+        for legend in (None, 0, True, object(), bytes(16), "0" * 16, [None] * 16, dict.fromkeys(range(16))):
+            with self.assertRaises(TypeError):
+                kutimuq.pond(bytes(32_000), 0, None, 0, 0, legend)
 
 
 LEVELS = (0, 36, 72, 109, 145, 182, 218, 255)
@@ -159,14 +163,18 @@ class Legends(TextFiles):
             (0, 0, "free", ""), (2, 95, "us", "magnesium brine"), (2, 60, "us", "magnesium brine"),
             (3, 10, "them", "Pfütze nº 1"),
         ])
-        self.assertEqual(kutimuq.pond(bytes(32_000), 0, None, 0, 0, legend), (64_000, 0, 0))
+        # A free entry counts as other, also for class 0 and floor 0.
+        self.assertEqual(kutimuq.pond(bytes(32_000), 0, None, 0, 0, legend), (0, 0, 64_000))
 
     def test_errors_say_the_line(self):
         good = "1 1\n"
-        for wrong in ("1", "x 1", "256 1", "-1 1", "1 101", "1 1.5", "1 1 you", "1 1 free", "¹ 1", "1 " + "9" * 5000):
+        for wrong in ("1", "x 1", "256 1", "-1 1", "1 101", "1 1.5", "1 1 you", "¹ 1", "1 " + "9" * 5000):
+            self.assertBad(read_legend, good * 2 + wrong + "\n" + good * 13, 3)
+        for wrong in ("1 1 free", "1 0 free", "0 1 free", "0 100 free name"):
             self.assertBad(read_legend, good * 2 + wrong + "\n" + good * 13, 3)
         self.assertBad(read_legend, good * 15, 15)
-        self.assertBad(read_legend, "", 0)
+        self.assertBad(read_legend, "", 1)
+        self.assertBad(read_legend, "\ufeff", 1)
         self.assertBad(read_legend, good * 17, 17)
         self.assertBad(read_legend, "# c\n1 1 us a\n1 1 us b\n" + good * 14, 3)
         self.assertBad(read_legend, b"1 1\n\xff\n", 2)
@@ -177,7 +185,7 @@ class Legends(TextFiles):
 
 
 class Questions(TextFiles):
-    LEGEND = [Entry(2, 90, "us", "brine, magnesium")] * 16
+    LEGEND = Legend([Entry(2, 90, "us", "brine, magnesium")] * 15 + [Entry(3, 90, "them", "gypsum")])
 
     def test_a_list(self):
         self.path.write_text(
@@ -187,6 +195,13 @@ class Questions(TextFiles):
         self.assertEqual(read_questions(self.path, self.LEGEND), [
             ("north, old", (160, 0, 80, 50), 2, 80), ("all", None, 2, 0), ("spaces", (1, 2, 3, 4), 255, 100),
         ])
+
+    def test_names_are_the_partys(self):
+        self.path.write_text("\ufeffname,rectangle,class,floor\na,,gypsum,5\n", encoding="utf-8")
+        self.assertEqual(read_questions(self.path, self.LEGEND, "them"), [("a", None, 3, 5)])
+        self.assertBad(read_questions, self.path.read_bytes(), 2, self.LEGEND, "us")
+        with self.assertRaisesRegex(BadText, "or the name of a class of us is needed, not 'gypsum'"):
+            read_questions(self.path, self.LEGEND)
 
     def test_errors_say_the_line(self):
         head = "name,rectangle,class,floor\n"

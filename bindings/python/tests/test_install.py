@@ -17,7 +17,7 @@ HEADER = REPOSITORY / "include" / "kutimuq.h"
 # Costly to import, and not needed to start.
 NOT_AT_START = set(
     "argparse re typing dataclasses inspect json csv hashlib zlib pathlib tempfile numpy subprocess "
-    "multiprocessing concurrent.futures".split()
+    "multiprocessing concurrent.futures contextlib fcntl kutimuq.legend".split()
 )
 
 
@@ -103,5 +103,6 @@ class Names(unittest.TestCase):
         page = (PYTHON / "man" / "kutimuq.1").read_text().replace("\\", "")
         for name in COMMANDS:
             self.assertRegex(page, rf"\n\.(B|BI|BR) ([a-z\", ]* )?\"?{name}\b")
-        for option in "json csv report legend jobs resume kind quiet output folder form palette like".split():
+        options = "json csv report legend jobs resume kind quiet output folder form palette like party register name"
+        for option in options.split():
             self.assertIn(f"--{option}", page)

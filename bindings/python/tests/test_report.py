@@ -1,5 +1,6 @@
 """The report page, as text and in a browser."""
 
+import json
 import re
 import shutil
 import subprocess
@@ -127,6 +128,35 @@ class Page(unittest.TestCase):
         tally = kutimuq.open(self.folder / "A.PC1").tally()
         self.assertEqual(counts, [(str(register), str(count)) for register, count in enumerate(tally)])
         self.assertRegex(shown, r'<tr class="under"><td>2</td>')
+
+    def test_owners(self):
+        legend = self.shared_legend()
+        data = re.search('<script type="application/json" id="data">(.*?)</script>', self.page("--legend", legend))[1]
+        entries = json.loads(data)["legend"]
+        self.assertEqual(entries[1:4], [
+            {"class": 1, "confidence": 90, "owner": "us", "name": "fresh water"},
+            {"class": 2, "confidence": 80, "owner": "them", "name": "gypsum"},
+            {"class": 0, "confidence": 0, "owner": "free", "name": ""},
+        ])
+
+    @unittest.skipUnless(shutil.which("chromium"), "chromium is not installed")
+    def test_owners_in_a_browser(self):
+        page = self.page("--legend", self.shared_legend())
+        for x, y, told in (
+            (120, 20, "register 1, class 1 fresh water, confidence 90 %"),
+            (200, 20, "register 2, class 2 (them) gypsum, confidence 80 %"),
+            (280, 20, "register 3, free"),
+        ):
+            shown = self.text(self.shown(page, 0, x, y), "pointer")
+            self.assertTrue(shown.startswith(f"x {x}, y {y}: {told}, colour "), shown)
+
+    def shared_legend(self):
+        """The sample's legend, with register 2 theirs and register 3 free."""
+        legend = self.out / "shared.legend"
+        lines = (SAMPLES / "ponds.legend").read_text().splitlines()
+        lines[4:6] = ["2 80 them gypsum", "0 0 free"]
+        legend.write_text("\n".join(lines))
+        return legend
 
     @unittest.skipUnless(shutil.which("chromium"), "chromium is not installed")
     def test_in_a_browser_without_a_legend(self):

@@ -40,10 +40,10 @@ class Samples(unittest.TestCase):
             SAMPLES / "torn.pc1",
         )
         self.assertEqual((done.returncode, done.stdout.decode().splitlines()), (1, [
-            "map,pond,class,class_name,floor,sure,unsure,other,refused",
-            f"{PONDS},magnesium pond,2,magnesium brine,80,2624,472,904,",
-            f"{PONDS},shadow over it,4,cloud shadow,80,400,0,3600,",
-            f"{PONDS},whole works,2,magnesium brine,80,2624,3968,57408,",
+            "map,pond,class,class_name,floor,sure,unsure,other,refused,party",
+            f"{PONDS},magnesium pond,2,magnesium brine,80,2624,472,904,,us",
+            f"{PONDS},shadow over it,4,cloud shadow,80,400,0,3600,,us",
+            f"{PONDS},whole works,2,magnesium brine,80,2624,3968,57408,,us",
             f"{SAMPLES / 'torn.pc1'},,,,,,,,"
-            "\"refused 7 at 4096: a record crosses its row's end (plane row 481, 30 bytes good)\"",
+            "\"refused 7 at 4096: a record crosses its row's end (plane row 481, 30 bytes good)\",us",
         ]))

@@ -78,11 +78,24 @@ pub struct ColourAnswer {
     pub blue: u8,
 }
 
+/// For each register an owner, a class and a confidence: the entries that two parties share.
 #[repr(C)]
 #[derive(Clone, Copy, Debug, Default, PartialEq, Eq)]
 pub struct Legend {
+    /// 0 free, 1 or 2 a party.
+    pub owners: [u8; 16],
+    /// 0 where the entry is free.
     pub classes: [u8; 16],
+    /// 0 to 100, and 0 where the entry is free.
     pub confidences: [u8; 16],
+}
+
+/// The legend that a set or a release leaves: after a refusal the one that was given.
+#[repr(C)]
+#[derive(Clone, Copy, Debug, Default, PartialEq, Eq)]
+pub struct LegendAnswer {
+    pub refusal: Refusal,
+    pub legend: Legend,
 }
 
 #[repr(C)]
@@ -151,12 +164,22 @@ extern "C" {
         rectangle: Rectangle,
     ) -> TallyAnswer;
     pub fn kutimuq_colour(resolution: u16, palette: Palette, register: u8) -> ColourAnswer;
+    pub fn kutimuq_new_legend() -> Legend;
+    pub fn kutimuq_set_entry(
+        legend: Legend,
+        party: u8,
+        register: u8,
+        class: u16,
+        confidence: u8,
+    ) -> LegendAnswer;
+    pub fn kutimuq_release_entry(legend: Legend, party: u8, register: u8) -> LegendAnswer;
     pub fn kutimuq_pond(
         screen: *const u8,
         screen_len: usize,
         resolution: u16,
         rectangle: Rectangle,
-        class: u8,
+        party: u8,
+        class: u16,
         floor: u8,
         legend: Legend,
     ) -> PondAnswer;

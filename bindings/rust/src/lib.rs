@@ -29,6 +29,7 @@
 mod conversion;
 pub mod ffi;
 mod files;
+mod legend;
 mod pixels;
 mod plates;
 pub mod refusal;
@@ -38,6 +39,7 @@ mod rows;
 pub use conversion::{to_elite, to_plain};
 pub use ffi::{Legend, Rectangle};
 pub use files::{read, write, Form, Kind, Picture, Reading, Tail, Written};
+pub use legend::Party;
 pub use pixels::{
     colour, line_in, line_out, pond, screen_in, screen_out, tally, Colour, PondReading,
 };
@@ -46,6 +48,7 @@ pub use refusal::Refusal;
 pub use resolution::{Resolution, Shape};
 pub use rows::{pack_row, unpack_row, PackedRow};
 
+/// The binding's version, which is the library's.
 pub const VERSION: &str = env!("CARGO_PKG_VERSION");
 
 /// A screen: the first 32,000 bytes of the slice lent for it.

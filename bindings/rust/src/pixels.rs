@@ -1,7 +1,7 @@
 //! Registers of a screen, their colours and their counts.
 
 use crate::ffi::{self, Palette};
-use crate::{Legend, Rectangle, Refusal, Resolution};
+use crate::{Legend, Party, Rectangle, Refusal, Resolution};
 
 /// Each part from 0 to 255.
 #[derive(Clone, Copy, Debug, PartialEq, Eq)]
@@ -11,7 +11,8 @@ pub struct Colour {
     pub blue: u8,
 }
 
-/// Pixels of the class at or above the floor, of the class below it, and of any other class.
+/// Pixels of the class at or above the floor and of the class below it, each in entries of the
+/// party, and all others.
 #[derive(Clone, Copy, Debug, PartialEq, Eq)]
 pub struct PondReading {
     pub sure: u32,
@@ -87,20 +88,36 @@ pub fn colour(
     Ok(Colour { red: answer.red, green: answer.green, blue: answer.blue })
 }
 
-/// Counts the pixels of a class in a rectangle, sure and unsure ones apart.
+/// Counts the pixels of a class in a rectangle for a party, sure and unsure ones apart: only entries
+/// that the party owns count as sure or unsure.
+///
+/// ```
+/// use kutimuq::{pond, Legend, Party, Resolution, SCREEN_BYTES};
+///
+/// let mut legend = Legend::new();
+/// legend.set_entry(Party::One, 0, 7, 80)?;
+/// let screen = [0; SCREEN_BYTES];
+/// let whole = Resolution::Low.whole_screen();
+/// let found = pond(&screen, Resolution::Low, whole, Party::One, 7, 60, &legend)?;
+/// assert_eq!((found.sure, found.unsure, found.other), (64_000, 0, 0));
+/// let found = pond(&screen, Resolution::Low, whole, Party::Two, 7, 60, &legend)?;
+/// assert_eq!((found.sure, found.unsure, found.other), (0, 0, 64_000));
+/// # Ok::<(), kutimuq::Refusal>(())
+/// ```
 pub fn pond(
     screen: &[u8],
     resolution: Resolution,
     area: Rectangle,
+    party: Party,
     class: u8,
     floor: u8,
     legend: &Legend,
 ) -> Result<PondReading, Refusal> {
-    let (from, from_len) = (screen.as_ptr(), screen.len());
+    let (from, from_len, number) = (screen.as_ptr(), screen.len(), resolution as u16);
+    let (party, class) = (party as u8, u16::from(class));
     // SAFETY: pointer and length are those of a slice.
-    let answer = unsafe {
-        ffi::kutimuq_pond(from, from_len, resolution as u16, area, class, floor, *legend)
-    };
+    let answer =
+        unsafe { ffi::kutimuq_pond(from, from_len, number, area, party, class, floor, *legend) };
     answer.refusal.judged()?;
     Ok(PondReading { sure: answer.sure, unsure: answer.unsure, other: answer.other })
 }

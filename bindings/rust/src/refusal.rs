@@ -46,6 +46,7 @@ numbers! {
     SIZE_MISMATCH = 13, "data left or words missing after the last run";
     IGNORED_BITS_SET = 17, "bits 2 to 14 of a plain file's first word not 0";
     NO_ZERO_TAIL = 18, "a tail absent or not all zero";
+    NOT_OWNED = 19, "a legend entry of another party, or a free one to release";
     WRONG_VERSION = 20, "MacPaint version neither 0 nor 2";
 }
 

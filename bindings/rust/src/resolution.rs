@@ -3,6 +3,7 @@
 use crate::refusal::{self, Refusal};
 use crate::Rectangle;
 
+/// A screen's resolution.
 #[repr(u16)]
 #[derive(Clone, Copy, Debug, PartialEq, Eq, Hash)]
 pub enum Resolution {
@@ -25,8 +26,10 @@ pub struct Shape {
 }
 
 impl Resolution {
+    /// From low to high.
     pub const ALL: [Resolution; 3] = [Resolution::Low, Resolution::Medium, Resolution::High];
 
+    /// The width, height, planes and row length.
     pub const fn shape(self) -> Shape {
         match self {
             Resolution::Low => Shape { width: 320, height: 200, planes: 4, row_bytes: 40 },

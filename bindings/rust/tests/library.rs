@@ -117,14 +117,101 @@ fn pond_splits_the_tally() {
     let screen = screen_of(Resolution::Low, &pattern(Resolution::Low));
     let whole = Resolution::Low.whole_screen();
     let counts = tally(&screen, Resolution::Low, whole).expect("a tally");
-    let mut legend = Legend { classes: [1; 16], confidences: [100; 16] };
+    let mut legend = Legend { owners: [1; 16], classes: [1; 16], confidences: [100; 16] };
     legend.classes[3] = 2;
     legend.confidences[5] = 49;
-    let found = pond(&screen, Resolution::Low, whole, 1, 50, &legend).expect("a pond reading");
-    let sure = 64_000 - counts[3] - counts[5];
-    assert_eq!(found, PondReading { sure, unsure: counts[5], other: counts[3] });
+    legend.owners[7] = 2;
+    let read = |party, legend: &Legend| pond(&screen, Resolution::Low, whole, party, 1, 50, legend);
+    let found = read(Party::One, &legend).expect("a pond reading");
+    let other = counts[3] + counts[7];
+    let sure = 64_000 - counts[5] - other;
+    assert_eq!(found, PondReading { sure, unsure: counts[5], other });
+    let found = read(Party::Two, &legend).expect("a pond reading");
+    assert_eq!(found, PondReading { sure: counts[7], unsure: 0, other: 64_000 - counts[7] });
     legend.confidences[15] = 101;
-    assert_eq!(refused(pond(&screen, Resolution::Low, whole, 1, 50, &legend)), (10, 0));
+    assert_eq!(refused(read(Party::One, &legend)), (refusal::OUT_OF_RANGE, 0));
+}
+
+#[test]
+fn a_free_entry_is_other_for_every_class() {
+    let screen = screen_of(Resolution::Low, &pattern(Resolution::Low));
+    let whole = Resolution::Low.whole_screen();
+    let counts = tally(&screen, Resolution::Low, whole).expect("a tally");
+    let mut legend = Legend::new();
+    assert_eq!(legend, Legend::default());
+    let read = |party, legend: &Legend| pond(&screen, Resolution::Low, whole, party, 0, 0, legend);
+    let nothing = PondReading { sure: 0, unsure: 0, other: 64_000 };
+    assert_eq!([Party::One, Party::Two].map(|party| read(party, &legend)), [Ok(nothing); 2]);
+    legend.set_entry(Party::Two, 9, 0, 0).expect("a free entry");
+    let ninth = PondReading { sure: counts[9], unsure: 0, other: 64_000 - counts[9] };
+    assert_eq!(read(Party::One, &legend), Ok(nothing));
+    assert_eq!(read(Party::Two, &legend), Ok(ninth));
+}
+
+#[test]
+fn entries_are_set_and_released() {
+    for register in 0..16 {
+        let entry = usize::from(register);
+        let mut legend = Legend::new();
+        let mut expected = legend;
+        legend.set_entry(Party::Two, register, 255, 100).expect("a free entry");
+        (expected.owners[entry], expected.classes[entry]) = (2, 255);
+        expected.confidences[entry] = 100;
+        assert_eq!(legend, expected);
+        legend.set_entry(Party::Two, register, 7, 0).expect("the party's own entry");
+        (expected.classes[entry], expected.confidences[entry]) = (7, 0);
+        assert_eq!(legend, expected);
+        let not_owned = (refusal::NOT_OWNED, 0);
+        assert_eq!(refused(legend.set_entry(Party::One, register, 7, 0)), not_owned);
+        assert_eq!(refused(legend.release_entry(Party::One, register)), not_owned);
+        assert_eq!(legend, expected);
+        legend.release_entry(Party::Two, register).expect("the party's own entry");
+        assert_eq!(legend, Legend::new());
+        assert_eq!(refused(legend.release_entry(Party::Two, register)), not_owned);
+    }
+}
+
+#[test]
+fn entries_out_of_range_are_refused() {
+    let mut legend = Legend::new();
+    legend.set_entry(Party::One, 0, 1, 50).expect("a free entry");
+    let before = legend;
+    let out_of_range = (refusal::OUT_OF_RANGE, 0);
+    assert_eq!(refused(legend.set_entry(Party::Two, 0, 1, 101)), out_of_range);
+    assert_eq!(refused(legend.set_entry(Party::One, 16, 1, 50)), out_of_range);
+    assert_eq!(refused(legend.release_entry(Party::One, 255)), out_of_range);
+    assert_eq!(legend, before);
+    for number in [0, 3, 255] {
+        assert_eq!(refused(Party::try_from(number)), out_of_range);
+    }
+    for party in [Party::One, Party::Two] {
+        assert_eq!(Party::try_from(party as u8), Ok(party));
+    }
+}
+
+#[test]
+fn a_damaged_legend_is_refused_and_stays() {
+    let damages: [fn(&mut Legend, usize); 4] = [
+        |legend, entry| legend.owners[entry] = 3,
+        |legend, entry| (legend.owners[entry], legend.confidences[entry]) = (1, 101),
+        |legend, entry| legend.classes[entry] = 1,
+        |legend, entry| legend.confidences[entry] = 1,
+    ];
+    let screen = [0; SCREEN_BYTES];
+    for (entry, damage) in (0..16).flat_map(|entry| damages.map(|damage| (entry, damage))) {
+        let mut damaged = Legend::new();
+        damage(&mut damaged, entry);
+        let before = damaged;
+        let out_of_range = (refusal::OUT_OF_RANGE, 0);
+        assert_eq!(refused(damaged.set_entry(Party::One, 4, 1, 50)), out_of_range);
+        assert_eq!(refused(damaged.release_entry(Party::One, 4)), out_of_range);
+        assert_eq!(damaged, before);
+        for resolution in Resolution::ALL {
+            let area = Rectangle::default();
+            let answer = pond(&screen, resolution, area, Party::One, 1, 50, &damaged);
+            assert_eq!(refused(answer), out_of_range);
+        }
+    }
 }
 
 #[test]
