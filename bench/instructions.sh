@@ -3,9 +3,9 @@
 #
 # Usage: instructions.sh [OPERATION...]
 #
-# OPERATION is an operation of the tables of times, or pack-row alone; fourteen are counted where none is named. The
+# OPERATION is an operation of the tables of times, or pack-row alone; sixteen are counted where none is named. The
 # environment variable SCREEN is a screen of the first table, by default map; 64 screens in turn count as one call.
-# An operation on plates is counted on each plate.
+# An operation on plates is counted on each plate, one on legends on each legend.
 set -eu
 
 # Valgrind counts each byte of a rep movsb as one instruction: here no copy is long enough for one.
@@ -95,6 +95,27 @@ plate_lines() {
     echo "memcpy of a plate: $copy"
 }
 
+# A line of the table of legends: OPERATION.
+legend_line() {
+    counts=
+    for by in "" rust-; do
+        for legend in new shared damaged; do
+            count=$(instructions "$by$1" $legend legend)
+            counts="$counts $count"
+        done
+    done
+    # shellcheck disable=SC2086 # one word a count
+    columns "$1" $counts
+}
+
+legend_lines() {
+    echo "| operation | new | shared | damaged | Rust new | Rust shared | Rust damaged | ratio |"
+    echo "|---|---|---|---|---|---|---|---|"
+    for operation; do
+        legend_line "$operation"
+    done
+}
+
 row_lines() {
     echo "| width of a row packed | library | Rust | ratio |"
     echo "|---|---|---|---|"
@@ -107,17 +128,20 @@ row_lines() {
 
 pictures=
 plates=
+legends=
 case "$*" in
 "")
     pictures="packed-read tiny-read form3-write to-elite to-plain"
     pictures="$pictures lines-in lines-out screen-in screen-out tally pond raw-read"
     plates="plate-read plate-write"
+    legends="set-entry release-entry"
     ;;
 pack-row) ;;
 *)
     for operation; do
         case $operation in
         plate-*) plates="$plates $operation" ;;
+        *-entry) legends="$legends $operation" ;;
         *) pictures="$pictures $operation" ;;
         esac
     done
@@ -138,4 +162,9 @@ fi
 if [ -n "$plates" ]; then
     echo
     plate_lines $plates
+fi
+# shellcheck disable=SC2086
+if [ -n "$legends" ]; then
+    echo
+    legend_lines $legends
 fi

@@ -86,8 +86,13 @@ static void print_pixels(void)
     FIELD(ColourAnswer, blue);
 
     STRUCT(Legend);
+    FIELD(Legend, owners);
     FIELD(Legend, classes);
     FIELD(Legend, confidences);
+
+    STRUCT(LegendAnswer);
+    REFUSAL(LegendAnswer);
+    FIELD(LegendAnswer, legend);
 
     STRUCT(PondAnswer);
     REFUSAL(PondAnswer);
@@ -119,6 +124,7 @@ static const char *name_of(enum KutimuqNumber number)
         NAME(SIZE_MISMATCH);
         NAME(IGNORED_BITS_SET);
         NAME(NO_ZERO_TAIL);
+        NAME(NOT_OWNED);
         NAME(WRONG_VERSION);
     }
     return NULL;

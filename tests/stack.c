@@ -17,12 +17,13 @@ enum {
     /* Limits: a raw file read, or a file refused before its body or runs are unpacked;
        a packed or Tiny file unpacked; a MacPaint file unpacked; a raw DEGAS file made
        Elite or plain, or refused before its body is unpacked; a packed one unpacked for
-       that; any other operation. */
+       that; an operation on a legend alone; any other operation. */
     NOT_UNPACKED = 1000,
     UNPACKED = 35000,
     PLATE_UNPACKED = 55000,
     CONVERTED = 35000,
     CONVERTED_UNPACKED = 68000,
+    LEGEND = 500,
     NOT_READ = 3000,
 
     LONG_AREA = KUTIMUQ_SCREEN_BYTES + 1,
@@ -44,7 +45,11 @@ enum {
     HALF = 8000,
     DATA_BYTES = 2 + 2 * HALF,
     /* MacPaint: the last byte of the version. */
-    VERSION = 3
+    VERSION = 3,
+    /* A register; a confidence that is allowed and one that is not. */
+    ENTRY = 15,
+    SURE = 100,
+    TOO_SURE = 101
 };
 
 static uint8_t painted[STACK_BYTES];
@@ -64,6 +69,7 @@ static KutimuqPicture picture;
 static KutimuqLegend legend;
 static KutimuqRectangle whole;
 static uint8_t kind, form;
+static uint8_t party, confidence;
 static size_t file_len, area_len, converted_len;
 
 static bool printing;
@@ -99,9 +105,30 @@ static void tally(void)
     number = kutimuq_tally(screen, sizeof screen, picture.resolution, whole).refusal.number;
 }
 
+static void new_legend(void)
+{
+    legend = kutimuq_new_legend();
+    number = KUTIMUQ_ACCEPTED;
+}
+
+static void set_entry(void)
+{
+    KutimuqLegendAnswer answer = kutimuq_set_entry(legend, party, ENTRY, 1, confidence);
+    legend = answer.legend;
+    number = answer.refusal.number;
+}
+
+static void release_entry(void)
+{
+    KutimuqLegendAnswer answer = kutimuq_release_entry(legend, party, ENTRY);
+    legend = answer.legend;
+    number = answer.refusal.number;
+}
+
 static void pond(void)
 {
-    number = kutimuq_pond(screen, sizeof screen, picture.resolution, whole, 0, 0, legend)
+    number = kutimuq_pond(screen, sizeof screen, picture.resolution, whole, party, 1, confidence,
+                          legend)
                  .refusal.number;
 }
 
@@ -318,9 +345,28 @@ static void pixels(void)
     KutimuqShape shape = kutimuq_shape(picture.resolution);
     whole = (KutimuqRectangle){0, 0, shape.width, shape.height};
     check("tally", tally, NOT_READ, KUTIMUQ_ACCEPTED);
-    check("pond", pond, NOT_READ, KUTIMUQ_ACCEPTED);
     check("screen out", screen_out, NOT_READ, KUTIMUQ_ACCEPTED);
     check("screen in", screen_in, NOT_READ, KUTIMUQ_ACCEPTED);
+}
+
+/* One party sets an entry, the other may not; readings of both parties. */
+static void legends(void)
+{
+    check("new legend", new_legend, LEGEND, KUTIMUQ_ACCEPTED);
+    confidence = SURE;
+    for (party = 2; party > 0; party--) {
+        uint8_t expected = party == 2 ? KUTIMUQ_ACCEPTED : KUTIMUQ_NOT_OWNED;
+        check("entry set", set_entry, LEGEND, expected);
+        check("pond", pond, NOT_READ, KUTIMUQ_ACCEPTED);
+    }
+    party = 1;
+    check("another's entry released", release_entry, LEGEND, KUTIMUQ_NOT_OWNED);
+    confidence = TOO_SURE;
+    check("entry out of range", set_entry, LEGEND, KUTIMUQ_OUT_OF_RANGE);
+    check("pond out of range", pond, NOT_READ, KUTIMUQ_OUT_OF_RANGE);
+    party = 2;
+    check("entry released", release_entry, LEGEND, KUTIMUQ_ACCEPTED);
+    check("free entry released", release_entry, LEGEND, KUTIMUQ_NOT_OWNED);
 }
 
 /* Every other scan line differs from byte to byte; the rest is 0. */
@@ -343,6 +389,7 @@ int main(int argc, char **argv)
         plain_files_converted();
         elite_files_converted();
         pixels();
+        legends();
     }
     picture.resolution = 0;
     plates();

@@ -6,8 +6,10 @@
 //! The second form does one operation N times, for a count of instructions, each time for every
 //! picture of the series. OPERATION is a name of the table, `rust-` and such a name, or
 //! `memcpy`; or `pack-row` or `rust-pack-row`, with a row width in place of the resolution. With
-//! `plate` in place of the resolution OPERATION is one on plates or `memcpy`, and SCREEN a plate.
+//! `plate` in place of the resolution OPERATION is one on plates or `memcpy`, and SCREEN a plate;
+//! with `legend` it is one on legends, and SCREEN a legend.
 
+mod legends;
 mod operations;
 mod pictures;
 mod plain;
@@ -17,6 +19,7 @@ mod times;
 use std::process::ExitCode;
 
 use kutimuq_tests::reference::PACK_AREA_BYTES;
+use legends::{LEGENDS, LEGEND_OPERATIONS};
 use operations::{By, OPERATIONS};
 use pictures::{Subject, RESOLUTIONS, SERIES};
 use plates::{PlateSubject, PLATES, PLATE_OPERATIONS};
@@ -45,8 +48,10 @@ fn once(operation: &str, screen: &str, size: &str, times: &str) -> Option<()> {
         Some(name) => (name, By::Plain),
         None => (operation, By::Library),
     };
-    if size == "plate" {
-        return once_a_plate(name, by, screen, times);
+    match size {
+        "plate" => return once_a_plate(name, by, screen, times),
+        "legend" => return once_a_legend(name, by, screen, times),
+        _ => {}
     }
     let series = named(&SERIES, screen)?;
     if name == "pack-row" {
@@ -73,6 +78,13 @@ fn once_a_plate(name: &str, by: By, plate: &str, times: usize) -> Option<()> {
     }
     let operation = named(PLATE_OPERATIONS, name)?;
     (0..times).for_each(|_| plates::run(operation, by, &mut subject));
+    Some(())
+}
+
+fn once_a_legend(name: &str, by: By, legend: &str, times: usize) -> Option<()> {
+    let legend = named(&LEGENDS, legend)?;
+    let operation = named(LEGEND_OPERATIONS, name)?;
+    (0..times).for_each(|_| legends::run(operation, by, &legend));
     Some(())
 }
 

@@ -7,7 +7,8 @@ use kutimuq::ffi::{Legend, Rectangle};
 use kutimuq_tests::library::Library;
 use kutimuq_tests::operations::Operations;
 use kutimuq_tests::reference::{
-    Shape, FORM_ELITE_PACKED, KIND_DEGAS, KIND_TINY, PACK_AREA_BYTES, SCREEN_BYTES, WIDEST_ROW,
+    Question, Shape, FORM_ELITE_PACKED, KIND_DEGAS, KIND_TINY, PACK_AREA_BYTES, SCREEN_BYTES,
+    WIDEST_ROW,
 };
 
 use crate::pictures::{Areas, Input, Series, Subject};
@@ -244,19 +245,19 @@ fn tally(by: By, input: &Input, rectangle: Rectangle, sink: &mut impl Sink) {
     }
 }
 
-/// Of four classes one, which has registers on both sides of the floor.
-fn pond(by: By, input: &Input, rectangle: Rectangle, sink: &mut impl Sink) {
-    const CLASS: u8 = 1;
-    const FLOOR: u8 = 60;
+/// Of four classes one, which has registers on both sides of the floor, all of one party.
+fn pond(by: By, input: &Input, area: Rectangle, sink: &mut impl Sink) {
+    const PARTY: u8 = 1;
     const LEGEND: Legend = Legend {
+        owners: [PARTY; 16],
         classes: [0, 1, 1, 2, 3, 0, 1, 1, 2, 3, 0, 1, 2, 3, 1, 1],
         confidences: [90, 80, 40, 60, 100, 0, 60, 59, 75, 20, 50, 95, 30, 85, 10, 70],
     };
     let Input { picture, screen, .. } = input;
-    let resolution = picture.resolution;
+    let question = Question { area, party: PARTY, class: 1, floor: 60 };
     let answer = match by {
-        By::Library => Library.pond(screen, resolution, rectangle, CLASS, FLOOR, LEGEND),
-        By::Plain => plain::pond(screen, resolution, &rectangle, CLASS, FLOOR, &LEGEND),
+        By::Library => Library.pond(screen, picture.resolution, question, LEGEND),
+        By::Plain => plain::pond(screen, picture.resolution, &question, &LEGEND),
     };
     sink.take(answer, &[]);
 }

@@ -5,6 +5,7 @@
 mod conversion;
 mod counts;
 mod degas;
+mod legends;
 mod lines;
 mod packing;
 mod plates;
@@ -14,6 +15,7 @@ mod unpacking;
 
 pub use conversion::{to_elite, to_plain};
 pub use counts::{pond, tally};
+pub use legends::{release_entry, set_entry};
 pub use lines::{line_in, line_out};
 pub use packing::{pack_row, write_packed};
 pub use plates::{read_plate, write_plate};

@@ -4,6 +4,7 @@ use std::time::Instant;
 
 use kutimuq_tests::reference::PACK_AREA_BYTES;
 
+use crate::legends::{self, LEGENDS, LEGEND_OPERATIONS};
 use crate::operations::{self, By, Operation, OPERATIONS};
 use crate::pictures::{Subject, RESOLUTIONS, SERIES};
 use crate::plates::{self, PlateOperation, PlateSubject, PLATES, PLATE_OPERATIONS};
@@ -37,7 +38,7 @@ fn least_times<const JOBS: usize>(rounds: usize, mut job: impl FnMut(usize)) -> 
 struct Measured {
     operation: &'static str,
     screen: &'static str,
-    /// A resolution, a row's width, or "plate".
+    /// A resolution, a row's width, "plate" or "legend".
     size: String,
     ratio: f64,
 }
@@ -48,6 +49,8 @@ pub fn print_tables() {
     all.extend(print_plates());
     println!();
     all.extend(print_rows());
+    println!();
+    all.extend(print_legends());
     println!();
     print_worst(&all);
 }
@@ -143,6 +146,30 @@ fn print_rows() -> Vec<Measured> {
         Measured { operation: "pack-row", screen, size: format!("width {width}"), ratio }
     };
     ROW_WIDTHS.map(measure).into()
+}
+
+/// Every operation on each legend.
+fn print_legends() -> Vec<Measured> {
+    println!("nanoseconds per call on a legend; ratio: library / Rust");
+    println!();
+    println!("| operation | legend | library | Rust | ratio |");
+    println!("|---|---|---|---|---|");
+    let operations =
+        LEGEND_OPERATIONS.iter().flat_map(|operation| LEGENDS.map(|legend| (operation, legend)));
+    operations
+        .map(|((operation, operation_name), (legend, name))| {
+            let agreed = legends::agree(*operation, &legend);
+            assert!(agreed, "{operation_name}, {name}: library and plain Rust differ");
+            let [library, plain] = least_times(ROUNDS, |number| {
+                let by = if number == 0 { By::Library } else { By::Plain };
+                legends::run(*operation, by, &legend);
+            });
+            let ratio = library / plain;
+            println!("| {operation_name} | {name} | {library:.1} | {plain:.1} | {ratio:.2} |");
+            let size = "legend".to_string();
+            Measured { operation: operation_name, screen: name, size, ratio }
+        })
+        .collect()
 }
 
 /// The worst ratio of each operation over all screens and resolutions.

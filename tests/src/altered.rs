@@ -1,20 +1,30 @@
 //! The reference altered: wrong versions that the checks must find.
 
 mod conversions;
+mod legends;
 mod plates;
+mod ponds;
 
 pub use conversions::{
     Convert, ConvertBy, RARELY_WRONG_TO_ELITE, RARELY_WRONG_TO_PLAIN, WRONG_BOTH_WAYS,
     WRONG_TO_ELITE, WRONG_TO_PLAIN,
 };
+pub use legends::{
+    AlterAnswer, NewLegend, ReleaseEntry, SetEntry, Tolerate, RARELY_WRONG_RELEASES,
+    RARELY_WRONG_SETS, TOLERANCES, WRONG_ANSWERS, WRONG_NEW_LEGENDS, WRONG_RELEASES,
+    WRONG_RELEASES_OF_DAMAGED, WRONG_SETS, WRONG_SETS_OF_DAMAGED,
+};
 pub use plates::{
     ReadPlate, WritePlate, RARELY_WRONG_PLATE_READINGS, WRONG_PLATE_READINGS, WRONG_PLATE_WRITINGS,
 };
 
+pub use ponds::{ReadPond, RARELY_WRONG_PONDS, WRONG_PONDS, WRONG_PONDS_OF_DAMAGED};
+
 use crate::operations::{Operations, Reference};
-use crate::reference::{self, Shape, SCREEN_BYTES};
+use crate::reference::{self, Question, Shape, SCREEN_BYTES};
 use kutimuq::ffi::*;
 use kutimuq::refusal::{self, Refusal};
+use legends::of_other_legend;
 
 pub enum Altered {
     /// Each refusal of the row unpacker and the file readers altered.
@@ -23,6 +33,14 @@ pub enum Altered {
     LinesBottomUp,
     /// Entries past the last pixel of a whole screen judged.
     AllEntriesJudged,
+    NewLegend(NewLegend),
+    SetEntry(SetEntry),
+    ReleaseEntry(ReleaseEntry),
+    /// The answers of sets and releases.
+    LegendAnswers(AlterAnswer),
+    /// Sets, releases and pond readings that do not judge all of a legend.
+    Tolerance(Tolerate),
+    Pond(ReadPond),
     ToElite(Convert),
     ToPlain(Convert),
     /// Both conversions, by way of the right ones.
@@ -115,16 +133,58 @@ impl Operations for Altered {
         Reference.colour(resolution, palette, register)
     }
 
+    fn new_legend(&self) -> Legend {
+        match self {
+            Altered::NewLegend(new_legend) => new_legend(),
+            _ => Reference.new_legend(),
+        }
+    }
+
+    fn set_entry(
+        &self,
+        legend: Legend,
+        party: u8,
+        register: u8,
+        class: u16,
+        confidence: u8,
+    ) -> LegendAnswer {
+        let set_in = |legend| Reference.set_entry(legend, party, register, class, confidence);
+        match self {
+            Altered::SetEntry(set_entry) => set_entry(legend, party, register, class, confidence),
+            Altered::LegendAnswers(alter) => alter(legend, set_in(legend)),
+            Altered::Tolerance(tolerate) => {
+                of_other_legend(legend, tolerate(legend), register, set_in)
+            }
+            _ => set_in(legend),
+        }
+    }
+
+    fn release_entry(&self, legend: Legend, party: u8, register: u8) -> LegendAnswer {
+        let release_in = |legend| Reference.release_entry(legend, party, register);
+        match self {
+            Altered::ReleaseEntry(release_entry) => release_entry(legend, party, register),
+            Altered::LegendAnswers(alter) => alter(legend, release_in(legend)),
+            Altered::Tolerance(tolerate) => {
+                of_other_legend(legend, tolerate(legend), register, release_in)
+            }
+            _ => release_in(legend),
+        }
+    }
+
     fn pond(
         &self,
         screen: &[u8],
         resolution: u16,
-        area: Rectangle,
-        class: u8,
-        floor: u8,
+        question: Question,
         legend: Legend,
     ) -> PondAnswer {
-        Reference.pond(screen, resolution, area, class, floor, legend)
+        match self {
+            Altered::Pond(pond) => pond(screen, resolution, question, legend),
+            Altered::Tolerance(tolerate) => {
+                Reference.pond(screen, resolution, question, tolerate(legend))
+            }
+            _ => Reference.pond(screen, resolution, question, legend),
+        }
     }
 
     fn read(&self, kind: u8, file: &[u8], area: &mut [u8]) -> ReadAnswer {

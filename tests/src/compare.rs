@@ -5,7 +5,7 @@
 //! and the library must leave its inputs as they were.
 
 use crate::operations::{Conversion, Operations, Reference};
-use crate::reference::{self, PLATE_HEADER_BYTES};
+use crate::reference::{self, Question, PLATE_HEADER_BYTES};
 use crate::report::Report;
 use kutimuq::ffi::*;
 use std::fmt::Debug;
@@ -201,25 +201,60 @@ impl<'a> Comparison<'a> {
         });
     }
 
+    pub fn new_legend(&mut self) {
+        self.prepare(&[], 0);
+        let (expected, actual) = (reference::new_legend(), self.library.new_legend());
+        self.judge(expected, actual, &[], || "a new legend".to_string());
+    }
+
+    /// Compares, and gives back what the library answered.
+    pub fn set_entry(
+        &mut self,
+        legend: Legend,
+        party: u8,
+        register: u8,
+        class: u16,
+        confidence: u8,
+    ) -> LegendAnswer {
+        self.prepare(&[], 0);
+        let expected = reference::set_entry(legend, party, register, class, confidence);
+        let actual = self.library.set_entry(legend, party, register, class, confidence);
+        self.judge(expected, actual, &[], || {
+            format!(
+                "party {party}, register {register}, class {class}, confidence {confidence}, \
+                 {legend:?}"
+            )
+        });
+        actual
+    }
+
+    /// Compares, and gives back what the library answered.
+    pub fn release_entry(&mut self, legend: Legend, party: u8, register: u8) -> LegendAnswer {
+        self.prepare(&[], 0);
+        let expected = reference::release_entry(legend, party, register);
+        let actual = self.library.release_entry(legend, party, register);
+        self.judge(expected, actual, &[], || {
+            format!("party {party}, register {register}, {legend:?}")
+        });
+        actual
+    }
+
+    /// Compares, and gives back what the library answered.
     pub fn pond(
         &mut self,
         screen: &[u8],
         resolution: u16,
-        area: Rectangle,
-        class: u8,
-        floor: u8,
+        question: Question,
         legend: Legend,
-    ) {
+    ) -> PondAnswer {
         self.prepare(screen, 0);
-        let expected = reference::pond(screen, resolution, area, class, floor, legend);
-        let actual = self.library.pond(&self.input, resolution, area, class, floor, legend);
+        let expected = reference::pond(screen, resolution, question, legend);
+        let actual = self.library.pond(&self.input, resolution, question, legend);
         self.judge(expected, actual, screen, || {
             let screen = shown(screen);
-            format!(
-                "screen {screen}, resolution {resolution}, {area:?}, class {class}, \
-                 floor {floor}, {legend:?}"
-            )
+            format!("screen {screen}, resolution {resolution}, {question:?}, {legend:?}")
         });
+        actual
     }
 
     /// Compares, and gives back what the library answered.

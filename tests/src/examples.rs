@@ -1,8 +1,10 @@
 //! Every example of document 01, as a check of its own, on one implementation; then Tiny files,
-//! rows at fault, DEGAS files made Elite and plain, and MacPaint plates.
+//! rows at fault, legends, DEGAS files made Elite and plain, and MacPaint plates.
 
 mod conversion;
+mod legend;
 mod macpaint;
+mod pond;
 mod row_at_fault;
 mod tiny;
 
@@ -53,8 +55,17 @@ pub fn run(operations: &dyn Operations, report: &mut Report) {
     tiny::run(&mut examples);
     examples.report.section(&format!("examples of faults: {}", operations.name()));
     row_at_fault::run(&mut examples);
+    run_legends(operations, report);
     run_conversions(operations, report);
     run_plates(operations, report);
+}
+
+/// Only the examples of legends and of pond readings.
+pub fn run_legends(operations: &dyn Operations, report: &mut Report) {
+    report.section(&format!("examples of legends: {}", operations.name()));
+    let mut examples = Examples { operations, report };
+    legend::run(&mut examples);
+    pond::run(&mut examples);
 }
 
 /// Only the examples of DEGAS files made Elite and plain.

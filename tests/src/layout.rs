@@ -50,7 +50,8 @@ pub fn table() -> Vec<String> {
     describe!(lines, Rectangle { left, top, columns, lines });
     describe_answer!(lines, TallyAnswer { counts });
     describe_answer!(lines, ColourAnswer { red, green, blue });
-    describe!(lines, Legend { classes, confidences });
+    describe!(lines, Legend { owners, classes, confidences });
+    describe_answer!(lines, LegendAnswer { legend });
     describe_answer!(lines, PondAnswer { sure, unsure, other });
     describe!(lines, Palette { words });
     lines.push(format!("version {}", kutimuq::VERSION));

@@ -6,6 +6,7 @@ pub mod completion;
 pub mod examples;
 pub mod fast;
 pub mod generate;
+pub mod isolation;
 pub mod layout;
 #[cfg(feature = "library")]
 pub mod library;

@@ -3,6 +3,7 @@
 //! An empty slice passes Rust's dangling pointer, never null, and length 0.
 
 use crate::operations::Operations;
+use crate::reference::Question;
 use kutimuq::ffi::*;
 use kutimuq::refusal::Refusal;
 
@@ -91,18 +92,35 @@ impl Operations for Library {
         unsafe { kutimuq_colour(resolution, palette, register) }
     }
 
+    fn new_legend(&self) -> Legend {
+        unsafe { kutimuq_new_legend() }
+    }
+
+    fn set_entry(
+        &self,
+        legend: Legend,
+        party: u8,
+        register: u8,
+        class: u16,
+        confidence: u8,
+    ) -> LegendAnswer {
+        unsafe { kutimuq_set_entry(legend, party, register, class, confidence) }
+    }
+
+    fn release_entry(&self, legend: Legend, party: u8, register: u8) -> LegendAnswer {
+        unsafe { kutimuq_release_entry(legend, party, register) }
+    }
+
     fn pond(
         &self,
         screen: &[u8],
         resolution: u16,
-        area: Rectangle,
-        class: u8,
-        floor: u8,
+        question: Question,
         legend: Legend,
     ) -> PondAnswer {
-        unsafe {
-            kutimuq_pond(screen.as_ptr(), screen.len(), resolution, area, class, floor, legend)
-        }
+        let Question { area, party, class, floor } = question;
+        let (from, from_len) = (screen.as_ptr(), screen.len());
+        unsafe { kutimuq_pond(from, from_len, resolution, area, party, class, floor, legend) }
     }
 
     fn read(&self, kind: u8, file: &[u8], area: &mut [u8]) -> ReadAnswer {

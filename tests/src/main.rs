@@ -45,8 +45,8 @@ fn seed_from(arguments: &[String]) -> Option<u64> {
 #[cfg(feature = "library")]
 fn check_library(report: &mut Report, seed: u64) {
     use kutimuq_tests::{
-        cases, compare::Comparison, completion, examples, library::Library, rewriting, roundtrip,
-        screens,
+        cases, compare::Comparison, completion, examples, isolation, library::Library, rewriting,
+        roundtrip, screens,
     };
     examples::run(&Library, report);
     roundtrip::run(&Library, report, seed + 1, 60);
@@ -58,6 +58,7 @@ fn check_library(report: &mut Report, seed: u64) {
     completion::run_plates(&Library, report, seed + 7, 6);
     roundtrip::run_conversions(&Library, report, seed + 8, 60);
     rewriting::run_conversions(&Library, report, seed + 9, 60);
+    isolation::run(&Library, report, seed + 10, 400);
     cases::run_all(&mut Comparison::new(&Library, report), seed);
 }
 

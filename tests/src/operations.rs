@@ -1,6 +1,6 @@
 //! The public operations, so that one check can run on any implementation.
 
-use crate::reference::{self, WRITE_AREA_BYTES};
+use crate::reference::{self, Question, WRITE_AREA_BYTES};
 use kutimuq::ffi::*;
 use kutimuq::refusal::Refusal;
 
@@ -15,13 +15,21 @@ pub trait Operations {
     fn screen_in(&self, screen: &mut [u8], resolution: u16, registers: &[u8]) -> Refusal;
     fn tally(&self, screen: &[u8], resolution: u16, area: Rectangle) -> TallyAnswer;
     fn colour(&self, resolution: u16, palette: Palette, register: u8) -> ColourAnswer;
+    fn new_legend(&self) -> Legend;
+    fn set_entry(
+        &self,
+        legend: Legend,
+        party: u8,
+        register: u8,
+        class: u16,
+        confidence: u8,
+    ) -> LegendAnswer;
+    fn release_entry(&self, legend: Legend, party: u8, register: u8) -> LegendAnswer;
     fn pond(
         &self,
         screen: &[u8],
         resolution: u16,
-        area: Rectangle,
-        class: u8,
-        floor: u8,
+        question: Question,
         legend: Legend,
     ) -> PondAnswer;
     fn read(&self, kind: u8, file: &[u8], area: &mut [u8]) -> ReadAnswer;
@@ -109,16 +117,33 @@ impl Operations for Reference {
         reference::colour(resolution, palette, register)
     }
 
+    fn new_legend(&self) -> Legend {
+        reference::new_legend()
+    }
+
+    fn set_entry(
+        &self,
+        legend: Legend,
+        party: u8,
+        register: u8,
+        class: u16,
+        confidence: u8,
+    ) -> LegendAnswer {
+        reference::set_entry(legend, party, register, class, confidence)
+    }
+
+    fn release_entry(&self, legend: Legend, party: u8, register: u8) -> LegendAnswer {
+        reference::release_entry(legend, party, register)
+    }
+
     fn pond(
         &self,
         screen: &[u8],
         resolution: u16,
-        area: Rectangle,
-        class: u8,
-        floor: u8,
+        question: Question,
         legend: Legend,
     ) -> PondAnswer {
-        reference::pond(screen, resolution, area, class, floor, legend)
+        reference::pond(screen, resolution, question, legend)
     }
 
     fn read(&self, kind: u8, file: &[u8], area: &mut [u8]) -> ReadAnswer {

@@ -4,13 +4,16 @@ use crate::generate::{plate, row, screen, shape_of, RESOLUTIONS};
 use crate::random::Random;
 use crate::reference::{least_body, least_plate_body, least_row_body, WIDEST_ROW};
 use crate::report::Report;
-use crate::{completion, examples, fast, operations::Reference, rewriting, roundtrip, screens};
+use crate::{
+    completion, examples, fast, isolation, operations::Reference, rewriting, roundtrip, screens,
+};
 
 pub fn run(report: &mut Report, seed: u64) {
     examples::run(&Reference, report);
     roundtrip::run(&Reference, report, seed, 30);
     completion::run(&Reference, report, seed, 12);
     screens::run(&Reference, report, seed, 4);
+    isolation::run(&Reference, report, seed, 20);
     roundtrip::run_conversions(&Reference, report, seed, 20);
     rewriting::run_conversions(&Reference, report, seed, 12);
     roundtrip::run_plates(&Reference, report, seed, 20);

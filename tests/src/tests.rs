@@ -1,5 +1,7 @@
 //! The reference's own tests.
 
+mod legends;
+
 use crate::altered::{
     Altered, RARELY_WRONG_PLATE_READINGS, RARELY_WRONG_TO_ELITE, RARELY_WRONG_TO_PLAIN,
     WRONG_BOTH_WAYS, WRONG_PLATE_READINGS, WRONG_PLATE_WRITINGS, WRONG_TO_ELITE, WRONG_TO_PLAIN,
@@ -407,7 +409,7 @@ fn sizes_of_the_binding() {
 #[test]
 fn layout_names_every_struct() {
     let table = layout::table();
-    assert_eq!(table.iter().filter(|line| line.contains(" align ")).count(), 13);
+    assert_eq!(table.iter().filter(|line| line.contains(" align ")).count(), 14);
 }
 
 /// The comparison itself, with the reference in the library's place.

@@ -1,14 +1,14 @@
 //! Registers counted in a rectangle: tallies and pond readings.
 
+use super::legends::{is_good, judge_numbers};
 use super::lines::take_registers;
 use super::refused;
 use kutimuq::ffi::{Legend, PondAnswer, Rectangle, TallyAnswer};
 use kutimuq::refusal::{self, Refusal};
-use kutimuq_tests::reference::{Shape, SCREEN_BYTES};
+use kutimuq_tests::reference::{Question, Shape, SCREEN_BYTES};
 
 const WIDEST_LINE: usize = 640;
 const GROUP_PIXELS: usize = 16;
-const GREATEST_CONFIDENCE: u8 = 100;
 
 /// Counts the pixels of each register in a rectangle.
 #[inline(never)]
@@ -21,20 +21,15 @@ pub fn tally(area: &[u8], resolution: u16, rectangle: &Rectangle) -> TallyAnswer
     }
 }
 
-/// Counts the pixels of a class in a rectangle, sure and unsure ones apart.
+/// Counts the pixels of a class in a rectangle for a party, sure and unsure ones apart.
 #[inline(never)]
-pub fn pond(
-    area: &[u8],
-    resolution: u16,
-    rectangle: &Rectangle,
-    class: u8,
-    floor: u8,
-    legend: &Legend,
-) -> PondAnswer {
-    let judged = judge_rectangle(area, resolution, rectangle)
-        .and_then(|judged| judge_confidences(floor, legend).map(|()| judged));
+pub fn pond(area: &[u8], resolution: u16, question: &Question, legend: &Legend) -> PondAnswer {
+    let judged = judge_rectangle(area, resolution, &question.area)
+        .and_then(|judged| Ok((judged, judge_question(question, legend)?)));
     match judged {
-        Ok((screen, shape)) => sort(&count(screen, &shape, rectangle), class, floor, legend),
+        Ok(((screen, shape), class)) => {
+            sort(&count(screen, &shape, &question.area), class, question, legend)
+        }
         Err(refusal) => PondAnswer { refusal, ..PondAnswer::default() },
     }
 }
@@ -57,12 +52,13 @@ fn judge_rectangle<'a>(
     }
 }
 
-fn judge_confidences(floor: u8, legend: &Legend) -> Result<(), Refusal> {
-    let greatest = legend.confidences.iter().fold(floor, |greatest, entry| greatest.max(*entry));
-    if greatest > GREATEST_CONFIDENCE {
+/// The class asked for.
+fn judge_question(question: &Question, legend: &Legend) -> Result<u8, Refusal> {
+    let class = judge_numbers(question.party, question.class, question.floor)?;
+    if !is_good(legend) {
         return Err(refused(refusal::OUT_OF_RANGE));
     }
-    Ok(())
+    Ok(class)
 }
 
 /// Counts in a rectangle that was judged, by the groups of 16 pixels that it touches.
@@ -88,13 +84,13 @@ fn count_line(registers: &[u8], counts: &mut [u32; 16]) {
 }
 
 /// Adds up the counts of registers by what the legend says of each.
-fn sort(counts: &[u32; 16], class: u8, floor: u8, legend: &Legend) -> PondAnswer {
+fn sort(counts: &[u32; 16], class: u8, question: &Question, legend: &Legend) -> PondAnswer {
     let mut answer = PondAnswer::default();
-    let entries = legend.classes.iter().zip(&legend.confidences);
-    for (count, (entry_class, confidence)) in counts.iter().zip(entries) {
-        if *entry_class != class {
+    let entries = legend.owners.iter().zip(&legend.classes).zip(&legend.confidences);
+    for (count, ((owner, entry_class), confidence)) in counts.iter().zip(entries) {
+        if *owner != question.party || *entry_class != class {
             answer.other += count;
-        } else if *confidence >= floor {
+        } else if *confidence >= question.floor {
             answer.sure += count;
         } else {
             answer.unsure += count;

@@ -215,7 +215,7 @@ impl Cases<'_, '_> {
         match round % 8 {
             0 => file_of_screen(self.random, resolution, &screen),
             1 | 2 => raw_file(self.random, resolution, true),
-            _ => packed_file(self.random, resolution, round % 2 == 0).bytes,
+            _ => packed_file(self.random, resolution, round.is_multiple_of(2)).bytes,
         }
     }
 

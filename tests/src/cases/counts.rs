@@ -1,10 +1,10 @@
-//! Inputs for tallies and pond readings.
+//! Inputs for tallies; rectangles and screens also for pond readings.
 
 use crate::compare::Comparison;
 use crate::generate::{any_resolution, area_length, number_around, screen, size_of, RESOLUTIONS};
 use crate::random::Random;
 use crate::reference::{whole_screen, SCREEN_BYTES};
-use kutimuq::ffi::{Legend, Rectangle};
+use kutimuq::ffi::Rectangle;
 
 /// Starts and sizes at and around a limit, whose sums reach past the type's end.
 fn edges(limit: usize) -> Vec<(usize, usize)> {
@@ -19,7 +19,7 @@ fn edges(limit: usize) -> Vec<(usize, usize)> {
 }
 
 /// Each edge across with a safe one down, each edge down with a safe one across.
-fn edge_rectangles(resolution: u16) -> Vec<Rectangle> {
+pub fn edge_rectangles(resolution: u16) -> Vec<Rectangle> {
     let (width, height) = size_of(resolution);
     let mut areas = Vec::new();
     for (left, columns) in edges(width) {
@@ -49,7 +49,7 @@ fn rectangle_within(random: &mut Random, resolution: u16) -> Rectangle {
 }
 
 /// A rectangle with one number that may be far off.
-fn any_rectangle(random: &mut Random, resolution: u16) -> Rectangle {
+pub fn any_rectangle(random: &mut Random, resolution: u16) -> Rectangle {
     let mut area = rectangle_within(random, resolution);
     if random.once_in(5) {
         let (width, height) = size_of(resolution);
@@ -64,7 +64,7 @@ fn any_rectangle(random: &mut Random, resolution: u16) -> Rectangle {
 }
 
 /// A few screens of each style, cut out of which the lent screens come.
-fn screens(random: &mut Random) -> Vec<Vec<u8>> {
+pub fn screens(random: &mut Random) -> Vec<Vec<u8>> {
     let mut screens = Vec::new();
     for resolution in RESOLUTIONS {
         for _ in 0..8 {
@@ -76,7 +76,7 @@ fn screens(random: &mut Random) -> Vec<Vec<u8>> {
     screens
 }
 
-fn lent_screen<'a>(random: &mut Random, screens: &'a [Vec<u8>]) -> &'a [u8] {
+pub fn lent_screen<'a>(random: &mut Random, screens: &'a [Vec<u8>]) -> &'a [u8] {
     let length = area_length(random, SCREEN_BYTES);
     &screens[random.below(screens.len())][..length]
 }
@@ -108,64 +108,5 @@ pub fn tally(comparison: &mut Comparison, random: &mut Random) {
         let resolution = any_resolution(random);
         let area = any_rectangle(random, resolution);
         comparison.tally(lent_screen(random, &screens), resolution, area);
-    }
-}
-
-pub fn pond(comparison: &mut Comparison, random: &mut Random) {
-    let screens = screens(random);
-    comparison.section("pond: edges");
-    for resolution in [0, 1, 2, 3, 65_535] {
-        for area in edge_rectangles(resolution) {
-            let legend = legend(random);
-            let class = random.pick(&legend.classes);
-            comparison.pond(&screens[0][..SCREEN_BYTES], resolution, area, class, 50, legend);
-        }
-    }
-    comparison.section("pond: floors and confidences");
-    floors_and_confidences(comparison, random, &screens[1]);
-    comparison.section("pond: random");
-    for _ in 0..12_000 {
-        let resolution = any_resolution(random);
-        let area = any_rectangle(random, resolution);
-        let mut legend = legend(random);
-        if random.once_in(8) {
-            legend.confidences[random.below(16)] = random.byte();
-        }
-        let class = if random.once_in(8) { random.byte() } else { random.pick(&legend.classes) };
-        let floor = if random.once_in(8) { random.byte() } else { random.between(0, 100) as u8 };
-        let screen = lent_screen(random, &screens);
-        comparison.pond(screen, resolution, area, class, floor, legend);
-    }
-}
-
-/// Few classes, so that several registers share one.
-fn legend(random: &mut Random) -> Legend {
-    let classes = [random.byte(), random.byte(), random.byte()];
-    Legend {
-        classes: std::array::from_fn(|_| random.pick(&classes)),
-        confidences: std::array::from_fn(|_| random.between(0, 100) as u8),
-    }
-}
-
-/// Every floor against every confidence near it, and every value of an entry.
-fn floors_and_confidences(comparison: &mut Comparison, random: &mut Random, screen: &[u8]) {
-    let area = Rectangle { left: 3, top: 5, columns: 40, lines: 4 };
-    for resolution in RESOLUTIONS {
-        for floor in 0..=255_u8 {
-            for near in [floor.wrapping_sub(1), floor, floor.wrapping_add(1)] {
-                let confidences = [near.min(100); 16];
-                let legend = Legend { confidences, ..legend(random) };
-                let class = legend.classes[0];
-                comparison.pond(screen, resolution, area, class, floor, legend);
-            }
-        }
-        for entry in 0..16 {
-            for confidence in [99, 100, 101, 127, 128, 255] {
-                let mut legend = legend(random);
-                legend.confidences[entry] = confidence;
-                let class = legend.classes[entry];
-                comparison.pond(screen, resolution, area, class, 100, legend);
-            }
-        }
     }
 }

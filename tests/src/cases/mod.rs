@@ -4,9 +4,11 @@ mod colours;
 mod conversion;
 mod counts;
 mod degas;
+mod legend;
 mod lines;
 mod macpaint;
 mod neochrome;
+mod pond;
 mod reading;
 mod row_at_fault;
 mod rows;
@@ -41,7 +43,8 @@ pub fn run_all(comparison: &mut Comparison, seed: u64) {
     screens::into(comparison, &mut random);
     colours::colour(comparison, &mut random);
     counts::tally(comparison, &mut random);
-    counts::pond(comparison, &mut random);
+    legend::run(comparison, &mut random);
+    pond::pond(comparison, &mut random);
     reading::read(comparison, &mut random);
     writing::write(comparison, &mut random);
     row_at_fault::run(comparison, &mut random);
@@ -49,6 +52,16 @@ pub fn run_all(comparison: &mut Comparison, seed: u64) {
     conversion::run(comparison, &mut random, Conversion::ToPlain);
     macpaint::read(comparison, &mut random);
     macpaint::write(comparison, &mut random);
+}
+
+/// Only the inputs for legends, their entries set and released.
+pub fn run_legends(comparison: &mut Comparison, seed: u64) {
+    legend::run(comparison, &mut Random::seeded(seed));
+}
+
+/// Only the inputs for pond readings.
+pub fn run_ponds(comparison: &mut Comparison, seed: u64) {
+    pond::pond(comparison, &mut Random::seeded(seed));
 }
 
 /// Only the inputs for a DEGAS file made Elite, or plain.

@@ -1,10 +1,11 @@
-//! Inputs: numbers around limits, rows, screens, pictures and files, and damage.
+//! Inputs: numbers around limits, rows, screens, pictures, files and legends, and damage.
 //!
 //! A file format has a file of its own.
 
 mod costs;
 mod degas;
 mod faults;
+mod legend;
 mod macpaint;
 mod neochrome;
 mod pictures;
@@ -18,6 +19,10 @@ pub use degas::{
     with_first_word, with_zero_tail,
 };
 pub use faults::{recorded_file, recorded_plate_file, recorded_row, Faulty, RecordedBody};
+pub use legend::{
+    damaged_legend, entry_at, give_entry, legend, legend_of_few_classes, other_party, put_entry,
+    Entry, EntryFault, ENTRY_FAULTS,
+};
 pub use macpaint::{
     even_plate_file, padded_plate_file, page_of_text, plate, plate_file, plate_header,
     plate_of_costly_rows, plate_of_rows, plate_with_body, version, worst_plate,

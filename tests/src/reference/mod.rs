@@ -11,6 +11,7 @@ mod conversion;
 mod degas;
 mod files;
 mod judging;
+mod legend;
 mod lines;
 mod macpaint;
 mod neochrome;
@@ -33,6 +34,10 @@ pub use files::{
     read, write, FORM_ELITE_PACKED, FORM_ELITE_RAW, FORM_NEO, FORM_PLAIN, KIND_DEGAS, KIND_NEO,
     KIND_TINY, WRITE_AREA_BYTES,
 };
+pub use legend::{
+    new_legend, release_entry, set_entry, FREE, GREATEST_CLASS, GREATEST_CONFIDENCE,
+    LEGEND_ENTRIES, PARTIES,
+};
 pub use lines::{line_in, line_out, screen_in, screen_out};
 pub use macpaint::{
     least_plate_body, read_plate, write_plate, LONGEST_PLATE_FILE, PLATE_BODY_LIMIT, PLATE_BYTES,
@@ -40,7 +45,7 @@ pub use macpaint::{
 };
 pub use neochrome::NEO_FILE_BYTES;
 pub use packbits::{least_row_body, pack_row, unpack_row, PACK_AREA_BYTES, WIDEST_ROW};
-pub use pond::pond;
+pub use pond::{pond, Question};
 pub use screen::{Shape, SCREEN_BYTES};
 pub use summary::{summary, summary_text};
 pub use tally::{tally, whole_screen};
