@@ -5,6 +5,7 @@ use mathlib.Core.List.{List, _++_}
 use Prim.Native.Nat.{ℕ, _≤_, _<_}
 use native.Mathlib.Omega.{arith}
 use lib.ListN.{length, take, drop}
+use lib.Seq.{length-take-le}
 use borrow.Author.Tests.{lt-ltb, le-ltb, eq-eqb, ne-eqb}
 use Rattle.lists.proofs.Over.{over-whole}
 use Rattle.lists.proofs.Parts.{over-cut, kept-cut}
@@ -14,6 +15,7 @@ use Rattle.words.specs.Word.{wordAt}
 use Rattle.resolution.specs.Shapes.{screenBytes}
 use Rattle.picture.specs.declared.Picture.{Picture}
 use Rattle.picture.specs.declared.ReadAnswer.{ReadAnswer}
+use Rattle.picture.specs.declared.WriteAnswer.{WriteAnswer}
 use Rattle.picture.specs.Whole.{WholeReading}
 use Rattle.picture.specs.Reading.{Reading, readAnswer, readArea}
 use Rattle.picture.specs.Writing.{Writing, fileBytes, judgeWriting, writeAnswer, writeOutput}
@@ -141,7 +143,21 @@ module _ (n m : ℕ) (fits : fileBytes ≤ n) (room : fileBytes ≤ m) where
       go (refused why) = refl
 
 -- a writing into the first n bytes alone, with the later bytes behind them, is one into the whole output
-pub output-cut : (o : Outcome Writing) (out part : List ℕ) (n : ℕ) → length part ≡ length (take n out)
+output-cut : (o : Outcome Writing) (out part : List ℕ) (n : ℕ) → length part ≡ length (take n out)
     → part ≡ writeOutput o (take n out) → part ++ drop n out ≡ writeOutput o out
 output-cut (refused why) out part n kept is = kept-cut out part n is
 output-cut (accepted w) out part n kept is = over-cut (w .file) out part n kept is
+
+-- and so is a conversion
+pub convert-cut : (to : Conversion) (file out part : List ℕ) {a : WriteAnswer} → fileBytes ≤ length out
+    → length part ≡ length (take fileBytes out) → a ≡ writeAnswer (convert to file (length (take fileBytes out)))
+    → part ≡ writeOutput (convert to file (length (take fileBytes out))) (take fileBytes out)
+    → (a ≡ writeAnswer (convert to file (length out)))
+    × (part ++ drop fileBytes out ≡ writeOutput (convert to file (length out)) out)
+convert-cut to file out part room kept answer is =
+    let long = length-take-le fileBytes out room in
+    let same = convert-room (length (take fileBytes out)) (length out) (omega (arith, long)) room to file in (
+      answer ∙ ap writeAnswer same,
+      output-cut (convert to file (length out)) out part fileBytes kept
+          (is ∙ ap (λ (o : Outcome Writing). writeOutput o (take fileBytes out)) same),
+    )

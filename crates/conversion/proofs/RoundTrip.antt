@@ -4,7 +4,6 @@ use mathlib.Core.Bool.{Bool, false}
 use mathlib.Core.List.{List, [], _++_, append-assoc, flatten}
 use Prim.Native.Nat.{ℕ, _+_, _-_, _/_, _%_, _^_, _≤_}
 use native.Mathlib.Omega.{arith}
-use lib.Dec.{eqb}
 use lib.ListN.{length, take, drop, replicate, length-drop, length-append}
 use lib.Seq.{take-all, drop-at}
 use borrow.Author.Tests.{eqb-false}
@@ -15,7 +14,7 @@ use Rattle.outcome.proofs.Outcome.{judged-value}
 use Rattle.words.specs.Word.{wordAt, wordsAt, wordBytes, wordsBytes}
 use Rattle.words.proofs.Word.{wordAt-lt, word-restored, words-restored}
 use Rattle.resolution.specs.declared.Resolution.{Resolution}
-use Rattle.resolution.specs.Choice.{numberOf, chosen}
+use Rattle.resolution.specs.Choice.{numberOf}
 use Rattle.resolution.specs.Shapes.{screenBytes}
 use Rattle.resolution.proofs.Choice.{number-chosen, known-le}
 use Rattle.picture.specs.declared.Picture.{Picture}

@@ -1,13 +1,11 @@
 -- Demand 2 of DEGAS files: one is accepted exactly when it fits, and then gives what its parts are.
 use mathlib.Core.Path.{_≡_, refl, sym, ap, _∙_}
 use mathlib.Core.Logic.{_↔_}
-use mathlib.Core.Bool.{Bool, true, false, cond}
 use mathlib.Core.List.{List}
 use Prim.Native.Nat.{ℕ, _≤_}
 use native.Mathlib.Omega.{arith}
 use lib.ListN.{length, take, drop}
 use Rattle.lists.specs.Bytes.{Bytes}
-use Rattle.lists.proofs.Cond.{cond-ltb, cond-eqb}
 use Rattle.outcome.specs.Outcome.{Outcome, accepted, map, Judged}
 use Rattle.outcome.proofs.Outcome.{judged-known, judged-value, judged-map}
 use Rattle.resolution.specs.declared.Resolution.{Resolution}
@@ -18,13 +16,12 @@ use Rattle.bodies.specs.Reading.{readBody, bodyGiven}
 use Rattle.bodies.proofs.Fits.{fits-length, fits-complete, fits-exactly, fits-counts}
 use Rattle.bodies.proofs.Reading.{ReadBounded, read-bounded}
 use Rattle.picture.specs.Reading.{Reading}
-use Rattle.degas.specs.Layout.{headerLength, tailLength, bodyLimit, plainLength, eliteLength, packedLength}
-use Rattle.degas.specs.Opening.{isPacked}
-use Rattle.degas.specs.Reading.{readRaw, packedReading, readPacked, readOpened, readDegas}
+use Rattle.degas.specs.Layout.{headerLength, tailLength, bodyLimit, packedLength}
+use Rattle.degas.specs.Reading.{packedReading, readPacked, readOpened, readDegas}
 use Rattle.degas.specs.Accepts.{PackedFits, Fits, plain, elite, packed, AcceptsDegas}
 use Rattle.degas.specs.Accepts.{packedGiven, fitsGiven, degasGiven}
-use Rattle.degas.proofs.Opening.{headerOf, opening-known, opening-elim}
-use Rattle.degas.proofs.ReadDegas.{raw-plain, raw-elite, packed-short, packed-judged, read-fits}
+use Rattle.degas.proofs.Opening.{headerOf, opening-known}
+use Rattle.degas.proofs.ReadDegas.{raw-plain, raw-elite, packed-short, packed-judged, read-fits, by-form}
 
 module _ (file : List ℕ) (r : Resolution) where
   -- ---- a packed file that fits is accepted, with what its parts give
@@ -69,23 +66,6 @@ module _ (file : List ℕ) (r : Resolution) where
 
   -- ---- a file of a known resolution
 
-  abbrev FitsGiven : Reading → Type 0
-  FitsGiven q = (f : Fits file r) × (q ≡ fitsGiven f)
-
-  raw-judged : isPacked file ≡ false → Judged FitsGiven (readRaw file r)
-  unfolding readRaw
-  raw-judged raw =
-      cond-eqb (Judged FitsGiven) (length file) plainLength (λ e. (plain raw e, refl)) (λ _.
-      cond-eqb (Judged FitsGiven) (length file) eliteLength (λ e. (elite raw e, refl)) (λ _ n. omega arith))
-
-  opened-judged : Bytes file → Judged FitsGiven (readOpened file (headerOf file r))
-  opened-judged bytes = go (isPacked file) refl
-    where
-      go : (b : Bool) → isPacked file ≡ b → Judged FitsGiven (cond b (readPacked file r) (readRaw file r))
-      go true is =
-          judged-map PackedGiven FitsGiven (readPacked file r) (packed-given bytes) (λ q g. (packed is (g .0), g .1))
-      go false is = raw-judged is
-
   opened-complete : (f : Fits file r) → readOpened file (headerOf file r) ≡ accepted (fitsGiven f)
   opened-complete (plain is size) = rw is (raw-plain file r size)
   opened-complete (elite is size) = rw is (raw-elite file r size)
@@ -104,12 +84,14 @@ module _ (file : List ℕ) (area : ℕ) where
   Given q = (a : AcceptsDegas file) × (q ≡ degasGiven a)
 
   pub degas-judged : Bytes file → Judged Given (readDegas file area)
-  unfolding readDegas
   degas-judged bytes =
-      cond-ltb (Judged Given) area screenBytes (λ _ n. omega arith) (λ _.
-      opening-elim file (Judged Given) (readOpened file) (λ n. omega arith) (λ n. omega arith) (λ r e.
-      judged-map (FitsGiven file r) Given (readOpened file (headerOf file r)) (opened-judged file r bytes)
-      (λ q g. (record { resolution = r; allowed = e; fits = g .0 }, g .1))))
+      by-form file Given
+      (λ r e raw size. (record { resolution = r; allowed = e; fits = plain raw size }, refl))
+      (λ r e raw size. (record { resolution = r; allowed = e; fits = elite raw size }, refl))
+      (λ r e is.
+      judged-map (PackedGiven file r) Given (readPacked file r) (packed-given file r bytes)
+      (λ q g. (record { resolution = r; allowed = e; fits = packed is (g .0) }, g .1)))
+      area
 
   module _ (room : screenBytes ≤ area) where
     -- a file that fits is accepted

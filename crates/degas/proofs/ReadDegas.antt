@@ -1,14 +1,17 @@
 -- Laws of reading a DEGAS file: what each test that the code makes comes to.
 use mathlib.Core.Path.{_≡_, refl, ap, _∙_}
+use mathlib.Core.Bool.{true, false}
 use mathlib.Core.List.{List}
 use Prim.Native.Nat.{ℕ, _+_, _-_, _≤_, _<_}
 use native.Mathlib.Omega.{arith}
 use lib.ListN.{length}
 use borrow.Author.Tests.{lt-ltb, le-ltb, eq-eqb, ne-eqb}
-use Rattle.lists.proofs.Cond.{cond-ltb}
+use Rattle.lists.proofs.Cond.{cond-elim, cond-ltb, cond-eqb}
 use Rattle.outcome.specs.Outcome.{Outcome, accepted, refused, refuse, none, map, bind, Judged}
 use Rattle.outcome.specs.Refusal.{areaTooShort, wrongLength}
 use Rattle.resolution.specs.declared.Resolution.{Resolution}
+use Rattle.resolution.specs.declared.Chosen.the-variants.{Known}
+use Rattle.resolution.specs.Choice.{chosen}
 use Rattle.resolution.specs.Shapes.{screenBytes, rasterOf}
 use Rattle.bodies.specs.declared.BodyAnswer.{BodyAnswer}
 use Rattle.bodies.specs.Unpacking.{UnpackedBody, unpackedAnswer}
@@ -19,9 +22,10 @@ use Rattle.picture.specs.declared.ReadAnswer.{ReadAnswer}
 use Rattle.picture.specs.Reading.{Reading, rawReading, readAnswer, readArea}
 use Rattle.picture.proofs.Reading.{area-short, area-fits}
 use Rattle.degas.specs.Layout.{headerLength, tailLength, plainLength, eliteLength, packedMost}
-use Rattle.degas.specs.Opening.{opening}
+use Rattle.degas.specs.Opening.{resolutionNumber, isPacked, opening}
 use Rattle.degas.specs.Reading.{plainPicture, elitePicture, readRaw, packedReading, readPacked}
 use Rattle.degas.specs.Reading.{readOpened, readDegas}
+use Rattle.degas.proofs.Opening.{opening-elim}
 use Rattle.degas.proofs.ScreenRaster.{screen-read}
 
 -- ---- raw
@@ -138,3 +142,22 @@ module _ (file : List ℕ) (area : ℕ) where
   pub read-fits : screenBytes ≤ area → readDegas file area ≡ bind (opening file) (readOpened file)
   unfolding readDegas
   read-fits h = area-fits area _ h
+
+-- ---- every accepted file
+
+-- what holds of a raw reading of either length and of a packed one holds of what is accepted
+pub by-form : (file : List ℕ) (P : Reading → Type 0)
+    → ((r : Resolution) → chosen (resolutionNumber file) ≡ Known r → isPacked file ≡ false
+    → length file ≡ plainLength → P (rawReading (plainPicture file r) file headerLength))
+    → ((r : Resolution) → chosen (resolutionNumber file) ≡ Known r → isPacked file ≡ false
+    → length file ≡ eliteLength → P (rawReading (elitePicture file r plainLength) file headerLength))
+    → ((r : Resolution) → chosen (resolutionNumber file) ≡ Known r → isPacked file ≡ true
+    → Judged P (readPacked file r))
+    → (area : ℕ) → Judged P (readDegas file area)
+unfolding readDegas readRaw
+by-form file P plain elite packed area =
+    cond-ltb (Judged P) area screenBytes (λ _ n. omega arith) (λ _.
+    opening-elim file (Judged P) (readOpened file) (λ n. omega arith) (λ n. omega arith) (λ r e.
+    cond-elim (Judged P) (isPacked file) (packed r e) (λ raw.
+    cond-eqb (Judged P) (length file) plainLength (plain r e raw) (λ _.
+    cond-eqb (Judged P) (length file) eliteLength (elite r e raw) (λ _ n. omega arith)))))

@@ -4,13 +4,14 @@ use mathlib.Core.Bool.{cond}
 use mathlib.Core.List.{List}
 use mathlib.Core.Logic.{inl, inr}
 use Prim.Native.Nat.{ℕ, zero, suc, _+_, _-_, _*_, _/_, _%_, _^_, _≤_, _<_}
-use native.Mathlib.Nat.{add-zero, add-assoc, add-mul, mul-assoc, mul-comm, mod-eq-of-lt, pow-suc}
+use native.Mathlib.Nat.{add-zero, add-assoc, add-mul, mul-assoc, mul-comm, mod-eq-of-lt}
 use native.Mathlib.Omega.{arith}
 use lib.Arith.{digits-lt, digits-div, digits-mod}
 use lib.Bits.{bitOr, or-block, or-shifted}
 use lib.Dec.{eqb}
 use lib.ListN.{getD}
-use Rattle.lists.proofs.Digits.{fromBits-ext}
+use Rattle.lists.specs.Digits.{fromBytes}
+use Rattle.lists.proofs.Digits.{fromBits-ext, fromBytes-ext, fromBytes-lt, fromBytes-digit}
 use Rattle.resolution.specs.declared.Resolution.{Resolution}
 use Rattle.resolution.specs.declared.Resolution.the-variants.{Low, Medium, High}
 use Rattle.resolution.specs.Shapes.{planesOf}
@@ -20,36 +21,15 @@ use Rattle.lines.specs.Columns.{byteOf, planeByte}
 use Rattle.lines.specs.Registers.{lineByte}
 use Rattle.lines.proofs.Columns.{planeByte-word}
 use Rattle.lines.proofs.Pieces.{piece-within}
-use Rattle.lines.proofs.Turn.{bit, bit-shr, bit-mod, byte-turn}
+use Rattle.lines.proofs.Turn.{bit, byte-turn}
 
 -- ---- numbers of bytes
 
--- the number whose n bytes are c 0, .., c (n - 1), the first one lowest
-unfoldable bytes : ℕ → (ℕ → ℕ) → ℕ
-bytes zero c = 0
-bytes (suc n) c = bytes n (λ k. c (suc k)) * 256 + c 0
-
-bytes-ext : (n : ℕ) (c d : ℕ → ℕ) → ((k : ℕ) → k < n → c k ≡ d k) → bytes n c ≡ bytes n d
-unfolding bytes
-bytes-ext zero c d e = refl
-bytes-ext (suc n) c d e =
-    ap₂ (λ (i j : ℕ). i * 256 + j)
-    (bytes-ext n (λ k. c (suc k)) (λ k. d (suc k)) (λ k h. e (suc k) (omega arith)))
-    (e 0 (omega arith))
-
-bytes-lt : (n : ℕ) (c : ℕ → ℕ) → ((k : ℕ) → k < n → c k < 256) → bytes n c < 256 ^ n
-unfolding bytes
-bytes-lt zero c b = omega arith
-bytes-lt (suc n) c b =
-    let l : bytes n (λ k. c (suc k)) * 256 + c 0 < 256 ^ n * 256 =
-    digits-lt (bytes-lt n (λ k. c (suc k)) (λ k h. b (suc k) (omega arith))) (b 0 (omega arith)) in
-    omega (arith, l, pow-suc 256 n)
-
-bytes-times : (n : ℕ) (c : ℕ → ℕ) (m : ℕ) → bytes n c * m ≡ bytes n (λ k. c k * m)
-unfolding bytes
+bytes-times : (n : ℕ) (c : ℕ → ℕ) (m : ℕ) → fromBytes n c * m ≡ fromBytes n (λ k. c k * m)
+unfolding fromBytes
 bytes-times zero c m = omega arith
 bytes-times (suc n) c m =
-    let up : ℕ = bytes n (λ k. c (suc k)) in
+    let up : ℕ = fromBytes n (λ k. c (suc k)) in
     let swap : up * 256 * m ≡ up * m * 256 =
     mul-assoc up 256 m ∙ ap (λ (i : ℕ). up * i) (mul-comm 256 m) ∙ sym (mul-assoc up m 256) in
     add-mul (up * 256) (c 0) m
@@ -57,48 +37,31 @@ bytes-times (suc n) c m =
     ∙ ap (λ (i : ℕ). i * 256 + c 0 * m) (bytes-times n (λ k. c (suc k)) m)
 
 bytes-or : (n : ℕ) (c d : ℕ → ℕ) → ((k : ℕ) → k < n → c k < 256) → ((k : ℕ) → k < n → d k < 256)
-    → bitOr (bytes n c) (bytes n d) ≡ bytes n (λ k. bitOr (c k) (d k))
-unfolding bytes
+    → bitOr (fromBytes n c) (fromBytes n d) ≡ fromBytes n (λ k. bitOr (c k) (d k))
+unfolding fromBytes
 bytes-or zero c d a b = refl
 bytes-or (suc n) c d a b =
-    or-block 8 (bytes n (λ k. c (suc k))) (bytes n (λ k. d (suc k))) (c 0) (d 0) (a 0 (omega arith)) (b 0 (omega arith))
+    or-block 8 (fromBytes n (λ k. c (suc k))) (fromBytes n (λ k. d (suc k))) (c 0) (d 0)
+    (a 0 (omega arith)) (b 0 (omega arith))
     ∙ ap (λ (i : ℕ). i * 256 + bitOr (c 0) (d 0))
     (bytes-or n (λ k. c (suc k)) (λ k. d (suc k)) (λ k h. a (suc k) (omega arith)) (λ k h. b (suc k) (omega arith)))
-
--- bit q of byte k
-bytes-bit : (n : ℕ) (c : ℕ → ℕ) → ((k : ℕ) → k < n → c k < 256) → (k q : ℕ) → k < n → q < 8
-    → bit (bytes n c) (k * 8 + q) ≡ bit (c k) q
-unfolding bytes
-bytes-bit zero c b k q h l = absurd (omega arith)
-bytes-bit (suc n) c b zero q h l =
-    let up : ℕ = bytes n (λ k. c (suc k)) in
-    let e : 0 * 8 + q ≡ q = omega arith in
-    ap (bit (up * 256 + c 0)) e
-    ∙ sym (bit-mod 8 (up * 256 + c 0) q l)
-    ∙ ap (λ (i : ℕ). bit i q) (digits-mod up (b 0 (omega arith)))
-bytes-bit (suc n) c b (suc k) q h l =
-    let up : ℕ = bytes n (λ k. c (suc k)) in
-    let e : suc k * 8 + q ≡ 8 + (k * 8 + q) = omega arith in
-    ap (bit (up * 256 + c 0)) e
-    ∙ sym (bit-shr (up * 256 + c 0) 8 (k * 8 + q))
-    ∙ ap (λ (i : ℕ). bit i (k * 8 + q)) (digits-div up (b 0 (omega arith)))
-    ∙ bytes-bit n (λ k. c (suc k)) (λ k m. b (suc k) (omega arith)) k q (omega arith) l
 
 -- ---- words of registers
 
 -- bytes whose bits do not meet are joined one by one
 joined-bytes : (c d : ℕ → ℕ) (n : ℕ) → ((k : ℕ) → k < 8 → c k * 2 ^ n < 256) → ((k : ℕ) → k < 8 → d k < 2 ^ n)
-    → ((k : ℕ) → k < 8 → d k < 256) → joinedWord (bytes 8 c) n (bytes 8 d) ≡ bytes 8 (λ k. c k * 2 ^ n + d k)
+    → ((k : ℕ) → k < 8 → d k < 256)
+    → joinedWord (fromBytes 8 c) n (fromBytes 8 d) ≡ fromBytes 8 (λ k. c k * 2 ^ n + d k)
 unfolding joinedWord
 joined-bytes c d n a b l =
     let up : ℕ → ℕ = λ k. c k * 2 ^ n in
-    ap (λ (i : ℕ). bitOr (i % 2 ^ 64) (bytes 8 d)) (bytes-times 8 c (2 ^ n))
-    ∙ ap (λ (i : ℕ). bitOr i (bytes 8 d)) (mod-eq-of-lt (bytes-lt 8 up a))
+    ap (λ (i : ℕ). bitOr (i % 2 ^ 64) (fromBytes 8 d)) (bytes-times 8 c (2 ^ n))
+    ∙ ap (λ (i : ℕ). bitOr i (fromBytes 8 d)) (mod-eq-of-lt (fromBytes-lt 8 up a))
     ∙ bytes-or 8 up d a l
-    ∙ bytes-ext 8 (λ k. bitOr (up k) (d k)) (λ k. c k * 2 ^ n + d k) (λ k h. or-shifted (c k) n (d k) (b k h))
+    ∙ fromBytes-ext 8 (λ k. bitOr (up k) (d k)) (λ k. c k * 2 ^ n + d k) (λ k h. or-shifted (c k) n (d k) (b k h))
 
-eight-bytes : (line : List ℕ) (at : ℕ) → eightRegisters line at ≡ bytes 8 (λ k. getD line (at + k) 0)
-unfolding eightRegisters fourRegisters bytes
+eight-bytes : (line : List ℕ) (at : ℕ) → eightRegisters line at ≡ fromBytes 8 (λ k. getD line (at + k) 0)
+unfolding eightRegisters fourRegisters fromBytes
 eight-bytes line at = rw (add-assoc at 4 1, add-assoc at 4 2, add-assoc at 4 3, add-zero at) (omega arith)
 
 -- register k of the eight in group g, from an offset on
@@ -119,10 +82,11 @@ below-later line at m n groups limit l b g k h i =
     let s = b (m + g) k (omega arith) i in
     omega (arith, e, s)
 
-eight-nth : (line : List ℕ) (at o g : ℕ) → o ≡ at + g * 16 → eightRegisters line o ≡ bytes 8 (nth line at g)
+eight-nth : (line : List ℕ) (at o g : ℕ) → o ≡ at + g * 16 → eightRegisters line o ≡ fromBytes 8 (nth line at g)
 eight-nth line at o g e =
     eight-bytes line o
-    ∙ bytes-ext 8 (λ k. getD line (o + k) 0) (nth line at g) (λ k h. ap (λ (i : ℕ). getD line i 0) (omega (arith, e)))
+    ∙ fromBytes-ext 8 (λ k. getD line (o + k) 0) (nth line at g)
+    (λ k h. ap (λ (i : ℕ). getD line i 0) (omega (arith, e)))
 
 -- the bytes of two and of four groups
 abbrev pair : ℕ → (ℕ → ℕ) → ℕ
@@ -135,7 +99,8 @@ module _ (line : List ℕ) (p : ℕ) (sq : 2 ^ p * 2 ^ p ≤ 256) where
   pair-lt : (at : ℕ) → Below line at 2 (2 ^ p) → (k : ℕ) → k < 8 → pair p (λ g. nth line at g k) < 2 ^ p * 2 ^ p
   pair-lt at b k h = digits-lt (b 1 k (omega arith) h) (b 0 k (omega arith) h)
 
-  two-bytes : (at : ℕ) → Below line at 2 (2 ^ p) → twoGroups line at p ≡ bytes 8 (λ k. pair p (λ g. nth line at g k))
+  two-bytes : (at : ℕ) → Below line at 2 (2 ^ p)
+      → twoGroups line at p ≡ fromBytes 8 (λ k. pair p (λ g. nth line at g k))
   unfolding twoGroups
   two-bytes at b =
       ap₂ (λ (i j : ℕ). joinedWord i p j)
@@ -155,7 +120,7 @@ module _ (line : List ℕ) (p : ℕ) (sq : 2 ^ p * 2 ^ p ≤ 256) where
         (rw sqs (digits-lt (b 1 k (omega arith) h) (b 0 k (omega arith) h)))
 
     four-bytes : (at : ℕ) → Below line at 4 (2 ^ p)
-        → fourGroups line at p ≡ bytes 8 (λ k. quad p (λ g. nth line at g k))
+        → fourGroups line at p ≡ fromBytes 8 (λ k. quad p (λ g. nth line at g k))
     unfolding fourGroups
     four-bytes at b =
         let first : Below line at 2 (2 ^ p) = λ g k h i. b g k (omega arith) i in
@@ -163,7 +128,7 @@ module _ (line : List ℕ) (p : ℕ) (sq : 2 ^ p * 2 ^ p ≤ 256) where
         let high : ℕ → ℕ = λ k. pair p (λ g. nth line at (2 + g) k) in
         ap₂ (λ (i j : ℕ). joinedWord i (p * 2) j)
         (two-bytes (at + 32) (below-later line at 2 2 4 (2 ^ p) (omega arith) b)
-        ∙ bytes-ext 8 (λ k. pair p (λ g. nth line (at + 32) g k)) high
+        ∙ fromBytes-ext 8 (λ k. pair p (λ g. nth line (at + 32) g k)) high
         (λ k h. ap₂ (λ (i j : ℕ). i * 2 ^ p + j) (nth-later line at 2 1 k) (nth-later line at 2 0 k)))
         (two-bytes at first)
         ∙ joined-bytes high low (p * 2)
@@ -176,7 +141,7 @@ abbrev octet : (ℕ → ℕ) → ℕ
 octet r = quad 1 (λ g. r (4 + g)) * 16 + quad 1 r
 
 octet-bytes : (line : List ℕ) (at : ℕ) → Below line at 8 2
-    → eightGroups line at ≡ bytes 8 (λ k. octet (λ g. nth line at g k))
+    → eightGroups line at ≡ fromBytes 8 (λ k. octet (λ g. nth line at g k))
 unfolding eightGroups
 octet-bytes line at b =
     let first : Below line at 4 2 = λ g k h i. b g k (omega arith) i in
@@ -194,7 +159,7 @@ octet-bytes line at b =
     ) in
     ap₂ (λ (i j : ℕ). joinedWord i 4 j)
     (four-bytes line 1 (omega arith) refl (omega arith) (at + 64) last
-    ∙ bytes-ext 8 (λ k. quad 1 (λ g. nth line (at + 64) g k)) high (λ k h. moved k))
+    ∙ fromBytes-ext 8 (λ k. quad 1 (λ g. nth line (at + 64) g k)) high (λ k h. moved k))
     (four-bytes line 1 (omega arith) refl (omega arith) at first)
     ∙ joined-bytes high low 4
     (λ k h. omega (arith, moved k, quad-lt line 1 (omega arith) refl (omega arith) (at + 64) last k h))
@@ -241,7 +206,7 @@ HasPlanes line planes at w =
 two-planes : (line : List ℕ) (at : ℕ) → Below line at 2 16 → HasPlanes line 4 at (twoGroups line at 4)
 two-planes line at b k q h l =
     ap (λ (w : ℕ). bit w (k * 8 + q)) (two-bytes line 4 (omega arith) at b)
-    ∙ bytes-bit 8 (λ k. pair 4 (λ g. nth line at g k)) (pair-lt line 4 (omega arith) at b) k q h l
+    ∙ fromBytes-digit 8 (λ k. pair 4 (λ g. nth line at g k)) (pair-lt line 4 (omega arith) at b) k q h l
     ∙ pair-bit (λ g. nth line at g k) (b 0 k (omega arith) h) (b 1 k (omega arith) h) q l
 
 four-planes : (line : List ℕ) (at : ℕ) → Below line at 4 4 → HasPlanes line 2 at (fourGroups line at 2)
@@ -249,7 +214,8 @@ four-planes line at b k q h l =
     let r : ℕ → ℕ = λ g. nth line at g k in
     let low : (g : ℕ) → g < 4 → r g < 4 = λ g m. b g k m h in
     ap (λ (w : ℕ). bit w (k * 8 + q)) (four-bytes line 2 (omega arith) refl (omega arith) at b)
-    ∙ bytes-bit 8 (λ k. quad 2 (λ g. nth line at g k)) (quad-lt line 2 (omega arith) refl (omega arith) at b) k q h l
+    ∙ fromBytes-digit 8 (λ k. quad 2 (λ g. nth line at g k)) (quad-lt line 2 (omega arith) refl (omega arith) at b)
+    k q h l
     ∙ quad-bit r (low 0 (omega arith)) (low 1 (omega arith)) (low 2 (omega arith)) (low 3 (omega arith)) q l
 
 eight-planes : (line : List ℕ) (at : ℕ) → Below line at 8 2 → HasPlanes line 1 at (eightGroups line at)
@@ -257,7 +223,7 @@ eight-planes line at b k q h l =
     let r : ℕ → ℕ = λ g. nth line at g k in
     let low : (g : ℕ) → g < 8 → r g < 2 = λ g m. b g k m h in
     ap (λ (w : ℕ). bit w (k * 8 + q)) (octet-bytes line at b)
-    ∙ bytes-bit 8 (λ k. octet (λ g. nth line at g k)) (λ k m. octet-lt k m) k q h l
+    ∙ fromBytes-digit 8 (λ k. octet (λ g. nth line at g k)) (λ k m. octet-lt k m) k q h l
     ∙ octet-bit r (low 0 (omega arith)) (low 1 (omega arith)) (low 2 (omega arith)) (low 3 (omega arith))
     (low 4 (omega arith)) (low 5 (omega arith)) (low 6 (omega arith)) (low 7 (omega arith)) q l
   where

@@ -2,25 +2,27 @@
 use mathlib.Core.Path.{_≡_, refl, sym, ap, ap₂, _∙_}
 use mathlib.Core.Bool.{Bool, true, not}
 use mathlib.Core.Logic.{⊎-elim}
-use mathlib.Core.List.{List, _++_, map, flatten}
+use mathlib.Core.List.{List, [], map, flatten}
 use Prim.Native.Nat.{ℕ, zero, suc, _+_, _-_, _*_, _/_, _%_, _≤_, _<_}
-use native.Mathlib.Nat.{not-suc-le-zero, le-of-suc-le-suc, le-refl, eq-or-lt-of-le, suc-mul, mod-lt, div-lt-iff-lt-mul}
-use native.Mathlib.Nat.{zero-mul, div-add-mod'}
+use native.Mathlib.Nat.{not-suc-le-zero, le-of-suc-le-suc, le-refl, eq-or-lt-of-le, mod-lt, div-lt-iff-lt-mul}
+use native.Mathlib.Nat.{div-add-mod'}
 use native.Mathlib.Numerals.{add-one}
 use native.Mathlib.Omega.{arith}
 use borrow.Author.Tests.{ltb-true, ltb-false, lt-ltb, le-ltb, not-false}
 use borrow.Rule.Slice.PartMut.{putMid}
 use lib.Dec.{ltb}
-use lib.ListN.{length, getD, take, drop, length-drop, List·getD-append}
-use lib.Seq.{length-take-le, getD-take, getD-drop, getD-append-add, ext-getD}
+use lib.ListN.{length, getD, take, drop, length-drop}
+use lib.Seq.{length-take-le, getD-take, getD-drop, ext-getD}
 use Rattle.lists.specs.Bytes.{Bytes}
 use Rattle.lists.specs.Over.{over}
 use Rattle.lists.specs.Tabulate.{tabulate}
+use Rattle.lists.specs.Wide.{Wide}
 use Rattle.lists.proofs.All.{allBelow-each, each-allBelow}
 use Rattle.lists.proofs.Flatten.{length-flatten, flatten-turn}
 use Rattle.lists.proofs.Over.{length-over, getD-over-in}
 use Rattle.lists.proofs.Parts.{tail-part}
-use Rattle.lists.proofs.Tabulate.{length-tabulate, getD-tabulate}
+use Rattle.lists.proofs.Tabulate.{length-tabulate, getD-tabulate, map-tabulate}
+use Rattle.lists.proofs.Wide.{wide-tabulate, getD-flatten}
 use Rattle.outcome.specs.Outcome.{accepted}
 use Rattle.outcome.specs.Refusal.{areaTooShort, outOfRange}
 use Rattle.outcome.proofs.Outcome.{passed}
@@ -110,27 +112,18 @@ module _ (r : Resolution) (registers : List ℕ) (y n : ℕ) (e : n ≡ y * widt
 
 -- ---- a pixel's register
 
-getD-joined : (f : ℕ → List ℕ) (w : ℕ) → ((y : ℕ) → length (f y) ≡ w) → (n : ℕ) (g : ℕ → ℕ) (y x : ℕ) → y < n → x < w
-    → getD (flatten (map f (tabulate n g))) (y * w + x) 0 ≡ getD (f (g y)) x 0
-unfolding flatten tabulate
-getD-joined f w l zero g y x hy hx = absurd (not-suc-le-zero hy)
-getD-joined f w l (suc n) g zero x hy hx =
-    let rest : List ℕ = flatten (map f (tabulate n (λ k. g (suc k)))) in
-    let e : 0 * w + x ≡ x = omega (arith, zero-mul w) in
-    ap (λ (i : ℕ). getD (f (g 0) ++ rest) i 0) e ∙ List·getD-append (f (g 0)) rest 0 x (omega (arith, l (g 0)))
-getD-joined f w l (suc n) g (suc y) x hy hx =
-    let rest : List ℕ = flatten (map f (tabulate n (λ k. g (suc k)))) in
-    let e : suc y * w + x ≡ length (f (g 0)) + (y * w + x) = omega (arith, suc-mul y w, l (g 0)) in
-    ap (λ (i : ℕ). getD (f (g 0) ++ rest) i 0) e
-    ∙ getD-append-add (f (g 0)) rest (y * w + x) 0
-    ∙ getD-joined f w l n (λ k. g (suc k)) y x (le-of-suc-le-suc hy) hx
-
 -- what screen out writes at y * width + x is the register of pixel x of scan line y
 pub getD-screenRegisters : (s : List ℕ) (r : Resolution) (x y : ℕ) → x < widthOf r → y < heightOf r
     → getD (screenRegisters s r) (y * widthOf r + x) 0 ≡ register s r x y
 unfolding screenRegisters
 getD-screenRegisters s r x y hx hy =
-    getD-joined (scanLine s r) (widthOf r) (λ j. length-scanLine s r j) (heightOf r) (λ y. y) y x hy hx
+    let h : ℕ = heightOf r in
+    let lines : List (List ℕ) = tabulate h (scanLine s r) in
+    let wide : Wide (widthOf r) lines = wide-tabulate (widthOf r) h (scanLine s r) (λ j. length-scanLine s r j) in
+    let inside : y < length lines = omega (arith, length-tabulate h (scanLine s r)) in
+    ap (λ (l : List (List ℕ)). getD (flatten l) (y * widthOf r + x) 0) (map-tabulate (scanLine s r) h (λ y. y))
+    ∙ getD-flatten (widthOf r) lines wide y x inside hx .1
+    ∙ ap (λ (l : List ℕ). getD l x 0) (getD-tabulate h (scanLine s r) y [] hy)
     ∙ getD-scanLine s r x y hx
 
 length-screenRegisters : (s : List ℕ) (r : Resolution) → length (screenRegisters s r) ≡ pixelsOf r

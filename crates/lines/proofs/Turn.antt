@@ -10,11 +10,11 @@ use lib.Bits.{bitAnd, bitXor, and-shr, xor-shr, and-mod, xor-mod, and-mask, and-
 use lib.Bits.{shifted-even}
 use lib.Dec.{eqb, leb}
 use lib.ListN.{getD}
-use lib.Pow.{shr-shr, shl-shr, pow-add, field, mod-mod-pow}
+use lib.Pow.{shl-shr, pow-add}
 use borrow.Author.Tests.{le-leb, lt-leb}
 use Rattle.lists.specs.Digits.{fromBits}
 use Rattle.lists.specs.Tabulate.{tabulate}
-use Rattle.lists.proofs.Digits.{fromBits-ext, fromBits-bits}
+use Rattle.lists.proofs.Digits.{fromBits-ext, fromBits-bits, digit-above, digit-below}
 use Rattle.lists.proofs.Tabulate.{getD-tabulate}
 use Rattle.lines.specs.Blocks.{exchange, fours, twos, ones, turn}
 use Rattle.lines.specs.Columns.{byteOf}
@@ -31,23 +31,11 @@ bit-and a b n = ap (λ (m : ℕ). m % 2) (and-shr a b n) ∙ and-mod (a / 2 ^ n)
 bit-xor : (a b n : ℕ) → bit (bitXor a b) n ≡ bitXor (bit a n) (bit b n)
 bit-xor a b n = ap (λ (m : ℕ). m % 2) (xor-shr a b n) ∙ xor-mod (a / 2 ^ n) (b / 2 ^ n) 1
 
-pub bit-shr : (x s n : ℕ) → bit (x / 2 ^ s) n ≡ bit x (s + n)
-bit-shr x s n = ap (λ (m : ℕ). m % 2) (shr-shr x s n)
-
--- the lowest w bits have bit n
-pub bit-mod : (w x n : ℕ) → n < w → bit (x % 2 ^ w) n ≡ bit x n
-bit-mod w x n h =
-    let j : ℕ = w - 1 - n in
-    let e : w ≡ j + 1 + n = omega arith in
-    ap (λ (m : ℕ). bit (x % 2 ^ m) n) e
-    ∙ ap (λ (m : ℕ). m % 2) (field x (j + 1) n)
-    ∙ mod-mod-pow (x / 2 ^ n) j 1
-
 bit-shl-above : (x s n : ℕ) → s ≤ n → bit (x * 2 ^ s) n ≡ bit x (n - s)
 bit-shl-above x s n h =
     let e : n ≡ s + (n - s) = omega arith in
     ap (bit (x * 2 ^ s)) e
-    ∙ sym (bit-shr (x * 2 ^ s) s (n - s))
+    ∙ sym (digit-above (x * 2 ^ s) s (n - s))
     ∙ ap (λ (m : ℕ). bit m (n - s)) (shl-shr x s)
 
 bit-shl-below : (x s n : ℕ) → n < s → bit (x * 2 ^ s) n ≡ 0
@@ -121,11 +109,11 @@ module _ (s mask x : ℕ) where
   bit-differing n =
       bit-and (bitXor x (x / 2 ^ s)) mask n
       ∙ ap (λ (m : ℕ). bitAnd m (bit mask n))
-      (bit-xor x (x / 2 ^ s) n ∙ ap (bitXor (bit x n)) (bit-shr x s n))
+      (bit-xor x (x / 2 ^ s) n ∙ ap (bitXor (bit x n)) (digit-above x s n))
 
   bit-moved : (n : ℕ) → n < 64
       → bit (differing * 2 ^ s % 2 ^ 64) n ≡ bitAnd (bitXor (bit x (n - s)) (bit x n)) (under s mask n)
-  bit-moved n h = bit-mod 64 (differing * 2 ^ s) n h ∙ go (decLe s n)
+  bit-moved n h = digit-below (differing * 2 ^ s) 64 n h ∙ go (decLe s n)
     where
       go : Dec (s ≤ n) → bit (differing * 2 ^ s) n ≡ bitAnd (bitXor (bit x (n - s)) (bit x n)) (under s mask n)
       go (yes l) =
@@ -227,4 +215,4 @@ byte-turn x q h =
     ∙ fromBits-ext 8 (λ k. bit (turn x / 2 ^ o) (8 - 1 - k)) (λ k. bit x (k * 8 + q))
     (λ k l.
     let e : mirrored (o + (8 - 1 - k)) ≡ k * 8 + q = omega arith in
-    bit-shr (turn x) o (8 - 1 - k) ∙ bit-turn x (o + (8 - 1 - k)) (omega arith) ∙ ap (bit x) e)
+    digit-above (turn x) o (8 - 1 - k) ∙ bit-turn x (o + (8 - 1 - k)) (omega arith) ∙ ap (bit x) e)

@@ -1,4 +1,4 @@
--- Laws of binary digits: a number's digits, and the number that digits make.
+-- Laws of binary digits: a number's digits, and the number that digits make; and of the number that bytes make.
 use mathlib.Core.Path.{_≡_, refl, sym, ap, _∙_}
 use mathlib.Core.Logic.{_⊎_, inl, inr}
 use Prim.Native.Nat.{ℕ, zero, suc, _+_, _-_, _*_, _/_, _%_, _^_, _<_}
@@ -6,9 +6,9 @@ use native.Mathlib.Nat.{not-suc-le-zero, le-of-suc-le-suc, eq-or-lt-of-le, le-re
 use native.Mathlib.Nat.{add-comm, add-mul-div-right, add-mul-mod-self-right}
 use native.Mathlib.Numerals.{one-add}
 use native.Mathlib.Omega.{arith}
-use lib.Arith.{digits-lt, digits-div, mod-mul}
-use lib.Pow.{shr-shr, mod-pow-add, pow-pos, pow-add, high}
-use Rattle.lists.specs.Digits.{fromBits}
+use lib.Arith.{digits-lt, digits-div, digits-mod, mod-mul}
+use lib.Pow.{shr-shr, field, mod-mod-pow, mod-pow-add, pow-pos, pow-add, high}
+use Rattle.lists.specs.Digits.{fromBits, fromBytes}
 use Rattle.lists.specs.Sum.{sum}
 
 -- ---- digits from the top
@@ -105,3 +105,60 @@ sum-digit (suc n) d b p h = go (sum-digit n d b p) (eq-or-lt-of-le (le-of-suc-le
         ∙ ap (λ (m : ℕ). m % 2) (add-mul-div-right S (A * 2) (pow-pos p))
         ∙ add-mul-mod-self-right (S / 2 ^ p) A 2
         ∙ ih l
+
+-- ---- digits of parts
+
+-- digit j of a number
+abbrev digit : ℕ → ℕ → ℕ
+digit a j = a / 2 ^ j % 2
+
+-- digit j of the number above t digits is digit t + j
+pub digit-above : (a t j : ℕ) → digit (a / 2 ^ t) j ≡ digit a (t + j)
+digit-above a t j = ap (λ (m : ℕ). m % 2) (shr-shr a t j)
+
+-- a digit below m is one of the remainder by 2 ^ m
+pub digit-below : (a m j : ℕ) → j < m → digit (a % 2 ^ m) j ≡ digit a j
+digit-below a m j l =
+    let i : ℕ = m - 1 - j in
+    let e : m ≡ i + 1 + j = omega arith in
+    ap (λ (k : ℕ). digit (a % 2 ^ k) j) e
+    ∙ ap (λ (k : ℕ). k % 2) (field a (i + 1) j)
+    ∙ mod-mod-pow (a / 2 ^ j) i 1
+
+-- digits of a number that ends in n given digits
+pub cat-above : (n a b j : ℕ) → b < 2 ^ n → digit (a * 2 ^ n + b) (n + j) ≡ digit a j
+cat-above n a b j h = sym (digit-above (a * 2 ^ n + b) n j) ∙ ap (λ (i : ℕ). digit i j) (digits-div a h)
+
+pub cat-below : (n a b j : ℕ) → b < 2 ^ n → j < n → digit (a * 2 ^ n + b) j ≡ digit b j
+cat-below n a b j h l = sym (digit-below (a * 2 ^ n + b) n j l) ∙ ap (λ (i : ℕ). digit i j) (digits-mod a h)
+
+-- ---- bytes, the first one lowest
+
+pub fromBytes-ext : (n : ℕ) (r s : ℕ → ℕ) → ((k : ℕ) → k < n → r k ≡ s k) → fromBytes n r ≡ fromBytes n s
+unfolding fromBytes
+fromBytes-ext zero r s e = refl
+fromBytes-ext (suc n) r s e =
+    let rest = fromBytes-ext n (λ k. r (suc k)) (λ k. s (suc k)) (λ k h. e (suc k) (omega arith)) in
+    omega (arith, rest, e 0 (omega arith))
+
+pub fromBytes-lt : (n : ℕ) (r : ℕ → ℕ) → ((k : ℕ) → k < n → r k < 256) → fromBytes n r < 256 ^ n
+unfolding fromBytes
+fromBytes-lt zero r b = omega arith
+fromBytes-lt (suc n) r b =
+    let rest = fromBytes-lt n (λ k. r (suc k)) (λ k h. b (suc k) (omega arith)) in
+    omega (arith, pow-suc 256 n, digits-lt rest (b 0 (omega arith)))
+
+-- digit c of byte i
+pub fromBytes-digit : (n : ℕ) (r : ℕ → ℕ) → ((k : ℕ) → k < n → r k < 256) → (i c : ℕ) → i < n → c < 8
+    → digit (fromBytes n r) (i * 8 + c) ≡ digit (r i) c
+unfolding fromBytes
+fromBytes-digit zero r b i c l k = absurd (not-suc-le-zero l)
+fromBytes-digit (suc n) r b zero c l k =
+    let e : zero * 8 + c ≡ c = omega arith in
+    ap (λ (j : ℕ). digit (fromBytes (suc n) r) j) e
+    ∙ cat-below 8 (fromBytes n (λ k. r (suc k))) (r 0) c (b 0 (omega arith)) k
+fromBytes-digit (suc n) r b (suc i) c l k =
+    let e : suc i * 8 + c ≡ 8 + (i * 8 + c) = omega arith in
+    ap (λ (j : ℕ). digit (fromBytes (suc n) r) j) e
+    ∙ cat-above 8 (fromBytes n (λ k. r (suc k))) (r 0) (i * 8 + c) (b 0 (omega arith))
+    ∙ fromBytes-digit n (λ k. r (suc k)) (λ k h. b (suc k) (omega arith)) i c (omega arith) k

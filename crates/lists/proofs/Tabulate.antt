@@ -1,6 +1,6 @@
 -- Laws of `tabulate`.
 use mathlib.Core.Path.{_≡_, refl, ap, _∙_}
-use mathlib.Core.List.{List, [], _∷_}
+use mathlib.Core.List.{List, [], _∷_, map}
 use Prim.Native.Nat.{ℕ, zero, suc, _≤_, _<_, suc-le-suc, zero-le}
 use native.Mathlib.Nat.{not-suc-le-zero, le-of-suc-le-suc, le-refl, zero-lt-suc}
 use lib.ListN.{length, getD, take}
@@ -50,3 +50,8 @@ module _ {A : Type 0} where
 -- a bound on the rule is one on every element
 pub tabulate-le : (n : ℕ) (f : ℕ → ℕ) (b : ℕ) → ((k : ℕ) → f k ≤ b) → (k : ℕ) → getD (tabulate n f) k 0 ≤ b
 tabulate-le n f b h = tabulate-all (λ x. x ≤ b) n f 0 zero-le h
+
+pub map-tabulate : {A B : Type 0} (f : A → B) (n : ℕ) (g : ℕ → A) → map f (tabulate n g) ≡ tabulate n (λ k. f (g k))
+unfolding tabulate
+map-tabulate f zero g = refl
+map-tabulate {B = B} f (suc n) g = ap (λ (l : List B). f (g 0) ∷ l) (map-tabulate f n (λ k. g (suc k)))

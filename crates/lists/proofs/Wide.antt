@@ -1,9 +1,11 @@
 -- Laws of rows of one width.
-use mathlib.Core.Path.{_≡_}
-use Prim.Native.Nat.{ℕ, zero, suc, _<_}
+use mathlib.Core.Path.{_≡_, ap, _∙_}
+use Prim.Native.Nat.{ℕ, zero, suc, _+_, _*_, _<_}
+use native.Mathlib.Nat.{zero-mul, suc-mul}
 use native.Mathlib.Omega.{arith}
-use mathlib.Core.List.{List, [], _∷_}
-use lib.ListN.{length, getD, drop}
+use mathlib.Core.List.{List, [], _∷_, _++_, flatten}
+use lib.ListN.{length, getD, drop, length-append, List·getD-append}
+use lib.Seq.{getD-append-add}
 use Rattle.lists.specs.Tabulate.{tabulate}
 use Rattle.lists.specs.Wide.{Wide}
 
@@ -22,3 +24,23 @@ pub wide-drop : (width n : ℕ) (rows : List (List ℕ)) → Wide width rows →
 wide-drop width zero rows w = w
 wide-drop width (suc n) [] w = tt
 wide-drop width (suc n) (row ∷ rows) w = wide-drop width n rows (w .1)
+
+-- the rows joined: element c of row n
+pub getD-flatten : (w : ℕ) (list : List (List ℕ)) → Wide w list → (n c : ℕ) → n < length list → c < w
+    → (n * w + c < length (flatten list)) × (getD (flatten list) (n * w + c) 0 ≡ getD (getD list n []) c 0)
+unfolding flatten
+getD-flatten w [] wide n c h k = absurd (omega arith)
+getD-flatten w (row ∷ list) wide zero c h k =
+    let none : zero * w + c ≡ c = omega (arith, zero-mul w) in
+    let more = length-append row (flatten list) in (
+      omega (arith, more, wide .0),
+      ap (λ (i : ℕ). getD (row ++ flatten list) i 0) none ∙ List·getD-append row (flatten list) 0 c
+          (omega (arith, wide .0)),
+    )
+getD-flatten w (row ∷ list) wide (suc n) c h k =
+    let ih = getD-flatten w list (wide .1) n c (omega arith) k in
+    let on : suc n * w + c ≡ length row + (n * w + c) = omega (arith, suc-mul n w, wide .0) in
+    let more = length-append row (flatten list) in (
+      omega (arith, more, ih .0),
+      ap (λ (i : ℕ). getD (row ++ flatten list) i 0) on ∙ getD-append-add row (flatten list) (n * w + c) 0 ∙ ih .1,
+    )

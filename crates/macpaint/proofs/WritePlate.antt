@@ -43,38 +43,42 @@ write-packed plate out =
     go o false true = refl
     go o false false = refl
 
-module _ (plate out after : List ℕ) (a : BodyAnswer) where
+-- what `pack_body` answered of the plate's body, and what it left of the output
+pub record BodyPacked (plate out after : List ℕ) (a : BodyAnswer) : Type 0 where
+  pub answer : a ≡ packedAnswer (packBody plateRaster plate bodyLimit headerLength (length out))
+  pub left : after ≡ packedOutput (packBody plateRaster plate bodyLimit headerLength (length out)) headerLength out
+
+module _ {plate out after : List ℕ} {a : BodyAnswer} (b : BodyPacked plate out after a) where
   abbrev packed : Outcome PackedBody
   packed = packBody plateRaster plate bodyLimit headerLength (length out)
 
-  module _ (answer : a ≡ packedAnswer packed) (left : after ≡ packedOutput packed headerLength out) where
-    -- refused: the output as it was
-    pub plate-refused : (a .refusal .number ≡ 0 → ⊥)
-        → (writeAnswer (refused (a .refusal)) ≡ writeAnswer (writePlate plate (length out)))
-        × (after ≡ writeOutput (writePlate plate (length out)) out)
-    plate-refused e =
-        let refuses = answer-refused _ _ packed answer e in
-        let is : writePlate plate (length out) ≡ refused (a .refusal) =
-        write-packed plate (length out) ∙ ap (map plateWriting) refuses in
-        rw is (refl, left ∙ ap (λ (o : Outcome PackedBody). packedOutput o headerLength out) refuses)
+  -- refused: the output as it was
+  pub plate-refused : (a .refusal .number ≡ 0 → ⊥)
+      → (writeAnswer (refused (a .refusal)) ≡ writeAnswer (writePlate plate (length out)))
+      × (after ≡ writeOutput (writePlate plate (length out)) out)
+  plate-refused e =
+      let refuses = answer-refused _ _ packed (b .answer) e in
+      let is : writePlate plate (length out) ≡ refused (a .refusal) =
+      write-packed plate (length out) ∙ ap (map plateWriting) refuses in
+      rw is (refl, b .left ∙ ap (λ (o : Outcome PackedBody). packedOutput o headerLength out) refuses)
 
-    module _ (ok : a .refusal .number ≡ 0) where
-      pub plate-packed : PackedAt headerLength bodyLimit out after a packed
-      plate-packed =
-          packed-at plateRaster plate bodyLimit headerLength out after a packed
-          (pack-judged plateRaster plate bodyLimit headerLength (length out)) answer left ok
+  module _ (ok : a .refusal .number ≡ 0) where
+    pub plate-packed : PackedAt headerLength bodyLimit out after a packed
+    plate-packed =
+        packed-at plateRaster plate bodyLimit headerLength out after a packed
+        (pack-judged plateRaster plate bodyLimit headerLength (length out)) (b .answer) (b .left) ok
 
-      pub plate-room : longestFile ≤ length out
-      plate-room = packed-room plateRaster plate bodyLimit headerLength (length out) _ (plate-packed .is)
+    pub plate-room : longestFile ≤ length out
+    plate-room = packed-room plateRaster plate bodyLimit headerLength (length out) _ (plate-packed .is)
 
-      -- the header before it
-      pub plate-written : (then : List ℕ) (n : ℕ) → Written zeroHeader after then n
-          → n ≡ headerLength → {w : WriteAnswer}
-          → w ≡ record { refusal = none; length = n + a .body; body = a .body; records = a .records }
-          → (w ≡ writeAnswer (writePlate plate (length out))) × (then ≡ writeOutput (writePlate plate (length out)) out)
-      unfolding plateFile
-      plate-written then n h size is =
-          let k = plate-packed in
-          let all = packed-behind k zeroHeader then n size (omega (arith, plate-room)) h in
-          let b : PackedBody = record { body = a .body; records = a .records; bytes = k .bytes } in
-          rw (write-packed plate (length out), k .is) (written-done (plateWriting b) all is)
+    -- the header before it
+    pub plate-written : (then : List ℕ) (n : ℕ) → Written zeroHeader after then n
+        → n ≡ headerLength → {w : WriteAnswer}
+        → w ≡ record { refusal = none; length = n + a .body; body = a .body; records = a .records }
+        → (w ≡ writeAnswer (writePlate plate (length out))) × (then ≡ writeOutput (writePlate plate (length out)) out)
+    unfolding plateFile
+    plate-written then n h size is =
+        let k = plate-packed in
+        let all = packed-behind k zeroHeader then n size (omega (arith, plate-room)) h in
+        let body : PackedBody = record { body = a .body; records = a .records; bytes = k .bytes } in
+        rw (write-packed plate (length out), k .is) (written-done (plateWriting body) all is)

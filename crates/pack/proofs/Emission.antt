@@ -65,38 +65,51 @@ module _ (row : List ℕ) (i : ℕ) (more : i < length row) (narrow : length row
         written = rw (tail-part row i) at w;
       })
 
--- the literal or the repeat of n bytes, with which it begins: what its function asks, and what is then written
+-- it begins with the literal, or the repeat, of n bytes: what its function asks, and what is then written
+abbrev pub LiteralFirst : List ℕ → ℕ → ℕ → List ℕ → Type 0
+LiteralFirst row i n out =
+    let part = take (length row - i) (drop i row) in
+    ((1 ≤ n) × (n ≤ 128) × (n ≤ length part) × (n < length out))
+    × ((last : List ℕ) (taken made : ℕ) → (taken ≡ n) × (made ≡ n + 1) → last ≡ over (recordOf (n - 1) part) out
+    → Emitted row i (i + n) out last made 1)
+
+abbrev pub RepeatFirst : List ℕ → ℕ → ℕ → List ℕ → Type 0
+RepeatFirst row i n out =
+    let part = take (length row - i) (drop i row) in
+    ((2 ≤ n) × (n ≤ 128) × (1 ≤ length part) × (2 ≤ length out))
+    × ((last : List ℕ) (taken made : ℕ) → (taken ≡ n) × (made ≡ 2) → last ≡ over (recordOf (257 - n) part) out
+    → Emitted row i (i + n) out last made 1)
+
 module _ (row : List ℕ) (i : ℕ) (more : i < length row) (narrow : length row ≤ 128) (n : ℕ) (few : n ≤ 128)
     (out : List ℕ) (fits : length (least (drop i row)) ≤ length out) where
   abbrev part : List ℕ
   part = take (length row - i) (drop i row)
 
-  module _ (some : 1 ≤ n) (known : n - 1 ≡ getD (least (drop i row)) 0 0) where
-    pub literal-room : (1 ≤ n) × (n ≤ 128) × (n ≤ length part) × (n < length out)
-    literal-room =
-        let w = record-room row i more narrow (n - 1) known out fits in
-        let k = literal-shown n some few .0 in
-        (some, few, omega (arith, w .1, k), omega (arith, w .2, k))
+  pub literal-first : 1 ≤ n → n - 1 ≡ getD (least (drop i row)) 0 0 → LiteralFirst row i n out
+  literal-first some known =
+      let w = record-room row i more narrow (n - 1) known out fits in
+      let k = literal-shown n some few .0 in
+      let room : n ≤ length part = omega (arith, w .1, k) in
+      let space : n < length out = omega (arith, w .2, k) in (
+        (some, few, room, space),
+        λ last taken made e all.
+            let p = puts-literal (n - 1) n part out last taken made refl some few room e all in
+            rw (e .0) at
+            (emitted-record row i more narrow (n - 1) known {out = out} {last = last} {taken = taken}
+            {made = made} p),
+      )
 
-    pub emitted-literal : {last : List ℕ} {taken made : ℕ} → (taken ≡ n) × (made ≡ n + 1)
-        → last ≡ over (recordOf (n - 1) part) out → Emitted row i (i + n) out last made 1
-    emitted-literal {last} {taken} {made} e w =
-        let p = puts-literal (n - 1) n part out last taken made refl some few (literal-room .2) e w in
-        rw (e .0) at
-        (emitted-record row i more narrow (n - 1) known {out = out} {last = last} {taken = taken} {made = made} p)
-
-  module _ (some : 2 ≤ n) (known : 257 - n ≡ getD (least (drop i row)) 0 0) where
-    pub repeat-room : (2 ≤ n) × (n ≤ 128) × (1 ≤ length part) × (2 ≤ length out)
-    repeat-room =
-        let w = record-room row i more narrow (257 - n) known out fits in
-        (some, few, w .0, omega (arith, w .2, repeat-shown n some few .0))
-
-    pub emitted-repeat : {last : List ℕ} {taken made : ℕ} → (taken ≡ n) × (made ≡ 2)
-        → last ≡ over (recordOf (257 - n) part) out → Emitted row i (i + n) out last made 1
-    emitted-repeat {last} {taken} {made} e w =
-        let p = puts-repeat (257 - n) n part out last taken made refl some few (repeat-room .2) e w in
-        rw (e .0) at
-        (emitted-record row i more narrow (257 - n) known {out = out} {last = last} {taken = taken} {made = made} p)
+  pub repeat-first : 2 ≤ n → 257 - n ≡ getD (least (drop i row)) 0 0 → RepeatFirst row i n out
+  repeat-first some known =
+      let w = record-room row i more narrow (257 - n) known out fits in
+      let space : 2 ≤ length out = omega (arith, w .2, repeat-shown n some few .0) in (
+        (some, few, w .0, space),
+        λ last taken made e all.
+            let p = puts-repeat (257 - n) n part out last taken made refl some few (w .0) e all in
+            rw (e .0) at
+            (emitted-record row i more narrow (257 - n) known {out = out} {last = last} {taken = taken}
+            {made = made} p),
+      )
 
 -- ---- one part after another
 

@@ -1,18 +1,19 @@
 -- Laws of joined plane rows: where their bytes stand, and the image made from them.
 use mathlib.Core.Path.{_≡_, sym, ap, ap₂, _∙_}
 use mathlib.Core.Bool.{Bool, true, false}
-use mathlib.Core.List.{List, [], _∷_, _++_, flatten}
-use Prim.Native.Nat.{ℕ, zero, suc, _+_, _*_, _/_, _%_, _≤_, _<_}
+use mathlib.Core.List.{List, [], flatten}
+use Prim.Native.Nat.{ℕ, _+_, _*_, _/_, _%_, _≤_, _<_}
 use native.Mathlib.Nat.{mul-assoc, mul-comm, mul-le-mul, le-refl, add-mul}
 use native.Mathlib.Nat.{zero-mul, suc-mul, div-add-mod', mul-add-mod-self-right}
 use native.Mathlib.Numerals.{add-one}
 use native.Mathlib.Omega.{arith}
 use lib.Dec.{eqb}
-use lib.ListN.{length, getD, take, drop, length-append, length-drop, List·getD-append}
-use lib.Seq.{getD-append-add, getD-take, getD-drop}
+use lib.ListN.{length, getD, take, drop, length-drop}
+use lib.Seq.{getD-take, getD-drop}
 use Rattle.lists.specs.Tabulate.{tabulate}
 use Rattle.lists.specs.Wide.{Wide}
 use Rattle.lists.proofs.Tabulate.{getD-tabulate, tabulate-ext, tabulate-take}
+use Rattle.lists.proofs.Wide.{getD-flatten}
 use Rattle.raster.specs.declared.Raster.{Raster}
 use Rattle.raster.specs.Shape.{rowBytes, rows, lineBytes, bytes}
 use Rattle.raster.specs.Offsets.{groupOffset, wordOffset}
@@ -155,25 +156,6 @@ tails-turn r list area₀ area n at part h place is e =
     ∙ ap (λ (k : ℕ). putRows r k (rowTails r list) area₀) (sym (add-one n))
 
 -- ---- rows of one width, joined
-
-getD-flatten : (w : ℕ) (list : List (List ℕ)) → Wide w list → (n c : ℕ) → n < length list → c < w
-    → (n * w + c < length (flatten list)) × (getD (flatten list) (n * w + c) 0 ≡ getD (getD list n []) c 0)
-unfolding flatten
-getD-flatten w [] wide n c h k = absurd (omega arith)
-getD-flatten w (row ∷ list) wide zero c h k =
-    let none : zero * w + c ≡ c = omega (arith, zero-mul w) in
-    let more = length-append row (flatten list) in (
-      omega (arith, more, wide .0),
-      ap (λ (i : ℕ). getD (row ++ flatten list) i 0) none ∙ List·getD-append row (flatten list) 0 c
-          (omega (arith, wide .0)),
-    )
-getD-flatten w (row ∷ list) wide (suc n) c h k =
-    let ih = getD-flatten w list (wide .1) n c (omega arith) k in
-    let on : suc n * w + c ≡ length row + (n * w + c) = omega (arith, suc-mul n w, wide .0) in
-    let more = length-append row (flatten list) in (
-      omega (arith, more, ih .0),
-      ap (λ (i : ℕ). getD (row ++ flatten list) i 0) on ∙ getD-append-add row (flatten list) (n * w + c) 0 ∙ ih .1,
-    )
 
 -- a list that begins with the rows of a raster, joined, makes the image of those rows
 pub joined-image : (r : Raster) (list : List (List ℕ)) (s : List ℕ) → Wide (rowBytes r) list → length list ≡ rows r

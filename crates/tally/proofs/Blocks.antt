@@ -15,6 +15,7 @@ use Rattle.lists.specs.Bytes.{Bytes}
 use Rattle.lists.specs.Digits.{fromBytes}
 use Rattle.lists.specs.Sum.{sum}
 use Rattle.lists.specs.Tabulate.{tabulate}
+use Rattle.lists.proofs.Digits.{cat-above, cat-below}
 use Rattle.lists.proofs.Sum.{sum-ext, sum-const, sum-rows}
 use Rattle.lists.proofs.Tabulate.{length-tabulate, getD-tabulate, tabulate-ext}
 use Rattle.words.specs.Word.{wordAt}
@@ -34,7 +35,7 @@ use Rattle.tally.specs.Rectangles.{lineSum, rectangleSum}
 use Rattle.tally.specs.Counts.{isRegister, counts, mostPixels, counted, countedLines}
 use Rattle.tally.proofs.Counts.{isRegister-same, isRegister-other, isRegister-zero, isRegister-one}
 use Rattle.tally.proofs.Counts.{countedLines-counts}
-use Rattle.tally.proofs.Ones.{cat-above, cat-below, ones-zero, ones-digits, ones-part}
+use Rattle.tally.proofs.Ones.{ones-zero, ones-digits, ones-part}
 use Rattle.tally.proofs.Ones.{and-digit, not-digit, all-digit}
 use Rattle.tally.proofs.Bytes.{swappedDigit, reversed-digit, reversed-lt, ones-swapped}
 

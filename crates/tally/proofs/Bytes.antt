@@ -1,37 +1,17 @@
 -- Laws of bytes in reverse order: digit for digit, and as many digits are set.
 use mathlib.Core.Path.{_≡_, sym, ap, ap₂, _∙_}
-use Prim.Native.Nat.{ℕ, zero, suc, _+_, _-_, _*_, _/_, _%_, _^_, _<_}
-use native.Mathlib.Nat.{not-suc-le-zero, pow-suc}
+use Prim.Native.Nat.{ℕ, _+_, _-_, _*_, _/_, _%_, _^_, _<_}
 use native.Mathlib.Omega.{arith}
-use lib.Arith.{digits-lt, digits-div, digits-mod}
+use lib.Arith.{digits-div, digits-mod}
 use lib.Count.{ones}
 use lib.Pow.{shr-shr}
 use Rattle.lists.specs.Digits.{fromBytes}
 use Rattle.lists.specs.Sum.{sum}
+use Rattle.lists.proofs.Digits.{digit-above, digit-below, fromBytes-lt, fromBytes-digit}
 use Rattle.lists.proofs.Sum.{sum-ext, sum-rows}
 use Rattle.lines.specs.Columns.{byteOf}
 use Rattle.tally.specs.Blocks.{digit, reversed, swapped}
-use Rattle.tally.proofs.Ones.{digit-above, digit-below, cat-above, cat-below, ones-digits}
-
--- digit c of byte i
-fromBytes-digit : (n : ℕ) (r : ℕ → ℕ) → ((k : ℕ) → r k < 256) → (i c : ℕ) → i < n → c < 8
-    → digit (fromBytes n r) (i * 8 + c) ≡ digit (r i) c
-unfolding fromBytes
-fromBytes-digit zero r h i c l k = absurd (not-suc-le-zero l)
-fromBytes-digit (suc n) r h zero c l k =
-    let e : zero * 8 + c ≡ c = omega arith in
-    ap (λ (j : ℕ). digit (fromBytes (suc n) r) j) e ∙ cat-below 8 (fromBytes n (λ k. r (suc k))) (r 0) c (h 0) k
-fromBytes-digit (suc n) r h (suc i) c l k =
-    let e : suc i * 8 + c ≡ 8 + (i * 8 + c) = omega arith in
-    ap (λ (j : ℕ). digit (fromBytes (suc n) r) j) e
-    ∙ cat-above 8 (fromBytes n (λ k. r (suc k))) (r 0) (i * 8 + c) (h 0)
-    ∙ fromBytes-digit n (λ k. r (suc k)) (λ k. h (suc k)) i c (omega arith) k
-
-fromBytes-lt : (n : ℕ) (r : ℕ → ℕ) → ((k : ℕ) → r k < 256) → fromBytes n r < 256 ^ n
-unfolding fromBytes
-fromBytes-lt zero r h = omega arith
-fromBytes-lt (suc n) r h =
-    omega (arith, pow-suc 256 n, digits-lt (fromBytes-lt n (λ k. r (suc k)) (λ k. h (suc k))) (h 0))
+use Rattle.tally.proofs.Ones.{ones-digits}
 
 -- where digit j comes from
 abbrev pub swappedDigit : ℕ → ℕ
@@ -43,13 +23,13 @@ reversed-digit a j h =
     let e : j ≡ j / 8 * 8 + j % 8 = omega arith in
     let b : ℕ = (7 - j / 8) * 8 in
     ap (λ (i : ℕ). digit (reversed a) i) e
-    ∙ fromBytes-digit 8 (λ k. byteOf a (7 - k)) (λ k. omega arith) (j / 8) (j % 8) (omega arith) (omega arith)
+    ∙ fromBytes-digit 8 (λ k. byteOf a (7 - k)) (λ k l. omega arith) (j / 8) (j % 8) (omega arith) (omega arith)
     ∙ digit-below (a / 2 ^ b) 8 (j % 8) (omega arith)
     ∙ digit-above a b (j % 8)
 
 pub reversed-lt : (a : ℕ) → reversed a < 2 ^ 64
 unfolding reversed byteOf
-reversed-lt a = fromBytes-lt 8 (λ k. byteOf a (7 - k)) (λ k. omega arith)
+reversed-lt a = fromBytes-lt 8 (λ k. byteOf a (7 - k)) (λ k l. omega arith)
 
 -- eight from the last
 sum-back : (f : ℕ → ℕ) → sum 8 (λ i. f (7 - i)) ≡ sum 8 f

@@ -3,11 +3,12 @@ use mathlib.Core.Path.{_≡_, refl, sym, ap, _∙_}
 use Prim.Native.Nat.{ℕ, zero, suc, _+_, _-_, _*_, _/_, _%_, _^_, _<_}
 use native.Mathlib.Nat.{not-suc-le-zero, pow-suc, add-zero, mod-lt, zero-div, sub-zero}
 use native.Mathlib.Omega.{arith}
-use lib.Arith.{lt-one, digits-div, digits-mod}
+use lib.Arith.{lt-one}
 use lib.Bits.{bitAnd, and-shr, and-mod, and-high}
 use lib.Count.{ones, ones-step, ones-cat}
-use lib.Pow.{shr-shr, field, mod-mod-pow, pow-pos}
+use lib.Pow.{shr-shr, pow-pos}
 use Rattle.lists.specs.Sum.{sum}
+use Rattle.lists.proofs.Digits.{digit-above, digit-below}
 use Rattle.lists.proofs.Sum.{sum-ext}
 use Rattle.tally.specs.Blocks.{digit}
 
@@ -30,27 +31,6 @@ ones-digits (suc n) a h =
     ap (λ (m : ℕ). m % 2) (shr-shr a 1 (n - 1 - k)) ∙ ap (λ (j : ℕ). digit a j) z)
     in
     omega (arith, ones-step a, rest, end)
-
--- digit j of the number above t digits is digit t + j
-pub digit-above : (a t j : ℕ) → digit (a / 2 ^ t) j ≡ digit a (t + j)
-digit-above a t j = ap (λ (m : ℕ). m % 2) (shr-shr a t j)
-
--- a digit below m is one of the remainder by 2 ^ m
-pub digit-below : (a m j : ℕ) → j < m → digit (a % 2 ^ m) j ≡ digit a j
-digit-below a m j l =
-    let e : m ≡ m - j + j = omega arith in
-    let f : m - j ≡ m - 1 - j + 1 = omega arith in
-    ap (λ (i : ℕ). a % 2 ^ i / 2 ^ j % 2) e
-    ∙ ap (λ (i : ℕ). i % 2) (field a (m - j) j)
-    ∙ ap (λ (i : ℕ). a / 2 ^ j % 2 ^ i % 2) f
-    ∙ mod-mod-pow (a / 2 ^ j) (m - 1 - j) 1
-
--- digits of a number that ends in n given digits
-pub cat-above : (n a b j : ℕ) → b < 2 ^ n → digit (a * 2 ^ n + b) (n + j) ≡ digit a j
-cat-above n a b j h = sym (digit-above (a * 2 ^ n + b) n j) ∙ ap (λ (i : ℕ). digit i j) (digits-div a h)
-
-pub cat-below : (n a b j : ℕ) → b < 2 ^ n → j < n → digit (a * 2 ^ n + b) j ≡ digit b j
-cat-below n a b j h l = sym (digit-below (a * 2 ^ n + b) n j l) ∙ ap (λ (i : ℕ). digit i j) (digits-mod a h)
 
 -- the set digits among the m above the lowest t
 pub ones-part : (a m t : ℕ) → ones (bitAnd a (2 ^ (m + t) - 2 ^ t)) ≡ sum m (λ k. digit a (t + (m - 1 - k)))

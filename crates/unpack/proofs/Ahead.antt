@@ -33,10 +33,10 @@ module _ {file : List ℕ} {at rows width : ℕ} {out₀ : List ℕ} {to₀ last
     abbrev tail : List ℕ
     tail = take (length out - to) (drop to out)
 
-    -- where the loop ends
-    pub outcome-here : RowsRead file at rows width out from to room records
-        × ((0 < room) × (to < rows * width) × (to₀ ≤ to))
-    outcome-here = (a .read, (a .under, omega (arith, a .ahead), a .grown))
+    -- where the loop ends, with the answer's numbers
+    pub outcome-here : {f t w n : ℕ} → (f ≡ from) × (t ≡ to) × (w ≡ room) × (n ≡ records)
+        → RowsRead file at rows width out f t w n × ((0 < w) × (t < rows * width) × (to₀ ≤ t))
+    outcome-here e = rw (e .0, e .1, e .2, e .3) (a .read, (a .under, omega (arith, a .ahead), a .grown))
 
     pub tail-long : 128 ≤ length tail
     tail-long = omega (arith, ap length (tail-part out to), length-drop to out, a .ahead, a .kept, a .fit .size)
@@ -67,40 +67,54 @@ module _ {file : List ℕ} {at rows width : ℕ} {out₀ : List ℕ} {to₀ last
             (omega (arith, narrow-here, tail-long, long))
             ∙ ap (λ (l : List ℕ). take to out ++ l) e)
 
-        -- the row under way goes on
-        pub ahead-more : (room - rowLen r ≡ 0 → ⊥)
-            → Ahead file at rows width out₀ to₀ lastRow lastControl next (from + packedLen r) (to + rowLen r)
-            (room - rowLen r) (records + 1)
-        ahead-more h = record {
-          fit = a .fit;
-          control = a .control;
-          start = a .start;
-          grown = omega (arith, a .grown);
-          kept = next-kept;
-          read = read-next;
-          under = omega arith;
-          ahead = omega (arith, a .ahead, here .fits);
-        }
-
-        -- it is full
-        pub row-done : room - rowLen r ≡ 0 → to + rowLen r < rows * width
+        -- the row under way is full
+        row-done : room - rowLen r ≡ 0 → to + rowLen r < rows * width
         row-done h = omega (arith, a .ahead, here .fits)
 
-        pub read-row : room - rowLen r ≡ 0 → RowsRead file at rows width next (from + packedLen r) (to + rowLen r) width
+        read-row : room - rowLen r ≡ 0 → RowsRead file at rows width next (from + packedLen r) (to + rowLen r) width
             (records + 1)
         read-row h = row-full read-next (row-done h) h
 
-        -- and the next one ends early enough
-        pub ahead-row : room - rowLen r ≡ 0 → to + rowLen r ≤ lastRow
-            → Ahead file at rows width out₀ to₀ lastRow lastControl next (from + packedLen r) (to + rowLen r) width
-            (records + 1)
-        ahead-row h k = record {
-          fit = a .fit;
-          control = a .control;
-          start = a .start;
-          grown = omega (arith, a .grown);
-          kept = next-kept;
-          read = read-row h;
-          under = a .fit .some;
-          ahead = omega (arith, a .start, a .fit .narrow);
-        }
+        -- with the lengths that the code asks for
+        module _ {used made made′ : ℕ} (u : used ≡ packedLen r) (m : made ≡ rowLen r) (m′ : made′ ≡ rowLen r) where
+          -- the row under way goes on
+          pub ahead-more : (room - made′ ≡ 0 → ⊥)
+              → Ahead file at rows width out₀ to₀ lastRow lastControl next (from + used) (to + made) (room - made′)
+              (records + 1)
+          ahead-more h =
+              rw (u, m, m′)
+              (record {
+                fit = a .fit;
+                control = a .control;
+                start = a .start;
+                grown = omega (arith, a .grown);
+                kept = next-kept;
+                read = read-next;
+                under = omega (arith, rw m′ at h);
+                ahead = omega (arith, a .ahead, here .fits);
+              })
+
+          -- it is full, and the next one ends early enough
+          pub ahead-row : room - made′ ≡ 0 → to + made ≤ lastRow
+              → Ahead file at rows width out₀ to₀ lastRow lastControl next (from + used) (to + made) width (records + 1)
+          ahead-row h k =
+              rw (u, m)
+              (record {
+                fit = a .fit;
+                control = a .control;
+                start = a .start;
+                grown = omega (arith, a .grown);
+                kept = next-kept;
+                read = read-row (rw m′ at h);
+                under = a .fit .some;
+                ahead = omega (arith, a .start, a .fit .narrow, rw m at k);
+              })
+
+          -- or the loop ends there
+          pub outcome-row : room - made′ ≡ 0 → {f t w n : ℕ}
+              → (f ≡ from + used) × (t ≡ to + made) × (w ≡ width) × (n ≡ records + 1)
+              → RowsRead file at rows width next f t w n × ((0 < w) × (t < rows * width) × (to₀ ≤ t))
+          outcome-row h e =
+              let none = rw m′ at h in
+              rw (e .0, e .1, e .2, e .3, u, m)
+              (read-row none, (a .fit .some, row-done none, omega (arith, a .grown)))

@@ -62,9 +62,6 @@ loop-holds c =
     let start = most-start (plane-rows (now (s .args .area)) (s .args .r)) in
     (c .before .rows .ensures .0, omega arith, s .pre, rw (c .before .rows .ensures .0, c .row-bytes .ensures .0) start)
 
-sub-most : tie.Need-sub-most Inv-loop μ-loop
-sub-most c = longest-here (c .before .before)
-
 sub-most-2 : tie.Need-sub-most-2 Inv-loop μ-loop
 sub-most-2 c =
     let i = c .before .before .before .before in
@@ -110,7 +107,7 @@ body-too-long-spec =
     mul-most
     loop-holds
     (λ c κs. search needs)
-    sub-most
+    (λ c. longest-here (c .before .before))
     sub-most-2
     (λ c. search needs)
     returns

@@ -57,18 +57,6 @@ returns-2 c =
     let all = pack-no-room (a .r) (now (a .area)) (a .limit) (a .at) room (fits-here e .0) (fits-here e .1) h in
     rw (c .body-refused2 .ensures, c .before .refuse .ensures, all) (refl, refl)
 
-array-borrow-prefix-row : tie.Need-array-borrow-prefix-row
-array-borrow-prefix-row c = in-range _ (width-here c) .1
-
-slice-aggregate-pack-below : tie.Need-slice-aggregate-pack-below
-slice-aggregate-pack-below c = sym (length-lent _ (width-here (c .before)))
-
-sub-pack-below : tie.Need-sub-pack-below
-sub-pack-below c = omega (arith, room-here (c .before .before))
-
-part-pack-below-start : tie.Need-part-pack-below-start
-part-pack-below-start c = omega (arith, room-here (c .before .before))
-
 pack-below-requires : tie.Need-pack-below-requires
 pack-below-requires c κs =
     let w = c .before .before in
@@ -103,10 +91,10 @@ pack-body-spec =
     (λ c κs. search needs)
     returns-2
     (λ c κs. search needs)
-    array-borrow-prefix-row
-    slice-aggregate-pack-below
-    sub-pack-below
-    part-pack-below-start
+    (λ c. in-range _ (width-here c) .1)
+    (λ c. sym (length-lent _ (width-here (c .before))))
+    (λ c. omega (arith, room-here (c .before .before)))
+    (λ c. omega (arith, room-here (c .before .before)))
     (λ c. search needs)
     pack-below-requires
     (λ c. search needs)

@@ -22,15 +22,6 @@ Inv-loop bytes zero₀ i₀ zero i = (i ≤ tailLength) × (zero ≡ allFirst i 
 abbrev μ-loop : tie.MeasureT-loop
 μ-loop bytes zero₀ i₀ zero i = tailLength - i
 
-loop-holds : tie.Need-loop-holds Inv-loop μ-loop
-loop-holds c = (search needs, allBelow-start _)
-
-add-i : tie.Need-add-i Inv-loop μ-loop
-add-i c = omega arith
-
-loop-less : tie.Need-loop-less Inv-loop μ-loop
-loop-less c = omega arith
-
 loop-again : tie.Need-loop-again Inv-loop μ-loop
 loop-again c =
     let l = c .before .before .loop in (
@@ -40,9 +31,6 @@ loop-again c =
           (λ w. w .1 ∙ allBelow-passes _ (l .i) (l .zero) (eq-eqb _ _ (w .0 .left)) (l .inv .1))
           (c .if2 .came),
     )
-
-returns : tie.Need-returns Inv-loop μ-loop
-returns c = rw (not-true (c .before .before .args .picture .«tail_present») (c .if1 .taken))
 
 returns-2 : tie.Need-returns-2 Inv-loop μ-loop
 returns-2 c =
@@ -58,11 +46,9 @@ zero-tail-spec =
     (tie.spec
     Inv-loop
     μ-loop
-    returns
+    (λ c. rw (not-true (c .before .before .args .picture .«tail_present») (c .if1 .taken)))
     (λ c κs. search needs)
-    loop-holds
-    (λ c. search needs)
-    add-i
-    loop-less
+    (λ c. (search needs, allBelow-start _))
+    (λ c. search needs) (λ c. search needs) (λ c. search needs)
     loop-again
     returns-2)

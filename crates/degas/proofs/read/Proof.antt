@@ -1,10 +1,7 @@
 -- `degas::read` meets its contract: the area's length and the opened file pick the case of `readDegas`.
-use mathlib.Core.Path.{refl, sym, ap, _∙_}
+use mathlib.Core.Path.{refl, sym, _∙_}
 use denote.Ref.{now}
 use lib.ListN.{length}
-use Rattle.outcome.specs.declared.Refusal.{Refusal}
-use Rattle.outcome.specs.Outcome.{refused}
-use Rattle.picture.specs.Reading.{readAnswer}
 use Rattle.degas.specs.Opening.{opening}
 use Rattle.degas.proofs.Opening.{file-opened, refused-opened}
 use Rattle.degas.proofs.ReadDegas.{read-short, read-fits}
@@ -16,7 +13,7 @@ returns : tie.Need-returns
 returns c =
     let a = c .before .before .before .before .before .args in
     rw (read-short (now (a .file)) (length (now (a .area))) (c .before .before .if1 .taken))
-    (c .read-refused .ensures ∙ ap (λ (w : Refusal). readAnswer (refused w)) (c .before .refuse .ensures), refl)
+    (rw (c .read-refused .ensures, c .before .refuse .ensures), refl)
 
 returns-2 : tie.Need-returns-2
 returns-2 c =
@@ -40,14 +37,9 @@ pub read-spec : {M : Type 1} → statement M
 read-spec =
     tie.close
     (tie.spec
-    (λ c κs. search needs)
-    (λ c κs. search needs)
+    (λ c κs. search needs) (λ c κs. search needs)
     returns
-    (λ c κs. search needs)
-    (λ c. search needs)
-    (λ c κs. search needs)
-    (λ c. search needs)
-    (λ c κs. search needs)
+    (λ c κs. search needs) (λ c. search needs) (λ c κs. search needs) (λ c. search needs) (λ c κs. search needs)
     (λ c. search needs)
     returns-2
     returns-3)

@@ -16,9 +16,6 @@ passed j =
     let is = sym (j .r .given .1) ∙ j .before .before .judge-writing .ensures in
     at-passed (length (now (a .screen))) (length (now (a .out))) (a .picture .resolution) _ is
 
-write-form-requires : tie.Need-write-form-requires
-write-form-requires c κs = let p = passed (c .before .before) in (p .known, (p .screen-fits, p .output-fits))
-
 returns : tie.Need-returns
 returns c =
     let j = c .before .before .before .before .before in
@@ -39,11 +36,8 @@ pub write-spec : {M : Type 1} → statement M
 write-spec =
     tie.close
     (tie.spec
-    (λ c κs. search needs)
-    (λ c. search needs)
-    write-form-requires
-    (λ c. search needs)
-    (λ c κs. search needs)
-    (λ c. search needs)
+    (λ c κs. search needs) (λ c. search needs)
+    (λ c κs. let p = passed (c .before .before) in (p .known, (p .screen-fits, p .output-fits)))
+    (λ c. search needs) (λ c κs. search needs) (λ c. search needs)
     returns
     returns-2)

@@ -4,12 +4,6 @@ use borrow.Author.Needs.{needs}
 use Rattle.lines.proofs.block_byte.Statement.{statement}
 use Rattle.lines.proofs.block_byte.Tie as tie
 
-returns : tie.Need-returns
-returns c = rw (eq-eqb _ _ (c .before .if1 .taken)) (c .byte-of .ensures)
-
-returns-2 : tie.Need-returns-2
-returns-2 c = rw (ne-eqb _ _ (c .before .if1 .left)) (c .byte-of2 .ensures)
-
 pub block-byte-spec : {M : Type 1} → statement M
 block-byte-spec =
     tie.close
@@ -18,5 +12,5 @@ block-byte-spec =
     (λ c κs. search needs)
     (λ c. search needs)
     (λ c κs. search needs)
-    returns
-    returns-2)
+    (λ c. rw (eq-eqb _ _ (c .before .if1 .taken)) (c .byte-of .ensures))
+    (λ c. rw (ne-eqb _ _ (c .before .if1 .left)) (c .byte-of2 .ensures)))

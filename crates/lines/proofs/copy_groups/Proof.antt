@@ -30,12 +30,6 @@ within-here c =
     let a = c .before .before .before .before .args in
     piece-within (c .before .loop .g) (a .groups) (a .planes * 2) (omega arith)
 
-mul-copy-group-2 : tie.Need-mul-copy-group-2 Inv-loop μ-loop
-mul-copy-group-2 c = omega (arith, within-here c)
-
-add-copy-group : tie.Need-add-copy-group Inv-loop μ-loop
-add-copy-group c = omega (arith, within-here c)
-
 copy-group-requires : tie.Need-copy-group-requires Inv-loop μ-loop
 copy-group-requires c κs =
     let h = c .before .before .before .before .before .pre in
@@ -83,8 +77,8 @@ copy-groups-spec =
     μ-loop
     (λ c. search needs)
     (λ c. search needs)
-    mul-copy-group-2
-    add-copy-group
+    (λ c. omega (arith, within-here c))
+    (λ c. omega (arith, within-here c))
     (λ c. search needs)
     copy-group-requires
     (λ c. search needs)

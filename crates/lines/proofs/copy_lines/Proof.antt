@@ -37,14 +37,8 @@ place-here c =
     let a = h .before .before .before .before .args in
     omega (arith, line-place (a .r) (c .before .loop .y) (w .result) _ (w .ensures) (h .height .ensures) (omega arith))
 
-mul-fill-line : tie.Need-mul-fill-line Inv-loop μ-loop
-mul-fill-line c = omega (arith, place-here c)
-
 sub-fill-line : tie.Need-sub-fill-line Inv-loop μ-loop
 sub-fill-line c = omega (arith, place-here c)
-
-part-fill-line-start : tie.Need-part-fill-line-start Inv-loop μ-loop
-part-fill-line-start c = sub-fill-line c
 
 fill-line-requires : tie.Need-fill-line-requires Inv-loop μ-loop
 fill-line-requires c κs =
@@ -91,9 +85,9 @@ copy-lines-spec =
     (λ c κs. search needs)
     (λ c κs. search needs)
     loop-holds
-    mul-fill-line
+    (λ c. omega (arith, place-here c))
     sub-fill-line
-    part-fill-line-start
+    sub-fill-line
     (λ c. search needs)
     fill-line-requires
     (λ c. search needs)

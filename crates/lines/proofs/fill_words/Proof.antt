@@ -29,18 +29,6 @@ within-here c =
     let a = c .before .before .before .args in
     piece-within (c .before .loop .b) (a .blocks) (a .width) (omega arith)
 
-mul-block-word : tie.Need-mul-block-word Inv-loop μ-loop
-mul-block-word c = omega (arith, within-here c)
-
-block-word-requires : tie.Need-block-word-requires Inv-loop μ-loop
-block-word-requires c κs = (omega (arith, within-here c), c .before .before .before .pre .1)
-
-mul-block-word-2 : tie.Need-mul-block-word-2 Inv-loop μ-loop
-mul-block-word-2 c = omega (arith, within-here (c .before))
-
-add-block-word : tie.Need-add-block-word Inv-loop μ-loop
-add-block-word c = omega (arith, within-here (c .before))
-
 block-word-requires-2 : tie.Need-block-word-requires-2 Inv-loop μ-loop
 block-word-requires-2 c κs =
     (omega (arith, within-here (c .before)), c .before .before .before .before .pre .1)
@@ -81,13 +69,13 @@ fill-words-spec =
     Inv-loop
     μ-loop
     (λ c. search needs)
-    mul-block-word
-    block-word-requires
+    (λ c. omega (arith, within-here c))
+    (λ c κs. (omega (arith, within-here c), c .before .before .before .pre .1))
     (λ c. search needs)
     (λ c. search needs)
     (λ c. search needs)
-    mul-block-word-2
-    add-block-word
+    (λ c. omega (arith, within-here (c .before)))
+    (λ c. omega (arith, within-here (c .before)))
     block-word-requires-2
     (λ c. search needs)
     (λ c. search needs)

@@ -32,15 +32,6 @@ inside-here c =
     let a = h .before .before .before .before .args in
     omega (arith, line-place (a .r) (c .before .loop .y) (w .result) _ (w .ensures) (h .height .ensures) (omega arith))
 
-mul-put-line : tie.Need-mul-put-line Inv-loop μ-loop
-mul-put-line c = omega (arith, inside-here (c .before))
-
-sub-put-line : tie.Need-sub-put-line Inv-loop μ-loop
-sub-put-line c = inside-here (c .before)
-
-part-put-line-start : tie.Need-part-put-line-start Inv-loop μ-loop
-part-put-line-start c = inside-here (c .before)
-
 put-line-requires : tie.Need-put-line-requires Inv-loop μ-loop
 put-line-requires c κs =
     let l = c .before .before .before .loop in
@@ -82,9 +73,9 @@ put-lines-spec =
     (λ c κs. search needs)
     (λ c κs. search needs)
     loop-holds
-    mul-put-line
-    sub-put-line
-    part-put-line-start
+    (λ c. omega (arith, inside-here (c .before)))
+    (λ c. inside-here (c .before))
+    (λ c. inside-here (c .before))
     (λ c. search needs)
     put-line-requires
     (λ c. search needs)

@@ -18,9 +18,6 @@ Inv-loop registers n bits₀ i₀ bits i =
 abbrev μ-loop : tie.MeasureT-loop
 μ-loop registers n bits₀ i₀ bits i = n - i
 
-loop-holds : tie.Need-loop-holds Inv-loop μ-loop
-loop-holds c = (omega arith, zero-bits (now (c .args .registers)))
-
 loop-again : tie.Need-loop-again Inv-loop μ-loop
 loop-again c =
     let l = c .before .before .loop in
@@ -39,7 +36,7 @@ set-bits-spec =
     (tie.spec
     Inv-loop
     μ-loop
-    loop-holds
+    (λ c. (omega arith, zero-bits (now (c .args .registers))))
     (λ c. search needs)
     (λ c. search needs)
     (λ c. search needs)

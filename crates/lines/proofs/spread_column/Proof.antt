@@ -44,9 +44,6 @@ returns-2 c =
     omega (arith, q .spread-byte2 .ensures .0, c .spread-byte3 .ensures .0) in
     e ∙ two-planes s (a .at) (a .planes) (omega arith)
 
-returns-3 : tie.Need-returns-3
-returns-3 c = c .spread-planes .ensures ∙ ap spreadColumn (c .before .column-planes .ensures)
-
 pub spread-column-spec : {M : Type 1} → statement M
 spread-column-spec =
     tie.close
@@ -64,4 +61,4 @@ spread-column-spec =
     returns-2
     (λ c κs. search needs)
     (λ c κs. search needs)
-    returns-3)
+    (λ c. c .spread-planes .ensures ∙ ap spreadColumn (c .before .column-planes .ensures)))

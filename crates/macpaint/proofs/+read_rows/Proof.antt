@@ -6,7 +6,6 @@ use lib.ListN.{length}
 use lib.Seq.{length-front, length-take-le}
 use denote.Ref.{now}
 use borrow.Author.Needs.{needs}
-use borrow.Fn.Kinds.{In}
 use borrow.Fn.PlainCycle.{Measures, is, falls, and}
 use Rattle.bodies.specs.Reading.{readBody}
 use Rattle.bodies.proofs.Reading.{area-cut}
@@ -23,52 +22,28 @@ use Rattle.macpaint.proofs.+read_rows.Tie.{close}
 abbrev μ : Measures 2 ps ℕ
 μ κs a = length (a .1 .0 .now)
 
--- what is given at the measure t, and what a call of itself asks below t
-abbrev given : ℕ → In 2 ps
-given t = and 2 ps (is 2 ps μ t) read-rows.Pre
-
-abbrev below : ℕ → In 2 ps
-below t = and 2 ps (falls 2 ps _<_ μ t) read-rows.Pre
-
--- what is asked and learnt of each function called
+-- what is asked and learnt of each function called, where the plate's length is t
 abbrev claims : ℕ → lts.Claims
-claims t = (below t, read-rows.Post, read-by-buffer.Asked, read-by-buffer.Learnt)
-
-first-long : (t : ℕ) → lts.Need-slice-aggregate-read-rows (claims t) (given t) read-rows.Post
-first-long t c =
-    let area = now (c .before .before .before .before .args .plate) in
-    sym (length-take-le plateBytes area (omega arith))
-
-again-requires : (t : ℕ) → lts.Need-read-rows-requires (claims t) (given t) read-rows.Post
-again-requires t c κs =
-    let e = c .before .before .before .before in
-    let long = length-take-le plateBytes (now (e .args .plate)) (omega arith) in
-    (omega (arith, long, e .pre .0, c .before .if1 .taken), omega (arith, long))
-
-same-length : (t : ℕ) → lts.Need-same-length (claims t) (given t) read-rows.Post
-same-length t c =
-    let area = now (c .before .before .before .before .before .before .before .args .plate) in
-    let again = c .before .before .read-rows in
-    length-front area (again .last .1 .0) plateBytes (again .kept .1 .0)
-
-returns : (t : ℕ) → lts.Need-returns (claims t) (given t) read-rows.Post
-returns t c =
-    let a = c .before .before .before .before .before .before .before .args in
-    let again = c .before .before .read-rows in (
-      again .ensures .0,
-      area-cut (readBody (now (a .file)) headerLength afterBody plateRaster) (now (a .plate)) (again .last .1 .0)
-          plateBytes (again .kept .1 .0) (again .ensures .1),
-    )
+claims t = (and 2 ps (falls 2 ps _<_ μ t) read-rows.Pre, read-rows.Post, read-by-buffer.Asked, read-by-buffer.Learnt)
 
 pub +read-rows-spec : {M : Type 1} → statement M
 +read-rows-spec =
     close μ (λ t.
-    lts.spec (claims t) (given t) read-rows.Post
+    lts.spec (claims t) (and 2 ps (is 2 ps μ t) read-rows.Pre) read-rows.Post
     (λ c. search needs)
-    (first-long t)
-    (again-requires t)
-    (same-length t)
-    (returns t)
-    (λ c κs. search needs)
-    (λ c. search needs)
-    (λ c. search needs))
+    (λ c. sym (length-take-le plateBytes (now (c .before .before .before .before .args .plate)) (omega arith)))
+    (λ c κs.
+    let e = c .before .before .before .before in
+    let long = length-take-le plateBytes (now (e .args .plate)) (omega arith) in
+    (omega (arith, long, e .pre .0, c .before .if1 .taken), omega (arith, long)))
+    (λ c.
+    let a = c .before .before .before .before .before .before .before .args in
+    let again = c .before .before .read-rows in
+    length-front (now (a .plate)) (again .last .1 .0) plateBytes (again .kept .1 .0))
+    (λ c.
+    let a = c .before .before .before .before .before .before .before .args in
+    let again = c .before .before .read-rows in
+    let body = readBody (now (a .file)) headerLength afterBody plateRaster in
+    let same = area-cut body (now (a .plate)) (again .last .1 .0) plateBytes (again .kept .1 .0) (again .ensures .1) in
+    (again .ensures .0, same))
+    (λ c κs. search needs) (λ c. search needs) (λ c. search needs))

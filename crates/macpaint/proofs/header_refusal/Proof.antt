@@ -40,8 +40,7 @@ header-refusal-spec =
     returns
     (λ c κs. search needs)
     returns-2
-    (λ c κs. search needs)
-    (λ c κs. search needs)
+    (λ c κs. search needs) (λ c κs. search needs)
     returns-3
     (λ c κs. search needs)
     returns-4)

@@ -3,40 +3,27 @@ use mathlib.Core.Path.{_≡_, _∙_}
 use Prim.Native.Nat.{ℕ}
 use native.Mathlib.Omega.{arith}
 use denote.Ref.{now}
-use lib.ListN.{length, replicate, length-replicate}
+use lib.ListN.{replicate, length-replicate}
 use Rattle.lists.specs.Written.{Written}
 use Rattle.lists.proofs.Pieces.{written-copied}
-use Rattle.bodies.specs.Packing.{packBody}
-use Rattle.bodies.proofs.Packing.{PackedAt}
-use Rattle.macpaint.specs.Layout.{headerLength, bodyLimit, zeroHeader}
-use Rattle.macpaint.specs.Plate.{plateRaster}
-use Rattle.macpaint.proofs.WritePlate.{plate-refused, plate-packed, plate-room, plate-written}
+use Rattle.macpaint.specs.Layout.{headerLength, zeroHeader}
+use Rattle.macpaint.proofs.WritePlate.{BodyPacked, plate-refused, plate-packed, plate-room, plate-written}
 use borrow.Author.Needs.{needs}
 use Rattle.macpaint.proofs.write.Statement.{statement}
 use Rattle.macpaint.proofs.write.Tie as tie
 
 -- the body, packed into the part after the header
-packed-here : (j : tie.After-pack-body)
-    → j .pack-body .result .refusal .number ≡ 0
+here : (j : tie.After-pack-body)
     → let a = j .before .before .before .before .before .args in
-    PackedAt headerLength bodyLimit (now (a .out)) (j .pack-body .last .1 .1 .1 .1 .0) (j .pack-body .result)
-    (packBody plateRaster (now (a .plate)) bodyLimit headerLength (length (now (a .out))))
-packed-here j ok =
-    let a = j .before .before .before .before .before .args in
-    plate-packed (now (a .plate)) (now (a .out)) (j .pack-body .last .1 .1 .1 .1 .0) (j .pack-body .result)
-    (rw (j .before .before .plate-raster .ensures) at (j .pack-body .ensures .0))
-    (rw (j .before .before .plate-raster .ensures) at (j .pack-body .ensures .1))
-    ok
+    BodyPacked (now (a .plate)) (now (a .out)) (j .pack-body .last .1 .1 .1 .1 .0) (j .pack-body .result)
+here j = record {
+  answer = rw (j .before .before .plate-raster .ensures) at (j .pack-body .ensures .0);
+  left = rw (j .before .before .plate-raster .ensures) at (j .pack-body .ensures .1);
+}
 
 returns : tie.Need-returns
 returns c =
-    let j = c .before .before .before .before .before in
-    let a = j .before .before .before .before .before .args in
-    let d =
-    plate-refused (now (a .plate)) (now (a .out)) (j .pack-body .last .1 .1 .1 .1 .0) (j .pack-body .result)
-    (rw (j .before .before .plate-raster .ensures) at (j .pack-body .ensures .0))
-    (rw (j .before .before .plate-raster .ensures) at (j .pack-body .ensures .1))
-    (c .before .if1 .taken) in
+    let d = plate-refused (here (c .before .before .before .before .before)) (c .before .if1 .taken) in
     (c .write-refused .ensures ∙ d .0, d .1)
 
 -- the header, copied
@@ -54,45 +41,30 @@ zero-size k = k .copy .ensures .0 ∙ length-replicate {A = ℕ} headerLength 0
 copy-requires : tie.Need-copy-requires
 copy-requires c κs =
     let j = c .before .before .before .before .before .before in
-    let a = j .before .before .before .before .before .args in
-    omega (
-      arith,
-      plate-room (now (a .plate)) (now (a .out)) (j .pack-body .last .1 .1 .1 .1 .0) (j .pack-body .result)
-          (rw (j .before .before .plate-raster .ensures) at (j .pack-body .ensures .0))
-          (rw (j .before .before .plate-raster .ensures) at (j .pack-body .ensures .1))
-          (omega (arith, c .before .before .if1 .left)),
-      j .pack-body .kept .1 .1 .1 .1 .0,
-    )
+    let room = plate-room (here j) (omega (arith, c .before .before .if1 .left)) in
+    omega (arith, room, j .pack-body .kept .1 .1 .1 .1 .0)
 
 add-write-done : tie.Need-add-write-done
 add-write-done c =
     let j = c .before .before .before .before .before .before .before .before .before .before in
-    let k = packed-here j (omega (arith, c .before .before .before .before .before .before .if1 .left)) in
+    let k = plate-packed (here j) (omega (arith, c .before .before .before .before .before .before .if1 .left)) in
     omega (arith, k .below, c .before .before .before .copy .ensures)
 
 returns-2 : tie.Need-returns-2
 returns-2 c =
     let k = c .before .before .before .before in
     let j = k .before .before .before .before .before .before .before in
-    let a = j .before .before .before .before .before .args in
-    plate-written (now (a .plate)) (now (a .out)) (j .pack-body .last .1 .1 .1 .1 .0) (j .pack-body .result)
-    (rw (j .before .before .plate-raster .ensures) at (j .pack-body .ensures .0))
-    (rw (j .before .before .plate-raster .ensures) at (j .pack-body .ensures .1))
-    (omega (arith, k .before .before .before .if1 .left))
+    plate-written (here j) (omega (arith, k .before .before .before .if1 .left))
     (k .copy .last .1 .0) (k .copy .result) (zero-put k) (zero-size k) (c .write-done .ensures)
 
 pub write-spec : {M : Type 1} → statement M
 write-spec =
     tie.close
     (tie.spec
-    (λ c κs. search needs)
-    (λ c κs. search needs)
-    (λ c κs. search needs)
-    (λ c. search needs)
+    (λ c κs. search needs) (λ c κs. search needs) (λ c κs. search needs) (λ c. search needs)
     returns
     (λ c. search needs)
     copy-requires
     add-write-done
-    (λ c κs. search needs)
-    (λ c. search needs)
+    (λ c κs. search needs) (λ c. search needs)
     returns-2)

@@ -47,9 +47,7 @@ put-file-spec =
     (tie.spec
     (λ c κs. search needs)
     slice-aggregate-copy
-    (λ c. search needs)
-    (λ c. search needs)
-    (λ c. search needs)
+    (λ c. search needs) (λ c. search needs) (λ c. search needs)
     copy-requires
     add-result
     (λ c. search needs)

@@ -1,11 +1,8 @@
 -- `neochrome::read` meets its contract: the area and the opening pick the case.
-use mathlib.Core.Path.{refl, sym, ap, _∙_}
+use mathlib.Core.Path.{refl, sym, _∙_}
 use native.Mathlib.Omega.{arith}
 use denote.Ref.{now}
-use Rattle.outcome.specs.declared.Refusal.{Refusal}
-use Rattle.outcome.specs.Outcome.{refused}
 use Rattle.outcome.proofs.Outcome.{judged-value}
-use Rattle.picture.specs.Reading.{readAnswer}
 use Rattle.neochrome.specs.Opening.{opening}
 use Rattle.neochrome.proofs.Opening.{Passes, opening-judged, file-opened, refused-opened}
 use Rattle.neochrome.proofs.Reading.{read-short, read-refused, read-opened}
@@ -16,7 +13,7 @@ use Rattle.neochrome.proofs.read.Tie as tie
 returns : tie.Need-returns
 returns c =
     rw (read-short _ _ (c .before .before .if1 .taken))
-    (c .read-refused .ensures ∙ ap (λ (why : Refusal). readAnswer (refused why)) (c .before .refuse .ensures), refl)
+    (rw (c .read-refused .ensures, c .before .refuse .ensures), refl)
 
 read-opened-requires : tie.Need-read-opened-requires
 read-opened-requires c κs =
@@ -43,14 +40,10 @@ pub read-spec : {M : Type 1} → statement M
 read-spec =
     tie.close
     (tie.spec
-    (λ c κs. search needs)
-    (λ c κs. search needs)
+    (λ c κs. search needs) (λ c κs. search needs)
     returns
-    (λ c κs. search needs)
-    (λ c. search needs)
+    (λ c κs. search needs) (λ c. search needs)
     read-opened-requires
-    (λ c. search needs)
-    (λ c κs. search needs)
-    (λ c. search needs)
+    (λ c. search needs) (λ c κs. search needs) (λ c. search needs)
     returns-2
     returns-3)

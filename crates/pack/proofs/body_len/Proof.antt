@@ -14,9 +14,6 @@ Inv-loop row c₀ at₀ c at = Counted row at c
 abbrev μ-loop : tie.MeasureT-loop
 μ-loop row c₀ at₀ c at = length row - at
 
-loop-holds : tie.Need-loop-holds Inv-loop μ-loop
-loop-holds c = counted-start _
-
 turned : (c : tie.After-count-run Inv-loop μ-loop)
     → let row = c .before .before .before .before .before .args .row .now in
     let n = c .before .run-at .result in
@@ -29,28 +26,16 @@ turned c =
     let e = c .before .run-at .ensures in
     (run-bounds row (l .at) n h e .0, rw (c .count-run .ensures) (counted-more row (l .at) n (l .c) h e (l .inv)))
 
-add-at : tie.Need-add-at Inv-loop μ-loop
-add-at c = omega (arith, turned c .1 .within, c .before .before .before .before .before .pre)
-
-loop-less : tie.Need-loop-less Inv-loop μ-loop
-loop-less c = omega (arith, turned c .0, turned c .1 .within)
-
-loop-again : tie.Need-loop-again Inv-loop μ-loop
-loop-again c = turned c .1
-
-returns : tie.Need-returns Inv-loop μ-loop
-returns c = counted-end (c .loop-test .left) (c .before .loop .inv)
-
 pub body-len-spec : {M : Type 1} → statement M
 body-len-spec =
     tie.close
     (tie.spec
     Inv-loop
     μ-loop
-    loop-holds
+    (λ c. counted-start _)
     (λ c κs. search needs)
     (λ c κs. search needs)
-    add-at
-    loop-less
-    loop-again
-    returns)
+    (λ c. omega (arith, turned c .1 .within, c .before .before .before .before .before .pre))
+    (λ c. omega (arith, turned c .0, turned c .1 .within))
+    (λ c. turned c .1)
+    (λ c. counted-end (c .loop-test .left) (c .before .loop .inv)))

@@ -14,12 +14,6 @@ use Rattle.pack.proofs.emit.Tie as tie
 room : (c : tie.After-emit-near) → c .emit-near .result .bytes ≤ length (c .emit-near .last .1 .0)
 room c = emitted-room (c .emit-near .ensures) (c .before .before .before .before .pre .1)
 
-sub-emit-rest : tie.Need-sub-emit-rest
-sub-emit-rest c = room (c .before .before)
-
-part-emit-rest-start : tie.Need-part-emit-rest-start
-part-emit-rest-start c = room (c .before .before)
-
 emit-rest-requires : tie.Need-emit-rest-requires
 emit-rest-requires c κs =
     let d = c .before .before .before in
@@ -43,19 +37,16 @@ add-t9 c =
     let e = all d in
     omega (arith, emitted-room e (s .pre .1), emitted-kept e (s .pre .1), s .good)
 
-returns : tie.Need-returns
-returns c = emitted-all (all (c .before .before .before .before .before)) (le-refl _)
-
 pub emit-spec : {M : Type 1} → statement M
 emit-spec =
     tie.close
     (tie.spec
     (λ c κs. search needs)
-    sub-emit-rest
-    part-emit-rest-start
+    (λ c. room (c .before .before))
+    (λ c. room (c .before .before))
     (λ c. search needs)
     emit-rest-requires
     add-t9
     (λ c. search needs)
     (λ c. search needs)
-    returns)
+    (λ c. emitted-all (all (c .before .before .before .before .before)) (le-refl _)))

@@ -15,18 +15,9 @@ Inv-loop row out₀ i₀ o₀ n₀ out i o n = Emitted row 0 i out₀ out o n
 abbrev μ-loop : tie.MeasureT-loop
 μ-loop row out₀ i₀ o₀ n₀ out i o n = length row - i
 
-loop-holds : tie.Need-loop-holds Inv-loop μ-loop
-loop-holds c = emitted-none _ 0 _ (omega arith)
-
 -- the bytes written are within the output
 room : (c : tie.In-loop Inv-loop μ-loop) → c .before .loop .o ≤ length (c .before .loop .out)
 room c = emitted-room (c .before .loop .inv) (c .before .before .before .before .pre .1)
-
-sub-put-near : tie.Need-sub-put-near Inv-loop μ-loop
-sub-put-near c = room c
-
-part-put-near-start : tie.Need-part-put-near-start Inv-loop μ-loop
-part-put-near-start c = room c
 
 put-near-requires : tie.Need-put-near-requires Inv-loop μ-loop
 put-near-requires c κs =
@@ -63,22 +54,10 @@ same-length c =
     let d = c .before .before .before .before .before in
     emitted-kept (turned d) (d .before .before .before .before .before .before .pre .1)
 
-returns : tie.Need-returns Inv-loop μ-loop
-returns c = turned (c .before .before .before .before .before)
-
 loop-less : tie.Need-loop-less Inv-loop μ-loop
 loop-less c =
     let d = c .before .before .before .before .before in
     omega (arith, c .if1 .left, d .put-near .ensures .few, d .put-near .ensures .within)
-
-loop-again : tie.Need-loop-again Inv-loop μ-loop
-loop-again c = turned (c .before .before .before .before .before)
-
-same-length-2 : tie.Need-same-length-2 Inv-loop μ-loop
-same-length-2 c = emitted-kept (c .before .loop .inv) (c .before .before .before .before .pre .1)
-
-returns-2 : tie.Need-returns-2 Inv-loop μ-loop
-returns-2 c = c .before .loop .inv
 
 pub emit-near-spec : {M : Type 1} → statement M
 emit-near-spec =
@@ -86,16 +65,16 @@ emit-near-spec =
     (tie.spec
     Inv-loop
     μ-loop
-    loop-holds
-    sub-put-near
-    part-put-near-start
+    (λ c. emitted-none _ 0 _ (omega arith))
+    room
+    room
     (λ c. search needs)
     put-near-requires
     add-o
     add-n
     same-length
-    returns
+    (λ c. turned (c .before .before .before .before .before))
     loop-less
-    loop-again
-    same-length-2
-    returns-2)
+    (λ c. turned (c .before .before .before .before .before))
+    (λ c. emitted-kept (c .before .loop .inv) (c .before .before .before .before .pre .1))
+    (λ c. c .before .loop .inv))

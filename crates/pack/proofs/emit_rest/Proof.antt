@@ -32,12 +32,6 @@ room : (c : tie.After-stretch-ahead Inv-loop μ-loop)
     → c .before .before .loop .o ≤ length (c .before .before .loop .out)
 room c = emitted-room (c .before .before .loop .inv .0) (c .before .before .before .before .before .before .pre .1)
 
-sub-put-stretch : tie.Need-sub-put-stretch Inv-loop μ-loop
-sub-put-stretch c = room c
-
-part-put-stretch-start : tie.Need-part-put-stretch-start Inv-loop μ-loop
-part-put-stretch-start c = room c
-
 put-stretch-requires : tie.Need-put-stretch-requires Inv-loop μ-loop
 put-stretch-requires c κs =
     let k = c .before .stretch-ahead .ensures in
@@ -96,9 +90,6 @@ loop-less c = let e = turned (c .before .before .before .before .before .before)
 loop-again : tie.Need-loop-again Inv-loop μ-loop
 loop-again c = (turned (c .before .before .before .before .before .before) .1, c .before .before .next-mask .ensures)
 
-same-length : tie.Need-same-length Inv-loop μ-loop
-same-length c = emitted-kept (c .before .loop .inv .0) (c .before .before .before .before .before .pre .1)
-
 returns : tie.Need-returns Inv-loop μ-loop
 returns c =
     let l = c .before .loop in
@@ -115,8 +106,8 @@ emit-rest-spec =
     (λ c κs. search needs)
     loop-holds
     stretch-ahead-requires
-    sub-put-stretch
-    part-put-stretch-start
+    room
+    room
     (λ c. search needs)
     put-stretch-requires
     add-next
@@ -125,5 +116,5 @@ emit-rest-spec =
     add-n
     loop-less
     loop-again
-    same-length
+    (λ c. emitted-kept (c .before .loop .inv .0) (c .before .before .before .before .before .pre .1))
     returns)

@@ -16,9 +16,6 @@ Inv-loop row x from n₀ n = (n ≤ length row) × (endOf x row n ≡ endOf x ro
 abbrev μ-loop : tie.MeasureT-loop
 μ-loop row x from n₀ n = length row - n
 
-loop-holds : tie.Need-loop-holds Inv-loop μ-loop
-loop-holds c = (c .pre, refl)
-
 loop-again : tie.Need-loop-again Inv-loop μ-loop
 loop-again c =
     let t = c .before .before in
@@ -48,7 +45,7 @@ end-by-bytes-spec =
     (tie.spec
     Inv-loop
     μ-loop
-    loop-holds
+    (λ c. (c .pre, refl))
     (λ c. search needs)
     (λ c. search needs)
     (λ c. search needs)

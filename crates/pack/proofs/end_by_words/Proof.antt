@@ -16,15 +16,6 @@ Inv-loop row x from n₀ n = (n ≤ length row) × (endOf x row n ≡ endOf x ro
 abbrev μ-loop : tie.MeasureT-loop
 μ-loop row x from n₀ n = length row - n
 
-loop-holds : tie.Need-loop-holds Inv-loop μ-loop
-loop-holds c = (c .before .pre .0, refl)
-
-cast-result : tie.Need-cast-result Inv-loop μ-loop
-cast-result c = omega (arith, trailing-le 64 (c .before .differing .result))
-
-add-result : tie.Need-add-result Inv-loop μ-loop
-add-result c = omega (arith, trailing-le 64 (c .before .differing .result))
-
 returns : tie.Need-returns Inv-loop μ-loop
 returns c =
     let d = c .before .differing in
@@ -43,16 +34,13 @@ loop-again c =
       end-past (a .x) (a .row .now) (l .n) (t .loop-test .taken) (d .result) (d .ensures) (c .if1 .left) ∙ l .inv .1,
     )
 
-returns-2 : tie.Need-returns-2 Inv-loop μ-loop
-returns-2 c = c .end-by-bytes .ensures ∙ c .before .before .loop .inv .1
-
 pub end-by-words-spec : {M : Type 1} → statement M
 end-by-words-spec =
     tie.close
     (tie.spec
     Inv-loop
     μ-loop
-    loop-holds
+    (λ c. (c .before .pre .0, refl))
     (λ c. search needs)
     (λ c. search needs)
     (λ c. search needs)
@@ -70,11 +58,11 @@ end-by-words-spec =
     (λ c. search needs)
     (λ c. search needs)
     (λ c κs. search needs)
-    cast-result
-    add-result
+    (λ c. omega (arith, trailing-le 64 (c .before .differing .result)))
+    (λ c. omega (arith, trailing-le 64 (c .before .differing .result)))
     returns
     (λ c. search needs)
     (λ c. search needs)
     loop-again
     (λ c κs. search needs)
-    returns-2)
+    (λ c. c .end-by-bytes .ensures ∙ c .before .before .loop .inv .1))

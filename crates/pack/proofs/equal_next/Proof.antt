@@ -15,9 +15,6 @@ Inv-loop row from at₀ equal₀ at equal = (from ≤ at) × (at < length row) �
 abbrev μ-loop : tie.MeasureT-loop
 μ-loop row from at₀ equal₀ at equal = at
 
-sub-at : tie.Need-sub-at Inv-loop μ-loop
-sub-at c = omega (arith, c .before .pre .0)
-
 loop-holds : tie.Need-loop-holds Inv-loop μ-loop
 loop-holds c =
     let s = c .before in
@@ -27,26 +24,11 @@ loop-holds c =
       sym (equal-last row (length row - 1) (omega (arith, s .pre .0))),
     )
 
-sub-at-2 : tie.Need-sub-at-2 Inv-loop μ-loop
-sub-at-2 c = omega arith
-
 mul-equal : tie.Need-mul-equal Inv-loop μ-loop
 mul-equal c =
     let l = c .before .loop in
     let s = c .before .before .before in
     omega (arith, l .inv .2, equal-few (s .args .row .now) (l .at) (omega (arith, s .pre .1, l .inv .0)))
-
-shared-slice-read-same : tie.Need-shared-slice-read-same Inv-loop μ-loop
-shared-slice-read-same c = omega (arith, c .before .before .loop .inv .1)
-
-add-same : tie.Need-add-same Inv-loop μ-loop
-add-same c = search needs
-
-shared-slice-read-same-2 : tie.Need-shared-slice-read-same-2 Inv-loop μ-loop
-shared-slice-read-same-2 c = omega (arith, c .before .before .before .loop .inv .1)
-
-same-requires : tie.Need-same-requires Inv-loop μ-loop
-same-requires c κs = search needs
 
 -- one byte more in front
 turned : (c : tie.After-same Inv-loop μ-loop)
@@ -76,12 +58,6 @@ add-equal c =
     let s = c .before .before .before .before .before .before in
     omega (arith, turned c .2, equal-few (s .args .row .now) (l .at - 1) (omega (arith, s .pre .1, turned c .0)))
 
-loop-less : tie.Need-loop-less Inv-loop μ-loop
-loop-less c = omega arith
-
-loop-again : tie.Need-loop-again Inv-loop μ-loop
-loop-again c = turned c
-
 returns : tie.Need-returns Inv-loop μ-loop
 returns c =
     let l = c .before .loop in
@@ -95,15 +71,15 @@ equal-next-spec =
     (tie.spec
     Inv-loop
     μ-loop
-    sub-at
+    (λ c. omega (arith, c .before .pre .0))
     loop-holds
-    sub-at-2
+    (λ c. omega arith)
     mul-equal
-    shared-slice-read-same
-    add-same
-    shared-slice-read-same-2
-    same-requires
+    (λ c. omega (arith, c .before .before .loop .inv .1))
+    (λ c. search needs)
+    (λ c. omega (arith, c .before .before .before .loop .inv .1))
+    (λ c κs. search needs)
     add-equal
-    loop-less
-    loop-again
+    (λ c. omega arith)
+    turned
     returns)

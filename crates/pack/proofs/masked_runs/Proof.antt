@@ -21,9 +21,6 @@ returns c =
     (masked-end (s .args .row .now) (s .args .i) (s .args .equal) (s .pre .0) (s .pre .1) (s .pre .2)
     (c .before .if1 .taken))
 
-cast-short : tie.Need-cast-short
-cast-short c = omega (arith, trailing-le 64 (triples (c .before .before .args .equal)))
-
 -- fewer bytes are short than a word has bits
 few : (c : tie.Else1) → trailingZeros 64 (triples (c .before .before .args .equal)) ≤ 63
 few c =
@@ -34,12 +31,6 @@ last-single-requires-2 : tie.Need-last-single-requires-2
 last-single-requires-2 c κs =
     let s = c .before .before in
     (mask-few (s .args .row .now) (s .args .i) (s .args .equal) (s .pre .0) (s .pre .1) (s .pre .2), few c)
-
-add-t15 : tie.Need-add-t15
-add-t15 c = omega (arith, few (c .before), c .before .before .before .good)
-
-shr-t16 : tie.Need-shr-t16
-shr-t16 c = omega (arith, few (c .before))
 
 add-t17 : tie.Need-add-t17
 add-t17 c =
@@ -73,11 +64,11 @@ masked-runs-spec =
     last-single-requires
     (λ c. search needs)
     returns
-    cast-short
+    (λ c. omega (arith, trailing-le 64 (triples (c .before .before .args .equal))))
     last-single-requires-2
     (λ c. search needs)
-    add-t15
-    shr-t16
+    (λ c. omega (arith, few (c .before), c .before .before .before .good))
+    (λ c. omega (arith, few (c .before)))
     add-t17
     cast-t18
     add-t19

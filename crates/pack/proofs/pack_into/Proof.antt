@@ -24,9 +24,6 @@ returns c =
     rw (pack-wide (length (least (a .row .now))) (a .row .now) (length (a .out .now)) w, ← c .before .refuse .ensures)
     (c .row-refused .ensures, refl)
 
-exceeds-requires : tie.Need-exceeds-requires
-exceeds-requires c κs = in-range _ (range-here c) .1
-
 returns-2 : tie.Need-returns-2
 returns-2 c =
     let x = c .before .before .before in
@@ -63,7 +60,7 @@ pack-into-spec =
     (λ c κs. search needs)
     (λ c κs. search needs)
     returns
-    exceeds-requires
+    (λ c κs. in-range _ (range-here c) .1)
     (λ c κs. search needs)
     (λ c κs. search needs)
     returns-2

@@ -18,12 +18,6 @@ slice-aggregate-put-literal c =
     let a = c .before .before .before .args in
     sym (length-take-le (a .n) (a .row .now) (omega arith))
 
-sub-put-literal : tie.Need-sub-put-literal
-sub-put-literal c = simp length-set (omega arith)
-
-part-put-literal-start : tie.Need-part-put-literal-start
-part-put-literal-start c = simp length-set (omega arith)
-
 put-literal-requires : tie.Need-put-literal-requires
 put-literal-requires c κs =
     let a = c .before .before .before .before .args in
@@ -54,8 +48,8 @@ put-bytes-spec =
     (λ c. search needs)
     (λ c. search needs)
     slice-aggregate-put-literal
-    sub-put-literal
-    part-put-literal-start
+    (λ c. simp length-set (omega arith))
+    (λ c. simp length-set (omega arith))
     (λ c. search needs)
     put-literal-requires
     (λ c. search needs)

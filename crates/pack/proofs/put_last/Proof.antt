@@ -1,10 +1,9 @@
 -- `pack::put_last` meets its contract: the record is that of a pair, or of a literal to the end.
 use native.Mathlib.Omega.{arith}
-use mathlib.Core.Path.{_≡_, _∙_, sym}
+use mathlib.Core.Path.{_∙_, sym}
 use Prim.Native.Nat.{_-_}
-use lib.ListN.{length, getD, drop}
-use Rattle.pack.specs.Least.{least}
-use Rattle.pack.proofs.Emission.{emitted-none, literal-room, repeat-room, emitted-literal, emitted-repeat}
+use lib.ListN.{length}
+use Rattle.pack.proofs.Emission.{emitted-none, LiteralFirst, RepeatFirst, literal-first, repeat-first}
 use Rattle.pack.proofs.Known.{last-pair, last-other}
 use borrow.Author.Needs.{needs}
 use Rattle.pack.proofs.put_last.Statement.{statement}
@@ -18,54 +17,37 @@ returns c =
 -- a pair
 pair : (c : tie.Then2)
     → let a = c .before .before .before .before .before .before .args in
-    255 ≡ getD (least (drop (a .i) (a .row .now))) 0 0
+    RepeatFirst (a .row .now) (a .i) 2 (a .out .now)
 pair c =
     let s = c .before .before .before .before .before .before in
     let e = c .before .end-by-bytes .ensures in
-    last-pair (s .args .row .now) (s .args .i) (s .pre .0 .0) (omega (arith, c .before .before .before .if1 .left))
-    (sym (c .if2 .taken) ∙ e)
-
-put-repeat-requires : tie.Need-put-repeat-requires
-put-repeat-requires c κs =
-    let t = c .before .before in
-    let s = t .before .before .before .before .before .before in
-    repeat-room (s .args .row .now) (s .args .i) (s .pre .0 .0) (s .pre .0 .1) 2 (omega arith) (s .args .out .now)
-    (s .pre .1) (omega arith) (pair t)
-
-returns-2 : tie.Need-returns-2
-returns-2 c =
-    let t = c .before .before .before .before .before in
-    let s = t .before .before .before .before .before .before in
-    let p = c .before .before .put-repeat in
-    emitted-repeat (s .args .row .now) (s .args .i) (s .pre .0 .0) (s .pre .0 .1) 2 (omega arith) (s .args .out .now)
-    (s .pre .1) (omega arith) (pair t) (p .ensures .0) (p .ensures .1)
+    repeat-first (s .args .row .now) (s .args .i) (s .pre .0 .0) (s .pre .0 .1) 2 (omega arith) (s .args .out .now)
+    (s .pre .1) (omega arith)
+    (last-pair (s .args .row .now) (s .args .i) (s .pre .0 .0) (omega (arith, c .before .before .before .if1 .left))
+    (sym (c .if2 .taken) ∙ e))
 
 -- a literal to the end
 literal : (c : tie.Else2)
     → let a = c .before .before .before .before .before .before .args in
-    length (a .row .now) - a .i - 1 ≡ getD (least (drop (a .i) (a .row .now))) 0 0
+    LiteralFirst (a .row .now) (a .i) (length (a .row .now) - a .i) (a .out .now)
 literal c =
     let s = c .before .before .before .before .before .before in
     let e = c .before .end-by-bytes .ensures in
-    last-other (s .args .row .now) (s .args .i) (s .pre .0 .0) (omega (arith, c .before .before .before .if1 .left))
-    (λ q. c .if2 .left (e ∙ q))
-
-put-bytes-requires : tie.Need-put-bytes-requires
-put-bytes-requires c κs =
-    let t = c .before .before in
-    let s = t .before .before .before .before .before .before in
-    literal-room (s .args .row .now) (s .args .i) (s .pre .0 .0) (s .pre .0 .1)
+    literal-first (s .args .row .now) (s .args .i) (s .pre .0 .0) (s .pre .0 .1)
     (length (s .args .row .now) - s .args .i) (omega (arith, s .pre .0 .1)) (s .args .out .now) (s .pre .1)
-    (omega (arith, s .pre .0 .0)) (literal t)
+    (omega (arith, s .pre .0 .0))
+    (last-other (s .args .row .now) (s .args .i) (s .pre .0 .0) (omega (arith, c .before .before .before .if1 .left))
+    (λ q. c .if2 .left (e ∙ q)))
+
+returns-2 : tie.Need-returns-2
+returns-2 c =
+    let p = c .before .before .put-repeat .ensures in
+    pair (c .before .before .before .before .before) .1 _ _ _ (p .0) (p .1)
 
 returns-3 : tie.Need-returns-3
 returns-3 c =
-    let t = c .before .before .before .before .before in
-    let s = t .before .before .before .before .before .before in
-    let p = c .before .before .put-bytes in
-    emitted-literal (s .args .row .now) (s .args .i) (s .pre .0 .0) (s .pre .0 .1)
-    (length (s .args .row .now) - s .args .i) (omega (arith, s .pre .0 .1)) (s .args .out .now) (s .pre .1)
-    (omega (arith, s .pre .0 .0)) (literal t) (p .ensures .0) (p .ensures .1)
+    let p = c .before .before .put-bytes .ensures in
+    literal (c .before .before .before .before .before) .1 _ _ _ (p .0) (p .1)
 
 pub put-last-spec : {M : Type 1} → statement M
 put-last-spec =
@@ -80,14 +62,14 @@ put-last-spec =
     (λ c. search needs)
     (λ c. search needs)
     (λ c. search needs)
-    put-repeat-requires
+    (λ c κs. pair (c .before .before) .0)
     (λ c. search needs)
     (λ c. search needs)
     returns-2
     (λ c. search needs)
     (λ c. search needs)
     (λ c. search needs)
-    put-bytes-requires
+    (λ c κs. literal (c .before .before) .0)
     (λ c. search needs)
     (λ c. search needs)
     returns-3)

@@ -32,12 +32,6 @@ room c =
     let l = c .before .before .before .loop in
     emitted-room (l .inv .2) (c .before .before .before .before .before .before .pre .1)
 
-sub-put-next-2 : tie.Need-sub-put-next-2 Inv-loop μ-loop
-sub-put-next-2 c = room c
-
-part-put-next-start-2 : tie.Need-part-put-next-start-2 Inv-loop μ-loop
-part-put-next-start-2 c = room c
-
 put-next-requires : tie.Need-put-next-requires Inv-loop μ-loop
 put-next-requires c κs =
     let t = c .before .before in
@@ -99,12 +93,6 @@ add-n c =
     let e = turned d .1 .2 in
     omega (arith, e .few, e .within, s .pre .0 .0)
 
-loop-less : tie.Need-loop-less Inv-loop μ-loop
-loop-less c = let e = turned (c .before .before .before .before) in omega (arith, e .0, e .1 .0)
-
-loop-again : tie.Need-loop-again Inv-loop μ-loop
-loop-again c = turned (c .before .before .before .before) .1
-
 same-length : tie.Need-same-length Inv-loop μ-loop
 same-length c =
     let s = c .before .before .before .before .before in
@@ -127,14 +115,14 @@ put-short-spec =
     (λ c. search needs)
     (λ c. search needs)
     (λ c. search needs)
-    sub-put-next-2
-    part-put-next-start-2
+    room
+    room
     (λ c. search needs)
     put-next-requires
     add-at
     add-o
     add-n
-    loop-less
-    loop-again
+    (λ c. let e = turned (c .before .before .before .before) in omega (arith, e .0, e .1 .0))
+    (λ c. turned (c .before .before .before .before) .1)
     same-length
     returns)

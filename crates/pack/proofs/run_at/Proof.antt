@@ -7,9 +7,6 @@ use borrow.Author.Needs.{needs}
 use Rattle.pack.proofs.run_at.Statement.{statement}
 use Rattle.pack.proofs.run_at.Tie as tie
 
-sub-result : tie.Need-sub-result
-sub-result c = omega (arith, c .end-by-bytes .ensures)
-
 returns : tie.Need-returns
 returns c =
     let s = c .before .before .before .before in
@@ -33,9 +30,6 @@ returns-3 c =
     let f = end-other x row (at + 2) (omega arith) (c .if3 .taken) in
     omega (arith, e, f, run-ends row at (s .pre .0))
 
-sub-result-2 : tie.Need-sub-result-2
-sub-result-2 c = omega (arith, c .end-by-words .ensures)
-
 returns-4 : tie.Need-returns-4
 returns-4 c =
     let s = c .before .before .before .before .before .before .before .before in
@@ -54,7 +48,7 @@ run-at-spec =
     (λ c. search needs)
     (λ c. search needs)
     (λ c κs. search needs)
-    sub-result
+    (λ c. omega (arith, c .end-by-bytes .ensures))
     returns
     (λ c. search needs)
     (λ c. search needs)
@@ -64,5 +58,5 @@ run-at-spec =
     returns-3
     (λ c. search needs)
     (λ c κs. search needs)
-    sub-result-2
+    (λ c. omega (arith, c .end-by-words .ensures))
     returns-4)

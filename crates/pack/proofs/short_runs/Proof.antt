@@ -15,22 +15,10 @@ Inv-loop row i single₀ at₀ single at = ScanningOn row i single at
 abbrev μ-loop : tie.MeasureT-loop
 μ-loop row i single₀ at₀ single at = length row - at
 
-loop-holds : tie.Need-loop-holds Inv-loop μ-loop
-loop-holds c = on-start (c .before .args .row .now) (c .before .args .i) (c .before .pre .0)
-
 -- four single bytes
 four : (c : tie.Then1 Inv-loop μ-loop)
     → FourSingles (c .before .before .before .before .before .args .row .now) (c .before .before .before .loop .at)
 four c = c .before .four-singles .ensures (c .if1 .taken)
-
-add-at : tie.Need-add-at Inv-loop μ-loop
-add-at c = omega (arith, four c .inside, c .before .before .before .before .before .good)
-
-loop-less : tie.Need-loop-less Inv-loop μ-loop
-loop-less c = omega (arith, four c .inside)
-
-loop-again : tie.Need-loop-again Inv-loop μ-loop
-loop-again c = on-four (four c) (c .before .before .before .loop .inv)
 
 -- the run is within the row
 bounds : (c : tie.After-run-at Inv-loop μ-loop)
@@ -44,20 +32,11 @@ returns c =
     let t = r .before .before .before in
     on-long (t .loop-test .taken) (r .run-at .ensures) (t .before .loop .inv) (omega arith)
 
-add-at-2 : tie.Need-add-at-2 Inv-loop μ-loop
-add-at-2 c = omega (arith, bounds (c .before), c .before .before .before .before .before .before .before .good)
-
-loop-less-2 : tie.Need-loop-less-2 Inv-loop μ-loop
-loop-less-2 c = omega (arith, bounds (c .before .before))
-
 loop-again-2 : tie.Need-loop-again-2 Inv-loop μ-loop
 loop-again-2 c =
     let r = c .before .before in
     let t = r .before .before .before in
     on-single (t .loop-test .taken) (r .run-at .ensures) (t .before .loop .inv) (c .if3 .taken)
-
-loop-less-3 : tie.Need-loop-less-3 Inv-loop μ-loop
-loop-less-3 c = omega (arith, bounds (c .before .before))
 
 loop-again-3 : tie.Need-loop-again-3 Inv-loop μ-loop
 loop-again-3 c =
@@ -65,25 +44,22 @@ loop-again-3 c =
     let t = r .before .before .before in
     on-pair (t .loop-test .taken) (r .run-at .ensures) (t .before .loop .inv) (c .before .if2 .left) (c .if3 .left)
 
-returns-2 : tie.Need-returns-2 Inv-loop μ-loop
-returns-2 c = on-end (c .loop-test .left) (c .before .loop .inv)
-
 pub short-runs-spec : {M : Type 1} → statement M
 short-runs-spec =
     tie.close
     (tie.spec
     Inv-loop
     μ-loop
-    loop-holds
+    (λ c. on-start (c .before .args .row .now) (c .before .args .i) (c .before .pre .0))
     (λ c κs. search needs)
-    add-at
-    loop-less
-    loop-again
+    (λ c. omega (arith, four c .inside, c .before .before .before .before .before .good))
+    (λ c. omega (arith, four c .inside))
+    (λ c. on-four (four c) (c .before .before .before .loop .inv))
     (λ c κs. search needs)
     returns
-    add-at-2
-    loop-less-2
+    (λ c. omega (arith, bounds (c .before), c .before .before .before .before .before .before .before .good))
+    (λ c. omega (arith, bounds (c .before .before)))
     loop-again-2
-    loop-less-3
+    (λ c. omega (arith, bounds (c .before .before)))
     loop-again-3
-    returns-2)
+    (λ c. on-end (c .loop-test .left) (c .before .loop .inv)))

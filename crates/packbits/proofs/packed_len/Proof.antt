@@ -5,9 +5,6 @@ use Rattle.packbits.specs.Records.{packedLen}
 use Rattle.packbits.proofs.packed_len.Statement.{statement}
 use Rattle.packbits.proofs.packed_len.Tie as tie
 
-returns : tie.Need-returns
-returns c = sym (ap packedLen (c .before .r .given .1))
-
 pub packed-len-spec : {M : Type 1} → statement M
 packed-len-spec =
     tie.close
@@ -19,7 +16,7 @@ packed-len-spec =
     (λ c. search needs)
     (λ c. search needs)
     (λ c. search needs)
-    returns
+    (λ c. sym (ap packedLen (c .before .r .given .1)))
     (λ c. search needs)
     (λ c. search needs)
     (λ c. search needs)

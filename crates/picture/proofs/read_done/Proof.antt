@@ -3,8 +3,5 @@ use borrow.Author.Needs.{needs}
 use Rattle.picture.proofs.read_done.Statement.{statement}
 use Rattle.picture.proofs.read_done.Tie as tie
 
-returns : tie.Need-returns
-returns c = simp (c .none .ensures)
-
 pub read-done-spec : {M : Type 1} → statement M
-read-done-spec = tie.close (tie.spec (λ c κs. search needs) returns)
+read-done-spec = tie.close (tie.spec (λ c κs. search needs) (λ c. simp (c .none .ensures)))

@@ -3,8 +3,5 @@ use borrow.Author.Needs.{needs}
 use Rattle.picture.proofs.read_refused.Statement.{statement}
 use Rattle.picture.proofs.read_refused.Tie as tie
 
-returns : tie.Need-returns
-returns c = simp (c .without-tail .ensures)
-
 pub read-refused-spec : {M : Type 1} → statement M
-read-refused-spec = tie.close (tie.spec (λ c κs. search needs) returns)
+read-refused-spec = tie.close (tie.spec (λ c κs. search needs) (λ c. simp (c .without-tail .ensures)))

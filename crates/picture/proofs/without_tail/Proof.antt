@@ -3,8 +3,5 @@ use borrow.Author.Needs.{needs}
 use Rattle.picture.proofs.without_tail.Statement.{statement}
 use Rattle.picture.proofs.without_tail.Tie as tie
 
-returns : tie.Need-returns
-returns c = simp (c .hold .ensures)
-
 pub without-tail-spec : {M : Type 1} → statement M
-without-tail-spec = tie.close (tie.spec (λ c κs. search needs) returns)
+without-tail-spec = tie.close (tie.spec (λ c κs. search needs) (λ c. simp (c .hold .ensures)))

@@ -3,8 +3,5 @@ use borrow.Author.Needs.{needs}
 use Rattle.picture.proofs.write_done.Statement.{statement}
 use Rattle.picture.proofs.write_done.Tie as tie
 
-returns : tie.Need-returns
-returns c = simp (c .none .ensures)
-
 pub write-done-spec : {M : Type 1} → statement M
-write-done-spec = tie.close (tie.spec (λ c κs. search needs) returns)
+write-done-spec = tie.close (tie.spec (λ c κs. search needs) (λ c. simp (c .none .ensures)))

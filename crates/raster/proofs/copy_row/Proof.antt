@@ -28,21 +28,6 @@ loop-holds c =
     let w = first-word (words c) (length (b .args .area .now)) (omega arith) (b .pre .0) (b .pre .1) in
     (w, omega (arith, row-bytes (words c)), refl, refl)
 
-shared-slice-read-high : tie.Need-shared-slice-read-high Inv-loop μ-loop
-shared-slice-read-high c = omega (arith, at-within (c .before .before .loop .inv .0) (omega arith))
-
-add-low : tie.Need-add-low Inv-loop μ-loop
-add-low c = omega (arith, at-within (c .before .before .loop .inv .0) (omega arith))
-
-shared-slice-read-low : tie.Need-shared-slice-read-low Inv-loop μ-loop
-shared-slice-read-low c = omega (arith, at-within (c .before .before .before .loop .inv .0) (omega arith))
-
-slice-write-row-2 : tie.Need-slice-write-row-2 Inv-loop μ-loop
-slice-write-row-2 c = simp length-set (omega arith)
-
-add-at : tie.Need-add-at Inv-loop μ-loop
-add-at c = omega (arith, at-within (c .before .before .before .loop .inv .0) (omega arith))
-
 loop-again : tie.Need-loop-again Inv-loop μ-loop
 loop-again c =
     let l = c .before .before .before .loop in
@@ -70,15 +55,15 @@ copy-row-spec =
     (λ c. search needs)
     (λ c κs. search needs)
     loop-holds
-    shared-slice-read-high
-    add-low
-    shared-slice-read-low
+    (λ c. omega (arith, at-within (c .before .before .loop .inv .0) (omega arith)))
+    (λ c. omega (arith, at-within (c .before .before .loop .inv .0) (omega arith)))
+    (λ c. omega (arith, at-within (c .before .before .before .loop .inv .0) (omega arith)))
     (λ c. search needs)
     (λ c. search needs)
     (λ c. search needs)
     (λ c. search needs)
-    slice-write-row-2
-    add-at
+    (λ c. simp length-set (omega arith))
+    (λ c. omega (arith, at-within (c .before .before .before .loop .inv .0) (omega arith)))
     (λ c. search needs)
     (λ c. search needs)
     loop-again

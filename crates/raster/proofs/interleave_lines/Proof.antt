@@ -50,12 +50,6 @@ loop-holds c =
           (a .area .now) (h .0 .0) (h .1),
     )
 
-sub-interleave-line : tie.Need-sub-interleave-line Inv-loop μ-loop
-sub-interleave-line c = inside-here c
-
-part-interleave-line-start : tie.Need-part-interleave-line-start Inv-loop μ-loop
-part-interleave-line-start c = inside-here c
-
 interleave-line-requires : tie.Need-interleave-line-requires Inv-loop μ-loop
 interleave-line-requires c κs =
     let l = c .before .before .before .loop in
@@ -89,9 +83,6 @@ loop-again c =
           (e .kept .1 .1 .1 .1 .1 .0) (e .ensures)),
     )
 
-returns : tie.Need-returns Inv-loop μ-loop
-returns c = interleaving-done (c .before .loop .inv .3) (c .loop-test .left)
-
 pub interleave-lines-spec : {M : Type 1} → statement M
 interleave-lines-spec =
     tie.close
@@ -102,8 +93,8 @@ interleave-lines-spec =
     mul-line
     loop-holds
     (λ c. search needs)
-    sub-interleave-line
-    part-interleave-line-start
+    inside-here
+    inside-here
     (λ c. search needs)
     interleave-line-requires
     add-at
@@ -111,4 +102,4 @@ interleave-lines-spec =
     (λ c. search needs)
     loop-again
     (λ c. search needs)
-    returns)
+    (λ c. interleaving-done (c .before .loop .inv .3) (c .loop-test .left)))

@@ -24,18 +24,6 @@ within-here : (c : tie.In-loop Inv-loop μ-loop) → interleaved 2 (c .before .b
     < c .before .before .args .gap + 8
 within-here c = interleaved-within (c .before .before .args .gap) 8 (c .before .loop .k) (omega arith)
 
-mul-interleaved : tie.Need-mul-interleaved Inv-loop μ-loop
-mul-interleaved c = omega (arith, within-here c)
-
-add-interleaved-2 : tie.Need-add-interleaved-2 Inv-loop μ-loop
-add-interleaved-2 c = omega (arith, within-here c)
-
-add-interleaved-3 : tie.Need-add-interleaved-3 Inv-loop μ-loop
-add-interleaved-3 c = omega (arith, within-here c)
-
-shared-slice-read-interleaved : tie.Need-shared-slice-read-interleaved Inv-loop μ-loop
-shared-slice-read-interleaved c = omega (arith, within-here (c .before))
-
 loop-again : tie.Need-loop-again Inv-loop μ-loop
 loop-again c =
     let l = c .before .before .loop in
@@ -59,12 +47,12 @@ interleaved-eight-spec =
     Inv-loop
     μ-loop
     (λ c. search needs)
-    mul-interleaved
+    (λ c. omega (arith, within-here c))
     (λ c. search needs)
     (λ c. search needs)
-    add-interleaved-2
-    add-interleaved-3
-    shared-slice-read-interleaved
+    (λ c. omega (arith, within-here c))
+    (λ c. omega (arith, within-here c))
+    (λ c. omega (arith, within-here (c .before)))
     (λ c. search needs)
     (λ c. search needs)
     (λ c. search needs)

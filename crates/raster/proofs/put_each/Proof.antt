@@ -43,12 +43,6 @@ unfolding putRows
 loop-holds c =
     (c .before .rows .ensures .0, c .row-bytes .ensures .0, refl, omega arith, sym (zero-mul _), refl)
 
-sub-store-row : tie.Need-sub-store-row Inv-loop μ-loop
-sub-store-row c = inside-here (c .before)
-
-part-store-row-start : tie.Need-part-store-row-start Inv-loop μ-loop
-part-store-row-start c = inside-here (c .before)
-
 store-row-requires : tie.Need-store-row-requires Inv-loop μ-loop
 store-row-requires c κs =
     let t = c .before .before in
@@ -58,9 +52,6 @@ store-row-requires c κs =
       more-here t,
       omega (arith, ends-here t, ap length (tail-part list (l .at)), length-drop (l .at) list),
     )
-
-add-at : tie.Need-add-at Inv-loop μ-loop
-add-at c = omega (arith, ends-here (c .before .before .before .before .before))
 
 loop-again : tie.Need-loop-again Inv-loop μ-loop
 loop-again c =
@@ -98,11 +89,11 @@ put-each-spec =
     (λ c κs. search needs)
     (λ c κs. search needs)
     loop-holds
-    sub-store-row
-    part-store-row-start
+    (λ c. inside-here (c .before))
+    (λ c. inside-here (c .before))
     (λ c. search needs)
     store-row-requires
-    add-at
+    (λ c. omega (arith, ends-here (c .before .before .before .before .before)))
     (λ c. search needs)
     (λ c. search needs)
     loop-again

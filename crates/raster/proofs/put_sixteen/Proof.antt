@@ -23,9 +23,6 @@ loop-again c =
       over-turn _ _ (l .out) (l .k) _ 0 (omega arith) (omega arith) (l .inv .2) refl,
     )
 
-returns : tie.Need-returns Inv-loop μ-loop
-returns c = let l = c .before .loop in over-done _ _ (l .out) (l .k) (omega arith) (l .inv .2)
-
 pub put-sixteen-spec : {M : Type 1} → statement M
 put-sixteen-spec =
     tie.close
@@ -39,4 +36,4 @@ put-sixteen-spec =
     (λ c. search needs)
     loop-again
     (λ c. search needs)
-    returns)
+    (λ c. let l = c .before .loop in over-done _ _ (l .out) (l .k) (omega arith) (l .inv .2)))

@@ -36,27 +36,6 @@ starts c planes o e is =
     let a = c .before .before .args in
     is ∙ row-start (a .r) (a .n) planes (c .before .line-bytes .result) e (c .before .line-bytes .ensures .0)
 
-start-at-requires : tie.Need-start-at-requires
-start-at-requires c κs = fits (c .before) 1 (c .match .keys1)
-
-start-at-requires-2 : tie.Need-start-at-requires-2
-start-at-requires-2 c κs = fits (c .before) 2 (c .match .keys2)
-
-start-at-requires-3 : tie.Need-start-at-requires-3
-start-at-requires-3 c κs = fits (c .before) 4 (c .match .keys3)
-
-start-at-requires-4 : tie.Need-start-at-requires-4
-start-at-requires-4 c κs = fits (c .before) (c .before .before .before .args .r .planes) refl
-
-returns : tie.Need-returns
-returns c = starts (c .before .before) 1 (c .start-at .result) (c .before .match .keys1) (c .start-at .ensures)
-
-returns-2 : tie.Need-returns-2
-returns-2 c = starts (c .before .before) 2 (c .start-at2 .result) (c .before .match .keys2) (c .start-at2 .ensures)
-
-returns-3 : tie.Need-returns-3
-returns-3 c = starts (c .before .before) 4 (c .start-at3 .result) (c .before .match .keys3) (c .start-at3 .ensures)
-
 returns-4 : tie.Need-returns-4
 returns-4 c =
     let m = c .before .before in
@@ -68,11 +47,11 @@ row-start-spec =
     (tie.spec
     (λ c κs. search needs)
     (λ c. search needs)
-    start-at-requires
-    start-at-requires-2
-    start-at-requires-3
-    start-at-requires-4
-    returns
-    returns-2
-    returns-3
+    (λ c κs. fits (c .before) 1 (c .match .keys1))
+    (λ c κs. fits (c .before) 2 (c .match .keys2))
+    (λ c κs. fits (c .before) 4 (c .match .keys3))
+    (λ c κs. fits (c .before) (c .before .before .before .args .r .planes) refl)
+    (λ c. starts (c .before .before) 1 (c .start-at .result) (c .before .match .keys1) (c .start-at .ensures))
+    (λ c. starts (c .before .before) 2 (c .start-at2 .result) (c .before .match .keys2) (c .start-at2 .ensures))
+    (λ c. starts (c .before .before) 4 (c .start-at3 .result) (c .before .match .keys3) (c .start-at3 .ensures))
     returns-4)

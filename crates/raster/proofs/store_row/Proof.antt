@@ -29,18 +29,9 @@ loop-holds c =
     let w = first-word (words c) (length (b .args .area .now)) (omega arith) (b .pre .0) (b .pre .1) in
     (w, refl, refl)
 
-slice-write-area : tie.Need-slice-write-area Inv-loop μ-loop
-slice-write-area c = omega (arith, at-within (c .before .before .before .loop .inv .0) (omega arith))
-
-add-area : tie.Need-add-area Inv-loop μ-loop
-add-area c = omega (arith, at-within (c .before .before .before .loop .inv .0) (omega arith))
-
 slice-write-area-2 : tie.Need-slice-write-area-2 Inv-loop μ-loop
 slice-write-area-2 c =
     simp length-set (omega (arith, at-within (c .before .before .before .loop .inv .0) (omega arith)))
-
-add-at : tie.Need-add-at Inv-loop μ-loop
-add-at c = omega (arith, at-within (c .before .before .before .loop .inv .0) (omega arith))
 
 loop-again : tie.Need-loop-again Inv-loop μ-loop
 loop-again c =
@@ -73,10 +64,10 @@ store-row-spec =
     (λ c. search needs)
     (λ c. search needs)
     (λ c. search needs)
-    slice-write-area
-    add-area
+    (λ c. omega (arith, at-within (c .before .before .before .loop .inv .0) (omega arith)))
+    (λ c. omega (arith, at-within (c .before .before .before .loop .inv .0) (omega arith)))
     slice-write-area-2
-    add-at
+    (λ c. omega (arith, at-within (c .before .before .before .loop .inv .0) (omega arith)))
     (λ c. search needs)
     (λ c. search needs)
     loop-again

@@ -13,10 +13,8 @@ returns c =
     let f = c .before .before .before .before in
     rw (sym (f .from-number .ensures) ∙ c .before .before .r .given .1) (c .whole-counts .ensures)
 
-returns-2 : tie.Need-returns-2
-returns-2 c = rw (sym (c .before .before .from-number .ensures) ∙ c .enum-told .given .1)
-
 pub screen-counts-spec : {M : Type 1} → statement M
 screen-counts-spec =
     tie.close
-    (tie.spec (λ c κs. search needs) (λ c. search needs) whole-counts-requires (λ c. search needs) returns returns-2)
+    (tie.spec (λ c κs. search needs) (λ c. search needs) whole-counts-requires (λ c. search needs) returns
+    (λ c. rw (sym (c .before .before .from-number .ensures) ∙ c .enum-told .given .1)))

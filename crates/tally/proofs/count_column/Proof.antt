@@ -54,12 +54,6 @@ within : (c : tie.In-loop Inv-loop μ-loop) → let a = c .before .before .befor
     a .at + c .before .loop .j * a .step + a .planes * 8 ≤ screenBytes
 within c = c .before .before .before .before .pre .1 .0 (c .before .loop .j) (omega arith)
 
-mul-count-part : tie.Need-mul-count-part Inv-loop μ-loop
-mul-count-part c = omega (arith, within (c .before))
-
-add-count-part : tie.Need-add-count-part Inv-loop μ-loop
-add-count-part c = omega (arith, within (c .before))
-
 count-part-requires : tie.Need-count-part-requires Inv-loop μ-loop
 count-part-requires c κs =
     let l = c .before .before .loop in
@@ -107,8 +101,8 @@ count-column-spec =
     count-one-requires
     returns
     loop-holds
-    mul-count-part
-    add-count-part
+    (λ c. omega (arith, within (c .before)))
+    (λ c. omega (arith, within (c .before)))
     count-part-requires
     (λ c. search needs)
     (λ c. search needs)

@@ -65,12 +65,6 @@ near c =
     let a = c .before .before .before .before .args in
     across-le (a .left + l .i) (a .planes) (omega arith) (omega arith)
 
-mul-count-column-2 : tie.Need-mul-count-column-2 Inv-loop μ-loop
-mul-count-column-2 c = omega (arith, near (c .before))
-
-add-count-column : tie.Need-add-count-column Inv-loop μ-loop
-add-count-column c = omega (arith, near (c .before))
-
 count-column-requires : tie.Need-count-column-requires Inv-loop μ-loop
 count-column-requires c κs =
     let l = c .before .before .before .loop in
@@ -94,9 +88,6 @@ count-column-requires c κs =
       ),
       (λ j h. p .1 .0 j (a .left + l .i) h (omega arith), p .1 .1),
     )
-
-loop-less : tie.Need-loop-less Inv-loop μ-loop
-loop-less c = omega (arith, c .before .before .lesser .ensures .2 (omega arith) (omega arith))
 
 loop-again : tie.Need-loop-again Inv-loop μ-loop
 loop-again c =
@@ -133,12 +124,12 @@ count-columns-spec =
     (λ c. search needs)
     (λ c κs. search needs)
     (λ c. search needs)
-    mul-count-column-2
-    add-count-column
+    (λ c. omega (arith, near (c .before)))
+    (λ c. omega (arith, near (c .before)))
     (λ c. search needs)
     (λ c. search needs)
     count-column-requires
     (λ c. search needs)
-    loop-less
+    (λ c. omega (arith, c .before .before .lesser .ensures .2 (omega arith) (omega arith)))
     loop-again
     returns)

@@ -23,18 +23,6 @@ few c =
     let n : a .n ≤ 4000 = omega arith in
     (mul-le-mul m n, omega (arith, c .ones-in .ensures, lineCounts-le g (a .m) (a .n) 1, mul-comm (a .m) (a .n)))
 
-mul-pixels : tie.Need-mul-pixels
-mul-pixels c = omega (arith, few c .0)
-
-cast-pixels : tie.Need-cast-pixels
-cast-pixels c = omega (arith, few c .0)
-
-sub-counts : tie.Need-sub-counts
-sub-counts c = few (c .before) .1
-
-add-counts : tie.Need-add-counts
-add-counts c = omega (arith, few (c .before) .0, c .before .before .before .pre .0 .0 .each 0)
-
 add-counts-2 : tie.Need-add-counts-2
 add-counts-2 c =
     let q = c .before .before .before .before in
@@ -57,11 +45,11 @@ count-one-spec =
     tie.close
     (tie.spec
     (λ c κs. search needs)
-    mul-pixels
-    cast-pixels
+    (λ c. omega (arith, few c .0))
+    (λ c. omega (arith, few c .0))
     (λ c. search needs)
-    sub-counts
-    add-counts
+    (λ c. few (c .before) .1)
+    (λ c. omega (arith, few (c .before) .0, c .before .before .before .pre .0 .0 .each 0))
     (λ c. search needs)
     (λ c. search needs)
     add-counts-2

@@ -39,15 +39,6 @@ within : (c : tie.In-loop Inv-loop μ-loop) → let a = c .before .before .befor
     a .at + c .before .loop .j * a .step + 8 ≤ screenBytes
 within c = c .before .before .before .before .pre .1 .0 (c .before .loop .j) (omega arith)
 
-mul-plane-block : tie.Need-mul-plane-block Inv-loop μ-loop
-mul-plane-block c = omega (arith, within c)
-
-add-plane-block : tie.Need-add-plane-block Inv-loop μ-loop
-add-plane-block c = omega (arith, within c)
-
-plane-block-requires : tie.Need-plane-block-requires Inv-loop μ-loop
-plane-block-requires c κs = (omega (arith, within c), omega arith)
-
 more-requires : tie.Need-more-requires Inv-loop μ-loop
 more-requires c κs =
     let l = c .before .before .loop in
@@ -91,9 +82,9 @@ ones-apart-spec =
     μ-loop
     (λ c κs. search needs)
     loop-holds
-    mul-plane-block
-    add-plane-block
-    plane-block-requires
+    (λ c. omega (arith, within c))
+    (λ c. omega (arith, within c))
+    (λ c κs. (omega (arith, within c), omega arith))
     more-requires
     (λ c. search needs)
     (λ c. search needs)

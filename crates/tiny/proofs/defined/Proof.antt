@@ -4,11 +4,9 @@ use mathlib.Core.Bool.{true, false}
 use Rattle.tiny.proofs.defined.Statement.{statement}
 use Rattle.tiny.proofs.defined.Tie as tie
 
-returns : tie.Need-returns
-returns c = let e : c .before .args .repeats ≡ true = c .if1 .taken in rw e
-
-returns-2 : tie.Need-returns-2
-returns-2 c = let e : c .before .args .repeats ≡ false = c .if1 .left in rw e
-
 pub defined-spec : {M : Type 1} → statement M
-defined-spec = tie.close (tie.spec returns returns-2)
+defined-spec =
+    tie.close
+    (tie.spec
+    (λ c. let e : c .before .args .repeats ≡ true = c .if1 .taken in rw e)
+    (λ c. let e : c .before .args .repeats ≡ false = c .if1 .left in rw e))

@@ -62,15 +62,6 @@ put-run-requires c κs =
       omega (arith, f .2, uses, t .pre .1),
     )
 
-controls-after-requires : tie.Need-controls-after-requires Inv-loop μ-loop
-controls-after-requires c κs = let f = fits-here (c .before .before .before .before) in omega (arith, f .1)
-
-datas-after-requires : tie.Need-datas-after-requires Inv-loop μ-loop
-datas-after-requires c κs = let f = fits-here (c .before .before .before .before .before) in omega (arith, f .2)
-
-add-to : tie.Need-add-to Inv-loop μ-loop
-add-to c = let f = fits-here (c .before .before .before .before .before .before .before) in omega (arith, f .3)
-
 add-runs : tie.Need-add-runs Inv-loop μ-loop
 add-runs c =
     let l = c .before .before .before .before .before .before .before .before .before .before .before .before in
@@ -105,21 +96,15 @@ expand-spec =
     Inv-loop
     μ-loop
     loop-holds
-    (λ c κs. search needs)
-    (λ c κs. search needs)
-    (λ c. search needs)
+    (λ c κs. search needs) (λ c κs. search needs) (λ c. search needs)
     returns
-    (λ c. search needs)
-    (λ c. search needs)
-    (λ c. search needs)
-    (λ c. search needs)
+    (λ c. search needs) (λ c. search needs) (λ c. search needs) (λ c. search needs)
     put-run-requires
-    controls-after-requires
-    datas-after-requires
-    add-to
+    (λ c κs. let f = fits-here (c .before .before .before .before) in omega (arith, f .1))
+    (λ c κs. let f = fits-here (c .before .before .before .before .before) in omega (arith, f .2))
+    (λ c. let f = fits-here (c .before .before .before .before .before .before .before) in omega (arith, f .3))
     add-runs
     loop-less
     loop-again
-    (λ c κs. search needs)
-    (λ c. search needs)
+    (λ c κs. search needs) (λ c. search needs)
     returns-2)

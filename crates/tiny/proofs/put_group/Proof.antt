@@ -37,9 +37,6 @@ loop-again c =
           (c .before .before .put-word .ensures),
     )
 
-returns : tie.Need-returns Inv-loop μ-loop
-returns c = putting-done (c .before .loop .inv .2) (omega arith)
-
 pub put-group-spec : {M : Type 1} → statement M
 put-group-spec =
     tie.close
@@ -47,21 +44,9 @@ put-group-spec =
     Inv-loop
     μ-loop
     loop-holds
-    (λ c. search needs)
-    (λ c. search needs)
-    (λ c. search needs)
-    (λ c. search needs)
-    (λ c. search needs)
-    (λ c. search needs)
-    (λ c. search needs)
-    (λ c. search needs)
-    (λ c. search needs)
-    (λ c. search needs)
-    (λ c. search needs)
-    (λ c. search needs)
-    (λ c κs. search needs)
-    (λ c. search needs)
-    (λ c. search needs)
+    (λ c. search needs) (λ c. search needs) (λ c. search needs) (λ c. search needs) (λ c. search needs)
+    (λ c. search needs) (λ c. search needs) (λ c. search needs) (λ c. search needs) (λ c. search needs)
+    (λ c. search needs) (λ c. search needs) (λ c κs. search needs) (λ c. search needs) (λ c. search needs)
     loop-again
     (λ c. search needs)
-    returns)
+    (λ c. putting-done (c .before .loop .inv .2) (omega arith)))

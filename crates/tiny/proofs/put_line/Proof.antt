@@ -33,9 +33,6 @@ loop-again c =
           (c .before .before .put-group .ensures),
     )
 
-returns : tie.Need-returns Inv-loop μ-loop
-returns c = putting-done (c .before .loop .inv .2) (omega arith)
-
 pub put-line-spec : {M : Type 1} → statement M
 put-line-spec =
     tie.close
@@ -43,13 +40,8 @@ put-line-spec =
     Inv-loop
     μ-loop
     loop-holds
-    (λ c. search needs)
-    (λ c. search needs)
-    (λ c. search needs)
-    (λ c. search needs)
-    (λ c κs. search needs)
-    (λ c. search needs)
-    (λ c. search needs)
+    (λ c. search needs) (λ c. search needs) (λ c. search needs) (λ c. search needs) (λ c κs. search needs)
+    (λ c. search needs) (λ c. search needs)
     loop-again
     (λ c. search needs)
-    returns)
+    (λ c. putting-done (c .before .loop .inv .2) (omega arith)))

@@ -28,9 +28,6 @@ loop-again c =
     let l = c .before .before .before .before .before .before .before .loop in
     (omega arith, search needs, word-turn (l .inv .2) (omega arith) _ _ refl (c .before .before .put-word .ensures))
 
-returns : tie.Need-returns Inv-loop μ-loop
-returns c = putting-done (c .before .loop .inv .2) (omega arith)
-
 pub put-literal-spec : {M : Type 1} → statement M
 put-literal-spec =
     tie.close
@@ -38,18 +35,9 @@ put-literal-spec =
     Inv-loop
     μ-loop
     loop-holds
-    (λ c. search needs)
-    (λ c. search needs)
-    (λ c. search needs)
-    (λ c. search needs)
-    (λ c. search needs)
-    (λ c. search needs)
-    (λ c. search needs)
-    (λ c. search needs)
-    (λ c. search needs)
-    (λ c κs. search needs)
-    (λ c. search needs)
-    (λ c. search needs)
+    (λ c. search needs) (λ c. search needs) (λ c. search needs) (λ c. search needs) (λ c. search needs)
+    (λ c. search needs) (λ c. search needs) (λ c. search needs) (λ c. search needs) (λ c κs. search needs)
+    (λ c. search needs) (λ c. search needs)
     loop-again
     (λ c. search needs)
-    returns)
+    (λ c. putting-done (c .before .loop .inv .2) (omega arith)))

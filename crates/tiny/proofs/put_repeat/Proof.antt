@@ -26,9 +26,6 @@ loop-again c =
     let l = c .before .before .before .before .before .loop in
     (omega arith, search needs, word-turn (l .inv .2) (omega arith) _ _ refl (c .before .before .put-word .ensures))
 
-returns : tie.Need-returns Inv-loop μ-loop
-returns c = putting-done (c .before .loop .inv .2) (omega arith)
-
 pub put-repeat-spec : {M : Type 1} → statement M
 put-repeat-spec =
     tie.close
@@ -36,13 +33,8 @@ put-repeat-spec =
     Inv-loop
     μ-loop
     loop-holds
-    (λ c. search needs)
-    (λ c. search needs)
-    (λ c. search needs)
-    (λ c. search needs)
-    (λ c κs. search needs)
-    (λ c. search needs)
-    (λ c. search needs)
+    (λ c. search needs) (λ c. search needs) (λ c. search needs) (λ c. search needs) (λ c κs. search needs)
+    (λ c. search needs) (λ c. search needs)
     loop-again
     (λ c. search needs)
-    returns)
+    (λ c. putting-done (c .before .loop .inv .2) (omega arith)))

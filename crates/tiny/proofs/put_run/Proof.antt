@@ -81,8 +81,7 @@ put-run-spec =
     shared-slice-read-put-repeat
     (λ c. search needs)
     shared-slice-read-put-repeat-2
-    (λ c κs. search needs)
-    (λ c. search needs)
+    (λ c κs. search needs) (λ c. search needs)
     returns
     put-literal-requires
     (λ c. search needs)

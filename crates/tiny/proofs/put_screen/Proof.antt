@@ -34,9 +34,6 @@ loop-again c =
           (c .before .before .put-line .ensures),
     )
 
-returns : tie.Need-returns Inv-loop μ-loop
-returns c = putting-done (c .before .loop .inv .2) (omega arith)
-
 pub put-screen-spec : {M : Type 1} → statement M
 put-screen-spec =
     tie.close
@@ -44,13 +41,8 @@ put-screen-spec =
     Inv-loop
     μ-loop
     loop-holds
-    (λ c. search needs)
-    (λ c. search needs)
-    (λ c. search needs)
-    (λ c. search needs)
-    (λ c κs. search needs)
-    (λ c. search needs)
-    (λ c. search needs)
+    (λ c. search needs) (λ c. search needs) (λ c. search needs) (λ c. search needs) (λ c κs. search needs)
+    (λ c. search needs) (λ c. search needs)
     loop-again
     (λ c. search needs)
-    returns)
+    (λ c. putting-done (c .before .loop .inv .2) (omega arith)))

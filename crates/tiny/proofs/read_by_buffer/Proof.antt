@@ -1,12 +1,9 @@
 -- `tiny::read_by_buffer` meets its contract: each test picks a case of `readRuns`.
 use mathlib.Core.Path.{_≡_, refl, ap, _∙_}
-use Prim.Native.Nat.{ℕ, _+_, _-_, _≤_, _<_}
+use Prim.Native.Nat.{_-_, _≤_, _<_}
 use native.Mathlib.Omega.{arith}
 use lib.ListN.{length}
 use denote.Ref.{now}
-use Rattle.outcome.specs.declared.Refusal.{Refusal}
-use Rattle.outcome.specs.Outcome.{refused, refusal}
-use Rattle.picture.specs.Reading.{readAnswer}
 use Rattle.tiny.specs.declared.Expanded.{Expanded}
 use Rattle.tiny.specs.Layout.{dataCount, bodyLength}
 use Rattle.tiny.specs.Reading.{expanded}
@@ -21,13 +18,8 @@ returns c =
     let file = now (x .before .before .before .before .before .before .args .file) in
     let done = x .expand-sections in
     let start = x .before .before .before .control-start .ensures in
-    rw (runs-fault file (expanded file) (done .ensures .0) (c .before .before .before .if1 .taken)) (
-      c .read-refused .ensures
-          ∙ ap (λ (why : Refusal). readAnswer (refused why))
-          (c .before .refuse-at .ensures
-          ∙ ap (λ (n : ℕ). refusal (done .result .fault) (n + done .result .controls .0)) start),
-      refl,
-    )
+    rw (runs-fault file (expanded file) (done .ensures .0) (c .before .before .before .if1 .taken))
+    (rw (c .read-refused .ensures, c .before .refuse-at .ensures, start), refl)
 
 returns-2 : tie.Need-returns-2
 returns-2 c =
@@ -37,7 +29,7 @@ returns-2 c =
     let few : x .expand-sections .result .datas .0 < dataCount file =
     omega (arith, t .if2 .taken, x .before .before .data-count .ensures .0) in
     rw (runs-data file (expanded file) (x .expand-sections .ensures .0) (t .before .before .before .if1 .left) few)
-    (c .read-refused2 .ensures ∙ ap (λ (why : Refusal). readAnswer (refused why)) (c .before .refuse .ensures), refl)
+    (rw (c .read-refused2 .ensures, c .before .refuse .ensures), refl)
 
 returns-3 : tie.Need-returns-3
 returns-3 c =
@@ -48,7 +40,7 @@ returns-3 c =
     omega (arith, t .if2 .left, x .before .before .data-count .ensures .0) in
     rw (runs-words file (expanded file) (x .expand-sections .ensures .0) (t .before .before .before .if1 .left) all
     (c .before .before .if3 .taken))
-    (c .read-refused3 .ensures ∙ ap (λ (why : Refusal). readAnswer (refused why)) (c .before .refuse2 .ensures), refl)
+    (rw (c .read-refused3 .ensures, c .before .refuse2 .ensures), refl)
 
 sub-read-done : tie.Need-sub-read-done
 sub-read-done c =
@@ -81,24 +73,14 @@ pub read-by-buffer-spec : {M : Type 1} → statement M
 read-by-buffer-spec =
     tie.close
     (tie.spec
-    (λ c κs. search needs)
-    (λ c κs. search needs)
-    (λ c. search needs)
-    (λ c κs. search needs)
-    (λ c. search needs)
-    (λ c κs. search needs)
-    (λ c κs. search needs)
+    (λ c κs. search needs) (λ c κs. search needs) (λ c. search needs) (λ c κs. search needs) (λ c. search needs)
+    (λ c κs. search needs) (λ c κs. search needs)
     returns
-    (λ c κs. search needs)
-    (λ c κs. search needs)
+    (λ c κs. search needs) (λ c κs. search needs)
     returns-2
-    (λ c κs. search needs)
-    (λ c κs. search needs)
+    (λ c κs. search needs) (λ c κs. search needs)
     returns-3
-    (λ c. search needs)
-    (λ c κs. search needs)
-    (λ c κs. search needs)
+    (λ c. search needs) (λ c κs. search needs) (λ c κs. search needs)
     sub-read-done
-    (λ c κs. search needs)
-    (λ c. search needs)
+    (λ c κs. search needs) (λ c. search needs)
     returns-4)

@@ -1,10 +1,7 @@
 -- `tiny::read_sections` meets its contract: each test picks a case of `readSections`.
-use mathlib.Core.Path.{refl, ap, _∙_}
+use mathlib.Core.Path.{refl}
 use native.Mathlib.Omega.{arith}
 use denote.Ref.{now}
-use Rattle.outcome.specs.declared.Refusal.{Refusal}
-use Rattle.outcome.specs.Outcome.{refused}
-use Rattle.picture.specs.Reading.{readAnswer}
 use Rattle.tiny.proofs.Reading.{sections-short, sections-wrong, sections-fit}
 use borrow.Author.Needs.{needs}
 use Rattle.tiny.proofs.read_sections.Statement.{statement}
@@ -15,7 +12,7 @@ returns c =
     let file = now (c .before .before .before .before .before .before .args .file) in
     let start = c .before .before .before .control-start .ensures in
     rw (sections-short file (omega (arith, c .before .before .if1 .taken, start)))
-    (c .read-refused .ensures ∙ ap (λ (why : Refusal). readAnswer (refused why)) (c .before .refuse .ensures), refl)
+    (rw (c .read-refused .ensures, c .before .refuse .ensures), refl)
 
 returns-2 : tie.Need-returns-2
 returns-2 c =
@@ -25,7 +22,7 @@ returns-2 c =
     let body = e .before .body-length .ensures .0 in
     rw (sections-wrong file (omega (arith, e .before .before .if1 .left, start))
     (λ q. e .if2 .taken (omega (arith, q, start, body))))
-    (c .read-refused2 .ensures ∙ ap (λ (why : Refusal). readAnswer (refused why)) (c .before .refuse2 .ensures), refl)
+    (rw (c .read-refused2 .ensures, c .before .refuse2 .ensures), refl)
 
 returns-3 : tie.Need-returns-3
 returns-3 c =
@@ -40,15 +37,9 @@ pub read-sections-spec : {M : Type 1} → statement M
 read-sections-spec =
     tie.close
     (tie.spec
-    (λ c κs. search needs)
-    (λ c κs. search needs)
-    (λ c κs. search needs)
+    (λ c κs. search needs) (λ c κs. search needs) (λ c κs. search needs)
     returns
-    (λ c. search needs)
-    (λ c κs. search needs)
-    (λ c κs. search needs)
-    (λ c κs. search needs)
+    (λ c. search needs) (λ c κs. search needs) (λ c κs. search needs) (λ c κs. search needs)
     returns-2
-    (λ c κs. search needs)
-    (λ c. search needs)
+    (λ c κs. search needs) (λ c. search needs)
     returns-3)

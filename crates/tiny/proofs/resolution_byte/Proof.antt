@@ -6,8 +6,8 @@ use borrow.Author.Needs.{needs}
 use Rattle.tiny.proofs.resolution_byte.Statement.{statement}
 use Rattle.tiny.proofs.resolution_byte.Tie as tie
 
-returns-2 : tie.Need-returns-2
-returns-2 c = sym (List·getD-eq-default (now (c .before .args .file)) 0 (c .if1 .left))
-
 pub resolution-byte-spec : {M : Type 1} → statement M
-resolution-byte-spec = tie.close (tie.spec (λ c. search needs) (λ c. search needs) returns-2)
+resolution-byte-spec =
+    tie.close
+    (tie.spec (λ c. search needs) (λ c. search needs)
+    (λ c. sym (List·getD-eq-default (now (c .before .args .file)) 0 (c .if1 .left))))

@@ -6,15 +6,6 @@ use borrow.Author.Needs.{needs}
 use Rattle.tiny.proofs.run_of.Statement.{statement}
 use Rattle.tiny.proofs.run_of.Tie as tie
 
-returns : tie.Need-returns
-returns c = c .long-run .ensures ∙ sym (run-long _ _ (c .before .if1 .taken))
-
-returns-2 : tie.Need-returns-2
-returns-2 c = c .defined .ensures ∙ sym (run-repeat _ _ (omega arith) (omega arith))
-
-returns-3 : tie.Need-returns-3
-returns-3 c = c .faulty .ensures ∙ sym (run-undefined _ _ (c .before .if3 .taken))
-
 returns-4 : tie.Need-returns-4
 returns-4 c =
     let a = c .before .before .before .before .before .args in
@@ -25,11 +16,10 @@ run-of-spec =
     tie.close
     (tie.spec
     (λ c κs. search needs)
-    returns
+    (λ c. c .long-run .ensures ∙ sym (run-long _ _ (c .before .if1 .taken)))
     (λ c κs. search needs)
-    returns-2
+    (λ c. c .defined .ensures ∙ sym (run-repeat _ _ (omega arith) (omega arith)))
     (λ c κs. search needs)
-    returns-3
-    (λ c. search needs)
-    (λ c κs. search needs)
+    (λ c. c .faulty .ensures ∙ sym (run-undefined _ _ (c .before .if3 .taken)))
+    (λ c. search needs) (λ c κs. search needs)
     returns-4)

@@ -54,9 +54,6 @@ unpack-ahead-requires c κs =
     let e = c .before .reached-at .ensures in
     rw (e .0, e .1, e .2, e .3) (fit-here i, (i .read, (i .under, omega (arith, i .size))))
 
-part-unpack-into-end : tie.Need-part-unpack-into-end Inv-loop μ-loop
-part-unpack-into-end c = within-here (c .before .before .before)
-
 rows-refused-requires : tie.Need-rows-refused-requires Inv-loop μ-loop
 rows-refused-requires c κs =
     let u = (c .before .before .before .before .before .before .before .before .before) in
@@ -110,9 +107,6 @@ loop-again c =
     fill-turn (filling-here u) (before-end-here u) _ (e .ensures .0) (c .before .before .before .before .if1 .left) _
     (e .ensures .1) (e .kept .1 .1 .0)
 
-returns-2 : tie.Need-returns-2 Inv-loop μ-loop
-returns-2 c = rw (c .none .ensures) (fill-end (c .before .before .loop .inv) (c .before .loop-test .left))
-
 pub fill-rows-spec : {M : Type 1} → statement M
 fill-rows-spec =
     tie.close
@@ -126,7 +120,7 @@ fill-rows-spec =
     (λ c. search needs)
     (λ c. search needs)
     (λ c. search needs)
-    part-unpack-into-end
+    (λ c. within-here (c .before .before .before))
     (λ c κs. search needs)
     rows-refused-requires
     same-length
@@ -138,4 +132,4 @@ fill-rows-spec =
     (λ c κs. search needs)
     (λ c. search needs)
     (λ c. search needs)
-    returns-2)
+    (λ c. rw (c .none .ensures) (fill-end (c .before .before .loop .inv) (c .before .loop-test .left))))

@@ -5,9 +5,6 @@ use borrow.Author.Needs.{needs}
 use Rattle.unpack.proofs.is_long.Statement.{statement}
 use Rattle.unpack.proofs.is_long.Tie as tie
 
-returns : tie.Need-returns
-returns c = sym (ap long (c .before .r .given .1))
-
 pub is-long-spec : {M : Type 1} → statement M
 is-long-spec =
     tie.close
@@ -17,7 +14,7 @@ is-long-spec =
     (λ c. search needs)
     (λ c. search needs)
     (λ c. search needs)
-    returns
+    (λ c. sym (ap long (c .before .r .given .1)))
     (λ c. search needs)
     (λ c. search needs)
     (λ c. search needs)

@@ -7,15 +7,6 @@ use borrow.Author.Needs.{needs}
 use Rattle.unpack.proofs.put_row_bytes.Statement.{statement}
 use Rattle.unpack.proofs.put_row_bytes.Tie as tie
 
-put-part-requires : tie.Need-put-part-requires
-put-part-requires c κs = let e = c .before .before .r .given .1 in omega (arith, ap packedLen e, ap rowLen e)
-
-shared-slice-read-put-repeat : tie.Need-shared-slice-read-put-repeat
-shared-slice-read-put-repeat c = let e = c .before .before .r2 .given .1 in omega (arith, ap packedLen e)
-
-put-repeat-requires : tie.Need-put-repeat-requires
-put-repeat-requires c κs = let e = c .before .before .before .r2 .given .1 in omega (arith, ap rowLen e)
-
 returns : tie.Need-returns
 returns c =
     let a = c .before .before .before .before .before .before .before .before .before .args in
@@ -35,12 +26,12 @@ put-row-bytes-spec =
     (λ c. search needs)
     (λ c. search needs)
     (λ c. search needs)
-    put-part-requires
+    (λ c κs. let e = c .before .before .r .given .1 in omega (arith, ap packedLen e, ap rowLen e))
     (λ c. search needs)
     (λ c. search needs)
-    shared-slice-read-put-repeat
+    (λ c. let e = c .before .before .r2 .given .1 in omega (arith, ap packedLen e))
     (λ c. search needs)
-    put-repeat-requires
+    (λ c κs. let e = c .before .before .before .r2 .given .1 in omega (arith, ap rowLen e))
     (λ c. search needs)
     (λ c. search needs)
     (λ c. search needs)

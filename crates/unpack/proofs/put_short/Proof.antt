@@ -7,9 +7,6 @@ use borrow.Author.Needs.{needs}
 use Rattle.unpack.proofs.put_short.Statement.{statement}
 use Rattle.unpack.proofs.put_short.Tie as tie
 
-put-blocks-requires : tie.Need-put-blocks-requires
-put-blocks-requires c κs = let e = c .before .before .before .r .given .1 in omega (arith, ap rowLen e)
-
 returns : tie.Need-returns
 returns c =
     let a = c .before .before .before .before .before .before .before .before .args in
@@ -35,7 +32,7 @@ put-short-spec =
     (λ c. search needs)
     (λ c. search needs)
     (λ c. search needs)
-    put-blocks-requires
+    (λ c κs. let e = c .before .before .before .r .given .1 in omega (arith, ap rowLen e))
     (λ c. search needs)
     (λ c. search needs)
     (λ c. search needs)

@@ -3,9 +3,6 @@ use borrow.Author.Needs.{needs}
 use Rattle.unpack.proofs.rows_refused.Statement.{statement}
 use Rattle.unpack.proofs.rows_refused.Tie as tie
 
-returns : tie.Need-returns
-returns c = rw (c .row-refused .ensures, c .before .refuse-in-row .ensures)
-
 pub rows-refused-spec : {M : Type 1} → statement M
 rows-refused-spec =
     tie.close
@@ -15,4 +12,4 @@ rows-refused-spec =
     (λ c. search needs)
     (λ c κs. search needs)
     (λ c κs. search needs)
-    returns)
+    (λ c. rw (c .row-refused .ensures, c .before .refuse-in-row .ensures)))

@@ -9,7 +9,7 @@ use Rattle.packbits.proofs.Records.{WholeAt, whole-at}
 use Rattle.unpack.specs.Rows.{long}
 use Rattle.unpack.proofs.Records.{not-long-whole}
 use Rattle.unpack.proofs.Ahead.{Ahead, tail-long, narrow-here}
-use Rattle.unpack.proofs.Ahead.{ahead-more, read-row, row-done, ahead-row, outcome-here}
+use Rattle.unpack.proofs.Ahead.{ahead-more, ahead-row, outcome-row, outcome-here}
 use Rattle.unpack.proofs.unpack_ahead.Statement.{statement}
 use Rattle.unpack.proofs.unpack_ahead.Tie as tie
 
@@ -31,11 +31,6 @@ whole-here : (c : tie.Else3 Inv-loop μ-loop)
     WholeAt (c .before .before .record-ahead .result) (a .file .now) (l .from) (l .room)
 whole-here c = whole-at _ _ _ _ (c .before .before .record-ahead .ensures)
     (not-long-whole (c .before .before .record-ahead .result) (short-here c))
-
-returns-3 : tie.Need-returns-3 Inv-loop μ-loop
-returns-3 c =
-    let e = c .reached-at .ensures in
-    rw (e .0, e .1, e .2, e .3) (outcome-here (c .before .before .before .before .before .loop .inv))
 
 put-short-requires : tie.Need-put-short-requires Inv-loop μ-loop
 put-short-requires c κs =
@@ -68,25 +63,10 @@ returns-4 c =
     let f = c .before in
     let t = f .before .before .before .before .before .before .before .before .before in
     let put = f .before .before .before .before .before .before .before .put-short in
-    let i = t .before .before .before .before .loop .inv in
-    let rec = t .before .before .record-ahead .ensures in
-    let none = rw (f .before .before .row-len2 .ensures) at (f .before .if4 .taken) in
-    let e = c .reached-at2 .ensures in
-    rw (
-      e .0,
-      e .1,
-      e .2,
-      e .3,
-      f .before .before .before .before .packed-len .ensures,
-      f .before .before .before .row-len .ensures,
-    ) (
-      read-row i _ rec (short-here t) _ (put .ensures) (put .kept .1 .1 .1 .0) none,
-      (
-        i .fit .some,
-        row-done i _ rec (short-here t) _ (put .ensures) (put .kept .1 .1 .1 .0) none,
-        omega (arith, i .grown),
-      ),
-    )
+    outcome-row (t .before .before .before .before .loop .inv) _ (t .before .before .record-ahead .ensures)
+    (short-here t) _ (put .ensures) (put .kept .1 .1 .1 .0) (f .before .before .before .before .packed-len .ensures)
+    (f .before .before .before .row-len .ensures) (f .before .before .row-len2 .ensures) (f .before .if4 .taken)
+    (c .reached-at2 .ensures)
 
 loop-less : tie.Need-loop-less Inv-loop μ-loop
 loop-less c =
@@ -97,11 +77,10 @@ loop-again : tie.Need-loop-again Inv-loop μ-loop
 loop-again c =
     let t = c .before .before .before .before .before .before .before .before .before in
     let put = c .before .before .before .before .before .before .before .put-short in
-    let i = t .before .before .before .before .loop .inv in
-    rw (c .before .before .before .before .packed-len .ensures, c .before .before .before .row-len .ensures)
-    (ahead-row i _ (t .before .before .record-ahead .ensures) (short-here t) _ (put .ensures) (put .kept .1 .1 .1 .0)
-    (rw (c .before .before .row-len2 .ensures) at (c .before .if4 .taken))
-    (rw (c .before .before .before .row-len .ensures) at (c .if5 .left)))
+    ahead-row (t .before .before .before .before .loop .inv) _ (t .before .before .record-ahead .ensures)
+    (short-here t) _ (put .ensures) (put .kept .1 .1 .1 .0) (c .before .before .before .before .packed-len .ensures)
+    (c .before .before .before .row-len .ensures) (c .before .before .row-len2 .ensures) (c .before .if4 .taken)
+    (c .if5 .left)
 
 loop-less-2 : tie.Need-loop-less-2 Inv-loop μ-loop
 loop-less-2 c =
@@ -112,18 +91,9 @@ loop-again-2 : tie.Need-loop-again-2 Inv-loop μ-loop
 loop-again-2 c =
     let t = c .before .before .before .before .before .before .before .before in
     let put = c .before .before .before .before .before .before .put-short in
-    let i = t .before .before .before .before .loop .inv in
-    rw (
-      c .before .before .before .packed-len .ensures,
-      c .before .before .row-len .ensures,
-      c .before .row-len2 .ensures,
-    )
-    (ahead-more i _ (t .before .before .record-ahead .ensures) (short-here t) _ (put .ensures) (put .kept .1 .1 .1 .0)
-    (rw (c .before .row-len2 .ensures) at (c .if4 .left)))
-
-returns-5 : tie.Need-returns-5 Inv-loop μ-loop
-returns-5 c =
-    let e = c .reached-at3 .ensures in rw (e .0, e .1, e .2, e .3) (outcome-here (c .before .before .loop .inv))
+    ahead-more (t .before .before .before .before .loop .inv) _ (t .before .before .record-ahead .ensures)
+    (short-here t) _ (put .ensures) (put .kept .1 .1 .1 .0) (c .before .before .before .packed-len .ensures)
+    (c .before .before .row-len .ensures) (c .before .row-len2 .ensures) (c .if4 .left)
 
 pub unpack-ahead-spec : {M : Type 1} → statement M
 unpack-ahead-spec =
@@ -143,7 +113,7 @@ unpack-ahead-spec =
     (λ c κs. search needs)
     (λ c κs. search needs)
     (λ c. search needs)
-    returns-3
+    (λ c. outcome-here (c .before .before .before .before .before .loop .inv) (c .reached-at .ensures))
     (λ c. search needs)
     (λ c. search needs)
     (λ c. search needs)
@@ -164,4 +134,4 @@ unpack-ahead-spec =
     loop-again-2
     (λ c κs. search needs)
     (λ c. search needs)
-    returns-5)
+    (λ c. outcome-here (c .before .before .loop .inv) (c .reached-at3 .ensures)))

@@ -43,12 +43,6 @@ returns-2 c =
     let short = row-short (a .packed .now) (a .width) (length (a .out .now)) w (c .before .before .if2 .taken) in
     rw (short, ← c .before .refuse2 .ensures) (c .row-refused2 .ensures, refl)
 
-array-borrow-prefix-row : tie.Need-array-borrow-prefix-row
-array-borrow-prefix-row c = in-range _ (range-here (c .before)) .1
-
-slice-aggregate-unpack-through : tie.Need-slice-aggregate-unpack-through
-slice-aggregate-unpack-through c = sym (lent-long _ (range-here (c .before .before)))
-
 unpack-through-requires : tie.Need-unpack-through-requires
 unpack-through-requires c κs =
     let e = c .before .before in
@@ -76,8 +70,8 @@ unpack-row-spec =
     (λ c κs. search needs)
     (λ c κs. search needs)
     returns-2
-    array-borrow-prefix-row
-    slice-aggregate-unpack-through
+    (λ c. in-range _ (range-here (c .before)) .1)
+    (λ c. sym (lent-long _ (range-here (c .before .before))))
     unpack-through-requires
     (λ c. search needs)
     returns-3)

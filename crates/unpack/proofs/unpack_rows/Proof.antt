@@ -27,9 +27,6 @@ returns c =
     rw (judge-out (a .rows) (a .width) (length (a .out .now)) _ w, ← c .before .refuse .ensures)
     (c .row-refused .ensures, λ f. absurd (fit-range f w))
 
-div-if2 : tie.Need-div-if2
-div-if2 c = in-range _ (range-here c) .0
-
 returns-2 : tie.Need-returns-2
 returns-2 c =
     let a = c .before .before .before .before .before .before .before .args in
@@ -38,9 +35,6 @@ returns-2 c =
     (c .before .before .if2 .taken) in
     rw (short, ← c .before .refuse2 .ensures)
     (c .row-refused2 .ensures, λ f. absurd (fit-room f (c .before .before .if2 .taken)))
-
-fill-rows-requires : tie.Need-fill-rows-requires
-fill-rows-requires c κs = fit-here (c .before)
 
 returns-3 : tie.Need-returns-3
 returns-3 c =
@@ -57,10 +51,10 @@ unpack-rows-spec =
     (λ c κs. search needs)
     (λ c κs. search needs)
     returns
-    div-if2
+    (λ c. in-range _ (range-here c) .0)
     (λ c κs. search needs)
     (λ c κs. search needs)
     returns-2
-    fill-rows-requires
+    (λ c κs. fit-here (c .before))
     (λ c. search needs)
     returns-3)

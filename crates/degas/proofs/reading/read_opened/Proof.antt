@@ -3,13 +3,10 @@ use borrow.Author.Needs.{needs}
 use Rattle.degas.proofs.reading.read_opened.Statement.{statement}
 use Rattle.degas.proofs.reading.read_opened.Tie as tie
 
-returns : tie.Need-returns
-returns c = rw (c .before .before .before .before .if1 .taken) (c .before .before .read-packed .ensures)
-
-returns-2 : tie.Need-returns-2
-returns-2 c = rw (c .before .before .before .before .if1 .left) (c .before .before .read-raw .ensures)
-
 pub read-opened-spec : {M : Type 1} → statement M
 read-opened-spec =
     tie.close
-    (tie.spec (λ c κs. search needs) (λ c. search needs) returns (λ c κs. search needs) (λ c. search needs) returns-2)
+    (tie.spec (λ c κs. search needs) (λ c. search needs)
+    (λ c. rw (c .before .before .before .before .if1 .taken) (c .before .before .read-packed .ensures))
+    (λ c κs. search needs) (λ c. search needs)
+    (λ c. rw (c .before .before .before .before .if1 .left) (c .before .before .read-raw .ensures)))

@@ -1,9 +1,6 @@
 -- `degas::reading::read_packed` meets its contract: a file too long is the first case of `readPacked`.
-use mathlib.Core.Path.{refl, ap, _∙_}
+use mathlib.Core.Path.{refl}
 use denote.Ref.{now}
-use Rattle.outcome.specs.declared.Refusal.{Refusal}
-use Rattle.outcome.specs.Outcome.{refused}
-use Rattle.picture.specs.Reading.{readAnswer}
 use Rattle.degas.proofs.ReadDegas.{packed-long}
 use borrow.Author.Needs.{needs}
 use Rattle.degas.proofs.reading.read_packed.Statement.{statement}
@@ -13,15 +10,12 @@ returns : tie.Need-returns
 returns c =
     let a = c .before .before .before .before .before .args in
     rw (packed-long (now (a .file)) (a .r) (c .before .before .if1 .taken))
-    (c .read-refused .ensures ∙ ap (λ (why : Refusal). readAnswer (refused why)) (c .before .refuse .ensures), refl)
+    (rw (c .read-refused .ensures, c .before .refuse .ensures), refl)
 
 pub read-packed-spec : {M : Type 1} → statement M
 read-packed-spec =
     tie.close
     (tie.spec
-    (λ c κs. search needs)
-    (λ c κs. search needs)
+    (λ c κs. search needs) (λ c κs. search needs)
     returns
-    (λ c κs. search needs)
-    (λ c. search needs)
-    (λ c. search needs))
+    (λ c κs. search needs) (λ c. search needs) (λ c. search needs))

@@ -1,9 +1,6 @@
 -- `degas::reading::read_raw` meets its contract: the file's length picks the case of `readRaw`.
-use mathlib.Core.Path.{refl, ap, _∙_}
+use mathlib.Core.Path.{refl}
 use denote.Ref.{now}
-use Rattle.outcome.specs.declared.Refusal.{Refusal}
-use Rattle.outcome.specs.Outcome.{refused}
-use Rattle.picture.specs.Reading.{readAnswer}
 use Rattle.degas.proofs.ReadDegas.{raw-plain, raw-elite, raw-length}
 use borrow.Author.Needs.{needs}
 use Rattle.degas.proofs.reading.read_raw.Statement.{statement}
@@ -27,21 +24,15 @@ returns-3 : tie.Need-returns-3
 returns-3 c =
     let a = c .before .before .before .before .before .before .args in
     rw (raw-length (now (a .file)) (a .r) (c .before .before .before .if1 .left) (c .before .before .if2 .left))
-    (c .read-refused .ensures ∙ ap (λ (w : Refusal). readAnswer (refused w)) (c .before .refuse .ensures), refl)
+    (rw (c .read-refused .ensures, c .before .refuse .ensures), refl)
 
 pub read-raw-spec : {M : Type 1} → statement M
 read-raw-spec =
     tie.close
     (tie.spec
-    (λ c κs. search needs)
-    (λ c κs. search needs)
-    (λ c. search needs)
+    (λ c κs. search needs) (λ c κs. search needs) (λ c. search needs)
     returns
-    (λ c. search needs)
-    (λ c κs. search needs)
-    (λ c κs. search needs)
-    (λ c. search needs)
+    (λ c. search needs) (λ c κs. search needs) (λ c κs. search needs) (λ c. search needs)
     returns-2
-    (λ c κs. search needs)
-    (λ c κs. search needs)
+    (λ c κs. search needs) (λ c κs. search needs)
     returns-3)

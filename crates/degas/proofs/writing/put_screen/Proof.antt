@@ -10,9 +10,6 @@ use borrow.Author.Needs.{needs}
 use Rattle.degas.proofs.writing.put_screen.Statement.{statement}
 use Rattle.degas.proofs.writing.put_screen.Tie as tie
 
-slice-aggregate-copy : tie.Need-slice-aggregate-copy
-slice-aggregate-copy c = sym (length-take-le screenBytes (now (c .before .before .before .args .screen)) (omega arith))
-
 copy-requires : tie.Need-copy-requires
 copy-requires c κs =
     omega (arith, length-take-le screenBytes (now (c .before .before .before .before .args .screen)) (omega arith))
@@ -27,4 +24,10 @@ returns c =
     )
 
 pub put-screen-spec : {M : Type 1} → statement M
-put-screen-spec = tie.close (tie.spec slice-aggregate-copy copy-requires (λ c. search needs) returns)
+put-screen-spec =
+    tie.close
+    (tie.spec
+    (λ c. sym (length-take-le screenBytes (now (c .before .before .before .args .screen)) (omega arith)))
+    copy-requires
+    (λ c. search needs)
+    returns)

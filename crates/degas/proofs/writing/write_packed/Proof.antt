@@ -44,18 +44,6 @@ add-put-header c =
     let s = c .before .before .before .before .before .before .before .before .before .before .before in
     omega (arith, known-le (s .args .picture .resolution) (s .args .r) (s .pre .0))
 
-add-end : tie.Need-add-end
-add-end c = omega (arith, ends (c .before .before .before))
-
-sub-put-tail : tie.Need-sub-put-tail
-sub-put-tail c = omega (arith, ends (c .before .before .before))
-
-part-put-tail-start : tie.Need-part-put-tail-start
-part-put-tail-start c = omega (arith, ends (c .before .before .before))
-
-put-tail-requires : tie.Need-put-tail-requires
-put-tail-requires c κs = omega (arith, ends (c .before .before .before .before))
-
 add-length : tie.Need-add-length
 add-length c =
     let h = c .before .before .before .before .before .before .before in
@@ -76,19 +64,15 @@ pub write-packed-spec : {M : Type 1} → statement M
 write-packed-spec =
     tie.close
     (tie.spec
-    (λ c κs. search needs)
-    (λ c κs. search needs)
-    (λ c κs. search needs)
-    (λ c. search needs)
+    (λ c κs. search needs) (λ c κs. search needs) (λ c κs. search needs) (λ c. search needs)
     returns
     add-put-header
     (λ c κs. search needs)
-    add-end
-    sub-put-tail
-    part-put-tail-start
+    (λ c. omega (arith, ends (c .before .before .before)))
+    (λ c. omega (arith, ends (c .before .before .before)))
+    (λ c. omega (arith, ends (c .before .before .before)))
     (λ c. search needs)
-    put-tail-requires
+    (λ c κs. omega (arith, ends (c .before .before .before .before)))
     add-length
-    (λ c κs. search needs)
-    (λ c. search needs)
+    (λ c κs. search needs) (λ c. search needs)
     returns-2)
