@@ -1,5 +1,7 @@
 -- The colour of a palette word (document 01, "Three resolutions": colour).
-use Prim.Native.Nat.{ℕ, _*_, _/_, _%_, _^_}
+use Prim.Native.Nat.{ℕ, _/_, _%_, _^_}
+use mathlib.Core.List.{List, [], _∷_}
+use lib.ListN.{getD}
 
 -- red, green and blue, each 0 to 255
 pub record Rgb : Type 0 where
@@ -7,9 +9,13 @@ pub record Rgb : Type 0 where
   pub green : ℕ
   pub blue : ℕ
 
--- level v, 0 to 7, stretched to 0 to 255 and rounded down
+-- levels 0 to 7 as they are shown, 0 to 255; `proofs/Palette.antt` has the rule
+abbrev pub levels : List ℕ
+levels = 0 ∷ 36 ∷ 72 ∷ 109 ∷ 145 ∷ 182 ∷ 218 ∷ 255 ∷ []
+
+-- level v stretched to 0 to 255
 unfoldable pub stretch : ℕ → ℕ
-stretch v = 255 * v / 7
+stretch v = getD levels v 0
 
 -- the level that a word holds in its three bits from bit n up; other bits are ignored
 unfoldable pub field : ℕ → ℕ → ℕ

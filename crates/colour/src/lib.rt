@@ -13,6 +13,9 @@ use outcome::UNKNOWN_RESOLUTION;
 use resolution::Chosen;
 use resolution::Resolution;
 
+// Levels 0 to 7 as they are shown.
+const LEVELS: [u8; 8] = [0, 36, 72, 109, 145, 182, 218, 255];
+
 // The answer of a colour: red, green and blue, 0 to 255; all 0 of a refusal.
 #[repr(C)]
 pub struct ColourAnswer {
@@ -46,12 +49,12 @@ fn colour_refused(refusal: Refusal) -> ColourAnswer
     }
 }
 
-// Level v stretched to 0 to 255 and rounded down.
+// Level v stretched to 0 to 255.
 fn stretch(v: u16) -> u8
     requires { ⌜ v < 8 ⌝ }
     ensures { λ r. ⌜ r ≡ stretch v ⌝ }
 {
-    (255 * v / 7) as u8
+    LEVELS[v as usize]
 }
 
 // The level that a palette word holds in its three bits from bit n up.
