@@ -36,8 +36,8 @@ extern "C" {
 
 #define KUTIMUQ_VERSION_MAJOR 0
 #define KUTIMUQ_VERSION_MINOR 5
-#define KUTIMUQ_VERSION_PATCH 0
-#define KUTIMUQ_VERSION "0.5.0"
+#define KUTIMUQ_VERSION_PATCH 1
+#define KUTIMUQ_VERSION "0.5.1"
 
 /* The answer must be looked at; no pointer may be null. */
 #ifdef __GNUC__

@@ -8,7 +8,7 @@
 Each name is imported at its first use.
 """
 
-__version__ = "0.5.0"
+__version__ = "0.5.1"
 
 # Public name: the module that has it.
 _PUBLIC = {
