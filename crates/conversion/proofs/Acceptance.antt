@@ -7,13 +7,12 @@ use Prim.Native.Nat.{ℕ, _≤_, _<_}
 use native.Mathlib.Omega.{arith}
 use lib.Dec.{eqb}
 use lib.ListN.{length, getD, take, drop, replicate, length-append, length-replicate, getD-replicate}
-use lib.ListN.{take-append-drop}
 use lib.Seq.{ext-getD, length-take-le}
 use borrow.Author.Tests.{eqb-true, eq-eqb, not-false}
 use Rattle.lists.specs.All.{allFirst}
 use Rattle.lists.specs.Bytes.{Bytes}
 use Rattle.lists.proofs.All.{allBelow-each, each-allBelow}
-use Rattle.lists.proofs.Bytes.{bytes-drop, bytes-front}
+use Rattle.lists.proofs.Bytes.{bytes-take, bytes-drop}
 use Rattle.lists.proofs.Cond.{cond-elim, cond-ltb, and-true}
 use Rattle.outcome.specs.declared.Refusal.{Refusal}
 use Rattle.outcome.specs.Outcome.{Outcome, accepted, refused, refuse, bind, refusalOf, Judged}
@@ -136,12 +135,6 @@ plain-fits (fitting.plain raw size) absent = record { raw = raw; size = size; gi
 plain-fits (fitting.elite raw size) absent = absurd (true≢false absent)
 plain-fits (fitting.packed is fits) absent = absurd (true≢false absent)
 
-bytes-screen : (file : List ℕ) → Bytes file → Bytes (take screenBytes (drop headerLength file))
-bytes-screen file bytes =
-    let rest : List ℕ = drop headerLength file in
-    bytes-front (take screenBytes rest) (drop screenBytes rest)
-    (subst Bytes (sym (take-append-drop screenBytes rest)) (bytes-drop headerLength file bytes))
-
 module _ {file : List ℕ} (f : AcceptsToElite file) where
   pub plain-parts : PlainParts file (f .accepts .resolution) (plainGiven f)
   plain-parts = plain-fits (f .accepts .fits) (f .absent)
@@ -167,7 +160,8 @@ module _ {file : List ℕ} (f : AcceptsToElite file) where
         × WritesElite (f .accepts .resolution) (plainGiven f .picture) (plainGiven f .screen) w
     to-elite-writes bytes =
         let screen : Bytes (plainGiven f .screen) =
-        subst Bytes (sym (ap (λ (b : Reading). b .screen) (plain-parts .gives))) (bytes-screen file bytes) in
+        subst Bytes (sym (ap (λ (b : Reading). b .screen) (plain-parts .gives)))
+        (bytes-take screenBytes (drop headerLength file) (bytes-drop headerLength file bytes)) in
         let g =
         elite-writes (f .accepts .resolution) (plainGiven f .picture) (plainGiven f .screen) out fits
         (whole-read file (plainGiven f) plain-read .whole) screen in

@@ -13,9 +13,9 @@ use Rattle.lists.specs.Over.{overAt}
 use Rattle.lists.specs.Sum.{sum}
 use Rattle.lists.specs.Tabulate.{tabulate}
 use Rattle.lists.proofs.Digits.{fromBits-lt}
-use Rattle.lists.proofs.Over.{overAt-done}
+use Rattle.lists.proofs.Over.{overAt-tabulate-done}
 use Rattle.lists.proofs.Sum.{sum-ext}
-use Rattle.lists.proofs.Tabulate.{length-tabulate, tabulate-ext}
+use Rattle.lists.proofs.Tabulate.{tabulate-ext}
 use Rattle.resolution.specs.declared.Resolution.{Resolution}
 use Rattle.resolution.specs.declared.Resolution.the-variants.{Low, Medium, High}
 use Rattle.resolution.specs.Shapes.{widthOf, planesOf, groupsOf, lineBytesOf, rasterOf}
@@ -169,7 +169,7 @@ group-columns s out left right at planes x v w room vs ws is then =
     ∙ ap (λ (n : ℕ). columnRegister (column n) i) o
     ∙ ap (groupRegister s at planes) (sym (zero-add i)))
     in
-    overAt-done x (tabulate 16 f) out right 16 (omega (arith, length-tabulate 16 f))
+    overAt-tabulate-done x 16 f out right 16 (omega arith)
     (then
     ∙ overAt-piece x 16 8 f (byteOf w) out left 8 (omega arith) (omega arith) first
     (λ i h.

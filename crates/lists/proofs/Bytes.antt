@@ -2,7 +2,7 @@
 use mathlib.Core.List.{List, [], _∷_, _++_}
 use Prim.Native.Nat.{ℕ, zero, suc, _+_, _<_}
 use native.Mathlib.Omega.{arith}
-use lib.ListN.{drop, replicate}
+use lib.ListN.{take, drop, replicate, take-append-drop}
 use lib.Seq.{getD-drop}
 use Rattle.lists.specs.Bytes.{Bytes}
 
@@ -28,6 +28,9 @@ bytes-behind (x ∷ s) t b = bytes-behind s t (λ i. b (suc i))
 pub bytes-repeated : (n x : ℕ) (t : List ℕ) → 0 < n → Bytes (replicate n x ++ t) → x < 256
 bytes-repeated (suc n) x t h b = b 0
 bytes-repeated zero x t h b = absurd (omega arith)
+
+pub bytes-take : (n : ℕ) (s : List ℕ) → Bytes s → Bytes (take n s)
+bytes-take n s b = bytes-front (take n s) (drop n s) (λ i. rw (take-append-drop n s) (b i))
 
 pub bytes-drop : (n : ℕ) (s : List ℕ) → Bytes s → Bytes (drop n s)
 bytes-drop n s b i = rw (getD-drop n s i 0) (b (n + i))

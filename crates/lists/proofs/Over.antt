@@ -56,6 +56,18 @@ module _ {A : Type 0} where
       → out ≡ overAt at s d
   overAt-done at s d out k h is = is ∙ ap (λ (t : List A). overAt at t d) (take-all k s h)
 
+  -- the same loop where s is given by a rule
+  pub overAt-tabulate-turn : (at n : ℕ) (f : ℕ → A) (d out : List A) (k : ℕ) (v : A) → k < n → at + k < length d
+      → out ≡ overAt at (take k (tabulate n f)) d → v ≡ f k
+      → set out (at + k) v ≡ overAt at (take (k + 1) (tabulate n f)) d
+  overAt-tabulate-turn at n f d out k v hn hd is e =
+      overAt-turn at (tabulate n f) d out k v v (omega (arith, length-tabulate n f)) hd is
+      (e ∙ sym (getD-tabulate n f k v hn))
+
+  pub overAt-tabulate-done : (at n : ℕ) (f : ℕ → A) (d out : List A) (k : ℕ) → n ≤ k
+      → out ≡ overAt at (take k (tabulate n f)) d → out ≡ overAt at (tabulate n f) d
+  overAt-tabulate-done at n f d out k h = overAt-done at (tabulate n f) d out k (omega (arith, length-tabulate n f))
+
   module _ (at : ℕ) (s d : List A) (room : at + length s ≤ length d) where
     front : length (take at d) ≡ at
     front = length-take-le at d (omega arith)

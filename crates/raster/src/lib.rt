@@ -168,9 +168,8 @@ fn put_sixteen(sixteen: [u8; 16], out: &mut [u8])
     }
 }
 
-// Interleaves two plane rows of so many times eight bytes, the second one a gap behind the first, to the front of out.
-// All
-// of eight bytes is read before it is written, so that the compiler moves the bytes together.
+// Interleaves two plane rows of `eights` times eight bytes, the second one `gap` behind the first, to the front of out.
+// Eight bytes of both are read before any is written, so that the compiler moves the bytes together.
 fn interleave_two(source: &[u8], at: usize, gap: usize, eights: usize, out: &mut [u8])
     requires { ⌜ (at + gap + eights * 8 ≤ length (now source)) × (eights * 16 ≤ length (now out)) ⌝ }
     ensures { λ _. ⌜ now (out .exit)
@@ -185,8 +184,7 @@ fn interleave_two(source: &[u8], at: usize, gap: usize, eights: usize, out: &mut
 }
 
 // Interleaves the four plane rows of a scan line: the first and the third, and the second and the fourth, into a
-// buffer, and
-// then those two to the front of out.
+// buffer, and then those two to the front of out.
 fn interleave_four(source: &[u8], at: usize, eights: usize, half: &mut [u8], out: &mut [u8])
     requires { ⌜ (at + eights * 32 ≤ length (now source)) × (eights * 32 ≤ length (now half)) ⌝ }
     requires { ⌜ eights * 32 ≤ length (now out) ⌝ }

@@ -5,11 +5,11 @@ use mathlib.Core.Bool.{not, _||_}
 use mathlib.Core.List.{List}
 use Prim.Native.Nat.{ℕ, zero, suc, _+_, _*_, _≤_, _<_}
 use native.Mathlib.Omega.{arith}
-use lib.ListN.{length, getD, take, drop, take-append-drop}
+use lib.ListN.{length, getD, take, drop}
 use lib.Dec.{ltb, eqb}
 use borrow.Author.Tests.{ltb-false, eqb-true, eqb-false, not-true, not-false}
 use Rattle.lists.specs.Bytes.{Bytes}
-use Rattle.lists.proofs.Bytes.{bytes-drop, bytes-front}
+use Rattle.lists.proofs.Bytes.{bytes-take, bytes-drop}
 use Rattle.lists.proofs.Cond.{cond-elim, cond-ltb, or-false}
 use Rattle.outcome.specs.Outcome.{Outcome, accepted, Judged}
 use Rattle.outcome.proofs.Outcome.{judged-value}
@@ -34,9 +34,6 @@ use Rattle.tiny.proofs.Expanding.{length-wordsAt}
 use Rattle.tiny.proofs.Exact.{filled, complete, used-up}
 use Rattle.tiny.proofs.Screens.{length-screenBytesOf, screen-word, screen-word-back}
 use Rattle.tiny.proofs.Reading.{tiny-sections, sections-fit, runs-done, length-controls}
-
-bytes-take : (n : ℕ) (s : List ℕ) → Bytes s → Bytes (take n s)
-bytes-take n s b = bytes-front (take n s) (drop n s) (λ i. rw (take-append-drop n s) (b i))
 
 -- a number below 3 names a resolution
 known-below : (n : ℕ) → n < resolutions → (r : Resolution) × (chosen n ≡ Known r)

@@ -1,14 +1,13 @@
 -- `lines::put_block` meets its contract: the loop has written the first i bytes.
-use mathlib.Core.Path.{_≡_, refl, sym, _∙_}
+use mathlib.Core.Path.{_≡_, refl, sym}
 use native.Mathlib.Omega.{arith}
-use Prim.Native.Nat.{ℕ, _≤_, _-_}
+use Prim.Native.Nat.{_≤_, _-_}
 use borrow.Author.Needs.{needs}
 use denote.Ref.{now}
 use lib.ListN.{length, take, length-set, take-append-drop}
 use Rattle.lists.specs.Over.{overAt}
 use Rattle.lists.specs.Tabulate.{tabulate}
-use Rattle.lists.proofs.Over.{overAt-turn, overAt-done}
-use Rattle.lists.proofs.Tabulate.{length-tabulate, getD-tabulate}
+use Rattle.lists.proofs.Over.{overAt-tabulate-turn, overAt-tabulate-done}
 use Rattle.lines.specs.Blocks.{blockByte}
 use Rattle.lines.proofs.put_block.Statement.{statement}
 use Rattle.lines.proofs.put_block.Tie as tie
@@ -29,22 +28,18 @@ loop-holds c =
 loop-again : tie.Need-loop-again Inv-loop μ-loop
 loop-again c =
     let l = c .before .before .loop in
-    let a = c .before .before .before .before .args in
-    let w : ℕ → ℕ = blockByte (a .left) (a .right) in (
+    let a = c .before .before .before .before .args in (
       omega arith,
       simp length-set (omega arith),
-      overAt-turn (a .at) (tabulate 16 w) (now (a .screen)) (l .screen) (l .i) (c .block-byte .result) 0
-          (omega (arith, length-tabulate 16 w)) (omega arith) (l .inv .2)
-          (c .block-byte .ensures ∙ sym (getD-tabulate 16 w (l .i) 0 (omega arith))),
+      overAt-tabulate-turn (a .at) 16 _ _ _ (l .i) _ (omega arith) (omega arith) (l .inv .2) (c .block-byte .ensures),
     )
 
 returns : tie.Need-returns Inv-loop μ-loop
 returns c =
     let l = c .before .loop in
     let a = c .before .before .before .args in
-    let w : ℕ → ℕ = blockByte (a .left) (a .right) in
-    overAt-done (a .at) (tabulate 16 w) (now (a .screen)) (l .screen) (l .i)
-    (omega (arith, length-tabulate 16 w)) (l .inv .2)
+    overAt-tabulate-done (a .at) 16 (blockByte (a .left) (a .right)) (now (a .screen)) (l .screen) (l .i) (omega arith)
+    (l .inv .2)
 
 pub put-block-spec : {M : Type 1} → statement M
 put-block-spec =

@@ -1,14 +1,13 @@
 -- `lines::put_eight` meets its contract: the loop has written the first i bytes.
-use mathlib.Core.Path.{_≡_, refl, sym, _∙_}
+use mathlib.Core.Path.{_≡_, refl, sym}
 use native.Mathlib.Omega.{arith}
-use Prim.Native.Nat.{ℕ, _≤_, _-_}
+use Prim.Native.Nat.{_≤_, _-_}
 use borrow.Author.Needs.{needs}
 use denote.Ref.{now}
 use lib.ListN.{length, take, length-set, take-append-drop}
 use Rattle.lists.specs.Over.{overAt}
 use Rattle.lists.specs.Tabulate.{tabulate}
-use Rattle.lists.proofs.Over.{overAt-turn, overAt-done}
-use Rattle.lists.proofs.Tabulate.{length-tabulate, getD-tabulate}
+use Rattle.lists.proofs.Over.{overAt-tabulate-turn, overAt-tabulate-done}
 use Rattle.lines.specs.Columns.{byteOf}
 use Rattle.lines.proofs.put_eight.Statement.{statement}
 use Rattle.lines.proofs.put_eight.Tie as tie
@@ -29,21 +28,17 @@ loop-holds c =
 loop-again : tie.Need-loop-again Inv-loop μ-loop
 loop-again c =
     let l = c .before .before .loop in
-    let a = c .before .before .before .before .args in
-    let w : ℕ → ℕ = byteOf (a .v) in (
+    let a = c .before .before .before .before .args in (
       omega arith,
       simp length-set (omega arith),
-      overAt-turn (a .x) (tabulate 8 w) (now (a .out)) (l .out) (l .i) (c .byte-of .result) 0
-          (omega (arith, length-tabulate 8 w)) (omega arith) (l .inv .2)
-          (c .byte-of .ensures ∙ sym (getD-tabulate 8 w (l .i) 0 (omega arith))),
+      overAt-tabulate-turn (a .x) 8 _ _ _ (l .i) _ (omega arith) (omega arith) (l .inv .2) (c .byte-of .ensures),
     )
 
 returns : tie.Need-returns Inv-loop μ-loop
 returns c =
     let l = c .before .loop in
     let a = c .before .before .before .args in
-    let w : ℕ → ℕ = byteOf (a .v) in
-    overAt-done (a .x) (tabulate 8 w) (now (a .out)) (l .out) (l .i) (omega (arith, length-tabulate 8 w)) (l .inv .2)
+    overAt-tabulate-done (a .x) 8 (byteOf (a .v)) (now (a .out)) (l .out) (l .i) (omega arith) (l .inv .2)
 
 pub put-eight-spec : {M : Type 1} → statement M
 put-eight-spec =

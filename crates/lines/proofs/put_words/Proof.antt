@@ -9,7 +9,7 @@ use lib.Arith.{digits-div, digits-mod}
 use lib.ListN.{length, getD, take, take-append-drop}
 use Rattle.lists.specs.Over.{overAt}
 use Rattle.lists.specs.Tabulate.{tabulate}
-use Rattle.lists.proofs.Over.{length-overAt, overAt-done}
+use Rattle.lists.proofs.Over.{length-overAt, overAt-tabulate-done}
 use Rattle.lists.proofs.Tabulate.{length-tabulate}
 use Rattle.lines.specs.Blocks.{blockByte, wordsByte}
 use Rattle.lines.proofs.Pieces.{overAt-piece}
@@ -64,8 +64,8 @@ returns c =
     let l = c .before .loop in
     let a = c .before .before .before .args in
     let f : ℕ → ℕ = wordsByte (now (a .words)) in
-    overAt-done (a .start) (tabulate (a .blocks * 16) f) (now (a .screen)) (l .screen) (l .b * 16)
-    (omega (arith, length-tabulate (a .blocks * 16) f)) (l .inv .2)
+    overAt-tabulate-done (a .start) (a .blocks * 16) f (now (a .screen)) (l .screen) (l .b * 16) (omega arith)
+    (l .inv .2)
 
 pub put-words-spec : {M : Type 1} → statement M
 put-words-spec =
