@@ -10,29 +10,29 @@ use borrow.Author.Tests.{lt-ltb, le-ltb}
 use Rattle.pack.specs.Controls.{takenBy}
 use Rattle.pack.specs.Least.{Body, Opening, least}
 use Rattle.pack.proofs.Controls.{taken-literal, taken-repeat}
-use Rattle.pack.specs.declared.Stretch.{Stretch}
+use Rattle.pack.specs.declared.Ahead.{Ahead}
 use Rattle.pack.specs.Plan.{run, runs, closed, longest, runBefore, planned}
 use Rattle.pack.specs.Runs.{runLength, endOf}
-use Rattle.pack.specs.ShortRuns.{stretchAt, controlAt, LongRun, Known}
+use Rattle.pack.specs.ShortRuns.{aheadAt, controlAt, LongRun, Known}
 use Rattle.pack.proofs.Plan.{le-or-lt, before-joined, before-repeated, plan-bytes}
 use Rattle.pack.proofs.Runs.{end-other, run-ends, three-ends, run-bounds, planned-here}
 use Rattle.pack.proofs.ShortRuns.{Answer, literalAt, pairMore, literal-single, literal-pair, literal-long}
-use Rattle.pack.proofs.ShortRuns.{short-short, short-long, nothing-at-end, stretch-ends}
+use Rattle.pack.proofs.ShortRuns.{short-short, short-long, nothing-at-end, ahead-ends}
 
-pub known-answer : (row : List ℕ) (i : ℕ) (r : Stretch) → Answer row i r → Known row i r
+pub known-answer : (row : List ℕ) (i : ℕ) (r : Ahead) → Answer row i r → Known row i r
 known-answer row i r a =
     record {
-      literal = omega (arith, ap (λ (t : Stretch). t .single) (a .0));
-      short = sym (ap (λ (t : Stretch). t .end) (a .0));
-      long = sym (ap (λ (t : Stretch). t .count) (a .0));
+      literal = omega (arith, ap (λ (t : Ahead). t .single) (a .0));
+      short = sym (ap (λ (t : Ahead). t .end) (a .0));
+      long = sym (ap (λ (t : Ahead). t .count) (a .0));
       next = a .1 .0 .0;
       order = a .1 .0 .1;
       within = a .1 .0 .2;
       after = a .1 .1;
     }
 
-pub known-stretch : (row : List ℕ) (i : ℕ) (r : Stretch) → i ≤ length row → r ≡ stretchAt row i → Known row i r
-known-stretch row i r h e = rw e (known-answer row i (stretchAt row i) (stretch-ends row i h .0))
+pub known-ahead : (row : List ℕ) (i : ℕ) (r : Ahead) → i ≤ length row → r ≡ aheadAt row i → Known row i r
+known-ahead row i r h e = rw e (known-answer row i (aheadAt row i) (ahead-ends row i h .0))
 
 -- ---- the first byte of the least body of a suffix
 
@@ -66,7 +66,7 @@ not-pair : (k : ℕ) → 0 ≡ pairMore k → k ≡ 0
 not-pair zero e = refl
 not-pair (suc k) e = absurd (omega arith)
 
-module _ (row : List ℕ) (i : ℕ) (s : Stretch) (known : Known row i s) (h : i < length row) where
+module _ (row : List ℕ) (i : ℕ) (s : Ahead) (known : Known row i s) (h : i < length row) where
   -- after the literal and before the end of the short runs there is a pair
   pair-here : s .single ≤ i → i < s .end → runLength (drop i row) ≡ 2
   pair-here l m =
@@ -92,8 +92,8 @@ module _ (row : List ℕ) (i : ℕ) (s : Stretch) (known : Known row i s) (h : i
       (le-or-lt n 2)
 
   -- there is a short run or a longer one
-  pub stretch-some : i < s .end + s .count
-  stretch-some = ⊎-elim (λ l. omega (arith, long-here l)) (λ l. omega arith) (le-or-lt (s .end) i)
+  pub ahead-some : i < s .end + s .count
+  ahead-some = ⊎-elim (λ l. omega (arith, long-here l)) (λ l. omega arith) (le-or-lt (s .end) i)
 
   -- before the end of the short runs: the control byte is that of the least body
   module _ (m : i < s .end) where
@@ -158,10 +158,10 @@ module _ (row : List ℕ) (i : ℕ) (s : Stretch) (known : Known row i s) (h : i
 
 -- ---- the run after the short ones
 
-pub long-bounds : {row : List ℕ} {s : Stretch} → LongRun row s → s .end + s .count ≤ length row
+pub long-bounds : {row : List ℕ} {s : Ahead} → LongRun row s → s .end + s .count ≤ length row
 long-bounds {row} {s} l = run-bounds row (s .end) (s .count) (l .inside) (l .run) .1
 
-pub long-control : {row : List ℕ} {s : Stretch} → LongRun row s
+pub long-control : {row : List ℕ} {s : Ahead} → LongRun row s
     → 257 - s .count ≡ getD (least (drop (s .end) row)) 0 0
 long-control {row} {s} l =
     sym (control-repeat row (s .end) (s .count) (l .inside) (l .run)

@@ -18,12 +18,12 @@ use Rattle.lists.proofs.Cond.{cond-eqb}
 use Rattle.pack.specs.Masks.{sameAs, sameFirst, equalNext, singles, lastSingle}
 use Rattle.pack.specs.Plan.{EqualRun, run, byteBefore, runs, runBefore, planned}
 use Rattle.pack.specs.Runs.{leading}
-use Rattle.pack.specs.ShortRuns.{shortBytes, longCount, stretchAt}
-use Rattle.pack.specs.declared.Stretch.{Stretch}
+use Rattle.pack.specs.ShortRuns.{shortBytes, longCount, aheadAt}
+use Rattle.pack.specs.declared.Ahead.{Ahead}
 use Rattle.pack.proofs.Plan.{before-none, before-single, before-repeated, longest-two}
 use Rattle.pack.proofs.Runs.{runs-cons}
 use Rattle.pack.proofs.Known.{long-bounds}
-use Rattle.pack.proofs.ShortRuns.{literalAt, shortAt, longAt, pairMore, pair-more, Ends, stretch-ends}
+use Rattle.pack.proofs.ShortRuns.{literalAt, shortAt, longAt, pairMore, pair-more, Ends, ahead-ends}
 use Rattle.pack.proofs.Words.{trailing-past}
 
 -- ---- the digits of bytes
@@ -326,8 +326,8 @@ module _ (row : List ℕ) (i m : ℕ) (h : i < length row) (few : length row ≤
     told-here : Told m (shortAt row i) (longAt row i)
     told-here = rw digits-here (told (runs (drop i row)))
 
-    ends-here : Ends row i (stretchAt row i)
-    ends-here = stretch-ends row i (omega arith)
+    ends-here : Ends row i (aheadAt row i)
+    ends-here = ahead-ends row i (omega arith)
 
     short-few : (literalAt row i ≤ shortAt row i) × (shortAt row i ≤ 63)
     short-few = let a = ends-here .0 .1 .0 in (omega (arith, a .1), omega (arith, a .2))
@@ -342,8 +342,8 @@ module _ (row : List ℕ) (i m : ℕ) (h : i < length row) (few : length row ≤
     last-here = rw digits-here (last-more (runs (drop i row)) (omega (arith, short-few)))
 
     pub masked-end : triples m ≡ 0
-        → _≡_ {A = Stretch} (record { single = i + lastSingle m (length row - i); end = length row; count = 0 })
-        (stretchAt row i)
+        → _≡_ {A = Ahead} (record { single = i + lastSingle m (length row - i); end = length row; count = 0 })
+        (aheadAt row i)
     masked-end z =
         let none : longAt row i ≡ 0 = told-none told-here (omega (arith, short-few)) z in
         let all : length row ≡ i + shortAt row i = sym (ends-here .1 none) in
@@ -361,7 +361,7 @@ module _ (row : List ℕ) (i m : ℕ) (h : i < length row) (few : length row ≤
       masked-few = omega (arith, here .0, short-few)
 
       pub masked-long : let z = trailingZeros 64 (triples m) in
-          _≡_ {A = Stretch}
+          _≡_ {A = Ahead}
           (record { single = i + lastSingle m z; end = i + z; count = trailingZeros 64 (m / 2 ^ z + 1) + 1 })
-          (stretchAt row i)
+          (aheadAt row i)
       masked-long = rw (here .0, here .1, last-here) refl

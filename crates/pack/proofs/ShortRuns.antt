@@ -9,10 +9,10 @@ use lib.ListN.{length, getD, drop}
 use lib.Seq.{drop-length}
 use borrow.Author.Tests.{le-leb, lt-leb}
 use Rattle.pack.specs.Least.{Body, Opening}
-use Rattle.pack.specs.declared.Stretch.{Stretch}
+use Rattle.pack.specs.declared.Ahead.{Ahead}
 use Rattle.pack.specs.Plan.{run, runs, taking, runBefore, planned}
 use Rattle.pack.specs.Runs.{runLength, endOf}
-use Rattle.pack.specs.ShortRuns.{shortBytes, longCount, stretchAt, LongRun, FourSingles}
+use Rattle.pack.specs.ShortRuns.{shortBytes, longCount, aheadAt, LongRun, FourSingles}
 use Rattle.pack.proofs.Plan.{le-or-lt, before-joined, before-repeated, before-single, longest-two}
 use Rattle.pack.proofs.Runs.{end-other, run-ends, run-bounds, runs-here, planned-here}
 
@@ -138,7 +138,7 @@ module _ (row : List ℕ) (i single at n : ℕ) (h : at < length row) (e : n ≡
         long = s .long ∙ w .1;
       }
 
-  pub scanning-long : 2 < n → _≡_ {A = Stretch} (record { single = single; end = at; count = n }) (stretchAt row i)
+  pub scanning-long : 2 < n → _≡_ {A = Ahead} (record { single = single; end = at; count = n }) (aheadAt row i)
   scanning-long l =
       let a : i + literalAt row i ≡ single = s .literal ∙ ap (reached single at) (literal-long row at n h e l) in
       let b : i + shortAt row i ≡ at = omega (arith, s .short, short-long row at n h e l .0) in
@@ -146,7 +146,7 @@ module _ (row : List ℕ) (i single at n : ℕ) (h : at < length row) (e : n ≡
       rw (a, b, d) refl
 
 pub scanning-end : (row : List ℕ) (i single at : ℕ) → length row ≤ at → Scanning row i single at
-    → _≡_ {A = Stretch} (record { single = single; end = at; count = 0 }) (stretchAt row i)
+    → _≡_ {A = Ahead} (record { single = single; end = at; count = 0 }) (aheadAt row i)
 scanning-end row i single at h s =
     let z = nothing-at-end row at (omega (arith, s .within)) in
     let a : i + literalAt row i ≡ single = s .literal ∙ ap (reached single at) (z .0) in
@@ -164,10 +164,10 @@ pub on-start : (row : List ℕ) (i : ℕ) → i ≤ length row → ScanningOn ro
 on-start row i h = record { whole = scanning-start row i h; next = scanning-start row i h; order = omega arith }
 
 -- the answer of `short_runs`
-abbrev pub Answer : List ℕ → ℕ → Stretch → Type 0
+abbrev pub Answer : List ℕ → ℕ → Ahead → Type 0
 Answer row i r =
-    (r ≡ stretchAt row i)
-    × (((r ≡ stretchAt row (r .single)) × (r .single ≤ r .end) × (r .end ≤ length row))
+    (r ≡ aheadAt row i)
+    × (((r ≡ aheadAt row (r .single)) × (r .single ≤ r .end) × (r .end ≤ length row))
     × ((r .count ≡ 0 → ⊥) → LongRun row r))
 
 module _ {row : List ℕ} {i single at n : ℕ} (h : at < length row) (e : n ≡ runLength (drop at row))
@@ -225,19 +225,19 @@ on-end {row} {i} {single} {at} h s = (
 -- ---- what the short runs from a place on are, in itself
 
 -- an answer, which ends the row where no run follows
-abbrev pub Ends : List ℕ → ℕ → Stretch → Type 0
+abbrev pub Ends : List ℕ → ℕ → Ahead → Type 0
 Ends row i r = Answer row i r × (r .count ≡ 0 → r .end ≡ length row)
 
 module _ (row : List ℕ) (i : ℕ) where
-  ends : (r : Stretch) → Answer row i r → (r .count ≡ 0 → r .end ≡ length row) → Ends row i (stretchAt row i)
+  ends : (r : Ahead) → Answer row i r → (r .count ≡ 0 → r .end ≡ length row) → Ends row i (aheadAt row i)
   ends r a e = subst (Ends row i) (a .0) (a, e)
 
-  ends-over : (single at : ℕ) → length row ≤ at → ScanningOn row i single at → Ends row i (stretchAt row i)
+  ends-over : (single at : ℕ) → length row ≤ at → ScanningOn row i single at → Ends row i (aheadAt row i)
   ends-over single at h s =
       ends (record { single = single; end = at; count = 0 }) (on-end h s) (λ z. omega (arith, s .whole .within))
 
   -- k bytes are left at most
-  ends-scanned : (k single at : ℕ) → length row ≤ at + k → ScanningOn row i single at → Ends row i (stretchAt row i)
+  ends-scanned : (k single at : ℕ) → length row ≤ at + k → ScanningOn row i single at → Ends row i (aheadAt row i)
   ends-scanned zero single at h s = ends-over single at (omega arith) s
   ends-scanned (suc k) single at h s =
       let n = runLength (drop at row) in
@@ -255,5 +255,5 @@ module _ (row : List ℕ) (i : ℕ) where
       (le-or-lt n 2))
       (le-or-lt (length row) at)
 
-  pub stretch-ends : i ≤ length row → Ends row i (stretchAt row i)
-  stretch-ends h = ends-scanned (length row) i i (omega arith) (on-start row i h)
+  pub ahead-ends : i ≤ length row → Ends row i (aheadAt row i)
+  ahead-ends h = ends-scanned (length row) i i (omega arith) (on-start row i h)

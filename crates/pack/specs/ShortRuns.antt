@@ -6,7 +6,7 @@ use mathlib.Core.Bool.{cond}
 use mathlib.Core.List.{List, [], _∷_}
 use lib.ListN.{length, getD, drop}
 use lib.Dec.{leb, ltb}
-use Rattle.pack.specs.declared.Stretch.{Stretch}
+use Rattle.pack.specs.declared.Ahead.{Ahead}
 use Rattle.pack.specs.Plan.{EqualRun, runs, planned}
 use Rattle.pack.specs.Runs.{runLength}
 
@@ -29,8 +29,8 @@ pub record FourSingles (row : List ℕ) (i : ℕ) : Type 0 where
   pub fourth : getD row (i + 3) 0 ≡ getD row (i + 4) 0 → ⊥
 
 -- where the literal at the place i ends, where the short runs end, and how long the run there is
-abbrev pub stretchAt : List ℕ → ℕ → Stretch
-stretchAt row i =
+abbrev pub aheadAt : List ℕ → ℕ → Ahead
+aheadAt row i =
     record {
       single = i + planned (runs (drop i row)) .more;
       end = i + shortBytes (runs (drop i row));
@@ -38,22 +38,22 @@ stretchAt row i =
     }
 
 -- the control byte at the place i, before the end of the short runs s: of the literal or of a pair
-abbrev pub controlAt : ℕ → Stretch → ℕ
+abbrev pub controlAt : ℕ → Ahead → ℕ
 controlAt i s = cond (ltb i (s .single)) (s .single - i - 1) 255
 
 -- the run at the end of the short runs s
-pub record LongRun (row : List ℕ) (s : Stretch) : Type 0 where
+pub record LongRun (row : List ℕ) (s : Ahead) : Type 0 where
   pub long : 2 < s .count
   pub inside : s .end < length row
   pub run : s .count ≡ runLength (drop (s .end) row)
 
 -- s is what is known of the row from the place i on: `single` is where the literal ends if it is still to come, and s
 -- is the same there
-pub record Known (row : List ℕ) (i : ℕ) (s : Stretch) : Type 0 where
+pub record Known (row : List ℕ) (i : ℕ) (s : Ahead) : Type 0 where
   pub literal : planned (runs (drop i row)) .more ≡ s .single - i
   pub short : i + shortBytes (runs (drop i row)) ≡ s .end
   pub long : longCount (runs (drop i row)) ≡ s .count
-  pub next : s ≡ stretchAt row (s .single)
+  pub next : s ≡ aheadAt row (s .single)
   pub order : s .single ≤ s .end
   pub within : s .end ≤ length row
   pub after : (s .count ≡ 0 → ⊥) → LongRun row s

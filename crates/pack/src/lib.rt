@@ -15,7 +15,7 @@ ghost use Rattle.pack.specs.Lengths.{countRun};
 ghost use Rattle.pack.specs.Masks.{sameAs, equalNext, lastSingle, MaskAt};
 ghost use Rattle.pack.specs.Pack.{packRow, packInto, leastLen};
 ghost use Rattle.pack.specs.Runs.{runLength, endOf, littleEndian, FirstOther};
-ghost use Rattle.pack.specs.ShortRuns.{stretchAt, controlAt, LongRun, Known, FourSingles};
+ghost use Rattle.pack.specs.ShortRuns.{aheadAt, controlAt, LongRun, Known, FourSingles};
 use outcome::AREA_TOO_SHORT;
 use outcome::OUT_OF_RANGE;
 use packbits::MAX_WIDTH;
@@ -171,7 +171,7 @@ pub fn least_len(row: &[u8]) -> usize
 
 // The short runs, of one or two bytes each, from a place on: where the literal of them ends, where they end, and the
 // length of the run there, 0 at the end of the row.
-struct Stretch {
+struct Ahead {
     single: usize,
     end: usize,
     count: usize,
@@ -198,10 +198,10 @@ fn four_singles(row: &[u8], at: usize) -> bool
 }
 
 // The short runs from the place i on, run by run, but four single bytes at a time.
-fn short_runs(row: &[u8], i: usize) -> Stretch
+fn short_runs(row: &[u8], i: usize) -> Ahead
     requires { ⌜ (i ≤ length (now row)) × (length (now row) ≤ 128) ⌝ }
-    ensures { λ r. ⌜ r ≡ stretchAt (now (row .entry)) i ⌝ }
-    ensures { λ r. ⌜ (r ≡ stretchAt (now (row .entry)) (r .single)) × (r .single ≤ r .end)
+    ensures { λ r. ⌜ r ≡ aheadAt (now (row .entry)) i ⌝ }
+    ensures { λ r. ⌜ (r ≡ aheadAt (now (row .entry)) (r .single)) × (r .single ≤ r .end)
         × (r .end ≤ length (now (row .entry))) ⌝ }
     ensures { λ r. ⌜ ((r .count ≡ 0 → ⊥) → LongRun (now (row .entry)) r) ⌝ }
 {
@@ -215,7 +215,7 @@ fn short_runs(row: &[u8], i: usize) -> Stretch
         }
         let n = run_at(row, at);
         if 2 < n {
-            return Stretch {
+            return Ahead {
                 single,
                 end: at,
                 count: n,
@@ -226,7 +226,7 @@ fn short_runs(row: &[u8], i: usize) -> Stretch
             single = at;
         }
     }
-    Stretch {
+    Ahead {
         single,
         end: at,
         count: 0,
@@ -295,21 +295,21 @@ fn last_single(equal: u64, n: usize) -> usize
 
 // The short runs from the place i on, by the mask there. No branch depends on the length of a run, which a processor
 // guesses wrong where short runs follow one another at random.
-fn masked_runs(row: &[u8], i: usize, equal: u64) -> Stretch
+fn masked_runs(row: &[u8], i: usize, equal: u64) -> Ahead
     requires { ⌜ (i < length (now row)) × (length (now row) ≤ i + 63) × (equal ≡ equalNext (drop i (now row))) ⌝ }
-    ensures { λ r. ⌜ r ≡ stretchAt (now (row .entry)) i ⌝ }
+    ensures { λ r. ⌜ r ≡ aheadAt (now (row .entry)) i ⌝ }
 {
     let triples = equal & (equal / 2);
     if triples == 0 {
         let left = row.len() - i;
-        return Stretch {
+        return Ahead {
             single: i + last_single(equal, left),
             end: row.len(),
             count: 0,
         };
     }
     let short = u64::trailing_zeros(triples) as usize;
-    Stretch {
+    Ahead {
         single: i + last_single(equal, short),
         end: i + short,
         count: u64::trailing_zeros((equal >> short) + 1) as usize + 1,
@@ -317,7 +317,7 @@ fn masked_runs(row: &[u8], i: usize, equal: u64) -> Stretch
 }
 
 // The short runs from the place i on, by the mask there or, where too many bytes are left for one, run by run.
-fn stretch_ahead(row: &[u8], i: usize, equal: u64) -> Stretch
+fn runs_ahead(row: &[u8], i: usize, equal: u64) -> Ahead
     requires { ⌜ (i < length (now row)) × (length (now row) ≤ 128) × MaskAt (now row) i equal ⌝ }
     ensures { λ r. ⌜ Known (now (row .entry)) i r ⌝ }
 {
@@ -372,7 +372,7 @@ fn put_repeat(n: usize, row: &[u8], out: &mut [u8]) -> Put
 
 // The record at the place i, before the end of the short runs s: of the literal or of a pair. The row from there on and
 // the front of out are lent.
-fn put_next(i: usize, s: Stretch, row: &[u8], out: &mut [u8]) -> Put
+fn put_next(i: usize, s: Ahead, row: &[u8], out: &mut [u8]) -> Put
     requires { ⌜ (s .single ≤ 128) × (1 ≤ length (now row)) ⌝ }
     requires { ⌜ (shownBy (controlAt i s) ≤ length (now row)) × (shownBy (controlAt i s) < length (now out)) ⌝ }
     ensures { λ r. ⌜ (r .taken ≡ takenBy (controlAt i s))
@@ -392,7 +392,7 @@ struct Packed {
 }
 
 // The records of the short runs s from the place i on, to the front of out.
-fn put_short(row: &[u8], i: usize, s: Stretch, out: &mut [u8]) -> Packed
+fn put_short(row: &[u8], i: usize, s: Ahead, out: &mut [u8]) -> Packed
     requires { ⌜ (length (now row) ≤ 128) × (i ≤ s .end) × Known (now row) i s ⌝ }
     requires { ⌜ length (least (drop i (now row))) ≤ length (now out) ⌝ }
     ensures { λ r. ⌜ Emitted (now (row .entry)) i (s .end) (now (out .entry)) (now (out .exit)) (r .bytes)
@@ -414,7 +414,7 @@ fn put_short(row: &[u8], i: usize, s: Stretch, out: &mut [u8]) -> Packed
 }
 
 // The same. Most often there is one byte, which is put without a loop.
-fn put_before(row: &[u8], i: usize, s: Stretch, out: &mut [u8]) -> Packed
+fn put_before(row: &[u8], i: usize, s: Ahead, out: &mut [u8]) -> Packed
     requires { ⌜ (length (now row) ≤ 128) × (i ≤ s .end) × Known (now row) i s ⌝ }
     requires { ⌜ length (least (drop i (now row))) ≤ length (now out) ⌝ }
     ensures { λ r. ⌜ Emitted (now (row .entry)) i (s .end) (now (out .entry)) (now (out .exit)) (r .bytes)
@@ -431,7 +431,7 @@ fn put_before(row: &[u8], i: usize, s: Stretch, out: &mut [u8]) -> Packed
 }
 
 // The records of the short runs s from the place i on and of the run after them, to the front of out.
-fn put_stretch(row: &[u8], i: usize, s: Stretch, out: &mut [u8]) -> Packed
+fn put_runs(row: &[u8], i: usize, s: Ahead, out: &mut [u8]) -> Packed
     requires { ⌜ (length (now row) ≤ 128) × (i ≤ s .end) × Known (now row) i s ⌝ }
     requires { ⌜ length (least (drop i (now row))) ≤ length (now out) ⌝ }
     ensures { λ r. ⌜ Emitted (now (row .entry)) i (s .end + s .count) (now (out .entry)) (now (out .exit)) (r .bytes)
@@ -584,8 +584,8 @@ fn emit_rest(row: &[u8], from: usize, out: &mut [u8]) -> Packed
     let mut o = 0;
     let mut n = 0;
     while i < row.len() {
-        let s = stretch_ahead(row, i, equal);
-        let p = put_stretch(row, i, s, &mut out[o..]);
+        let s = runs_ahead(row, i, equal);
+        let p = put_runs(row, i, s, &mut out[o..]);
         let next = s.end + s.count;
         equal = next_mask(row, i, equal, next);
         i = next;

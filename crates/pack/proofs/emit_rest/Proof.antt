@@ -1,4 +1,5 @@
--- `pack::emit_rest` meets its contract. The loop keeps `Emitted` and the mask; a turn is one stretch.
+-- `pack::emit_rest` meets its contract. The loop keeps `Emitted` and the mask; a turn is the short runs and the run
+-- after them.
 use Prim.Native.Nat.{_+_, _-_, _≤_, _<_}
 use native.Mathlib.Omega.{arith}
 use mathlib.Core.Path.{_≡_}
@@ -8,7 +9,7 @@ use borrow.Rule.Slice.PartMut.{putMid}
 use Rattle.pack.specs.Emitted.{Emitted}
 use Rattle.pack.specs.Masks.{MaskAt}
 use Rattle.pack.proofs.Emission.{emitted-none, emitted-then, emitted-kept, emitted-room, left-fits}
-use Rattle.pack.proofs.Known.{stretch-some}
+use Rattle.pack.proofs.Known.{ahead-some}
 use Rattle.pack.proofs.emit_rest.Statement.{statement}
 use Rattle.pack.proofs.emit_rest.Tie as tie
 
@@ -23,28 +24,28 @@ loop-holds c =
     let s = c .before .before .before in
     (emitted-none (s .args .row .now) (s .args .from) (s .args .out .now) (s .pre .0 .1), c .mask-at .ensures)
 
-stretch-ahead-requires : tie.Need-stretch-ahead-requires Inv-loop μ-loop
-stretch-ahead-requires c κs =
+runs-ahead-requires : tie.Need-runs-ahead-requires Inv-loop μ-loop
+runs-ahead-requires c κs =
     (c .loop-test .taken, c .before .before .before .before .before .pre .0 .0, c .before .loop .inv .1)
 
 -- the bytes written are within the output
-room : (c : tie.After-stretch-ahead Inv-loop μ-loop)
+room : (c : tie.After-runs-ahead Inv-loop μ-loop)
     → c .before .before .loop .o ≤ length (c .before .before .loop .out)
 room c = emitted-room (c .before .before .loop .inv .0) (c .before .before .before .before .before .before .pre .1)
 
-put-stretch-requires : tie.Need-put-stretch-requires Inv-loop μ-loop
-put-stretch-requires c κs =
-    let k = c .before .stretch-ahead .ensures in
+put-runs-requires : tie.Need-put-runs-requires Inv-loop μ-loop
+put-runs-requires c κs =
+    let k = c .before .runs-ahead .ensures in
     let l = c .before .before .before .loop in
     let s = c .before .before .before .before .before .before .before in
     ((s .pre .0 .0, omega (arith, k .short), k), left-fits (l .inv .0) (s .pre .1))
 
 -- what holds after a turn's records, which stand for a byte at least
-turned : (d : tie.After-put-stretch Inv-loop μ-loop)
-    → let s = d .before .before .stretch-ahead .result in
+turned : (d : tie.After-put-runs Inv-loop μ-loop)
+    → let s = d .before .before .runs-ahead .result in
     let l = d .before .before .before .before .loop in
     let a = d .before .before .before .before .before .before .before .before .args in
-    let p = d .put-stretch in
+    let p = d .put-runs in
     (l .i < s .end + s .count)
     × Emitted (a .row .now) (a .from) (s .end + s .count) (a .out .now)
     (putMid (l .o) (length (l .out) - l .o) (l .out) (p .last .1 .1 .1 .0)) (l .o + p .result .bytes)
@@ -53,9 +54,9 @@ turned d =
     let t = d .before .before in
     let l = t .before .before .loop in
     let a = t .before .before .before .before .before .before .args in
-    let k = t .stretch-ahead in (
-      stretch-some (a .row .now) (l .i) (k .result) (k .ensures) (t .before .loop-test .taken),
-      emitted-then (l .inv .0) (d .put-stretch .ensures),
+    let k = t .runs-ahead in (
+      ahead-some (a .row .now) (l .i) (k .result) (k .ensures) (t .before .loop-test .taken),
+      emitted-then (l .inv .0) (d .put-runs .ensures),
     )
 
 add-next : tie.Need-add-next Inv-loop μ-loop
@@ -105,11 +106,11 @@ emit-rest-spec =
     μ-loop
     (λ c κs. search needs)
     loop-holds
-    stretch-ahead-requires
+    runs-ahead-requires
     room
     room
     (λ c. search needs)
-    put-stretch-requires
+    put-runs-requires
     add-next
     next-mask-requires
     add-o

@@ -3,7 +3,7 @@ use Prim.Native.Nat.{ℕ, _-_, _≤_, _<_}
 use native.Mathlib.Omega.{arith}
 use mathlib.Core.Path.{_≡_, refl, ap, _∙_}
 use borrow.Author.Tests.{lt-ltb, le-ltb}
-use Rattle.pack.specs.declared.Stretch.{Stretch}
+use Rattle.pack.specs.declared.Ahead.{Ahead}
 use Rattle.pack.specs.Controls.{shownBy}
 use Rattle.pack.specs.ShortRuns.{controlAt}
 use Rattle.pack.proofs.Records.{literal-shown, repeat-shown, puts-literal, puts-repeat}
@@ -12,14 +12,14 @@ use Rattle.pack.proofs.put_next.Statement.{statement}
 use Rattle.pack.proofs.put_next.Tie as tie
 
 -- the control byte of the literal, and the bytes after it
-literal-here : (i : ℕ) (s : Stretch) → i < s .single → s .single ≤ 128
+literal-here : (i : ℕ) (s : Ahead) → i < s .single → s .single ≤ 128
     → (controlAt i s ≡ s .single - i - 1) × (shownBy (controlAt i s) ≡ s .single - i)
 literal-here i s h l =
     let e : controlAt i s ≡ s .single - i - 1 = rw (lt-ltb i (s .single) h) refl in
     (e, ap shownBy e ∙ literal-shown (s .single - i) (omega arith) (omega arith) .0)
 
 -- those of a pair
-pair-here : (i : ℕ) (s : Stretch) → s .single ≤ i → (controlAt i s ≡ 255) × (shownBy (controlAt i s) ≡ 1)
+pair-here : (i : ℕ) (s : Ahead) → s .single ≤ i → (controlAt i s ≡ 255) × (shownBy (controlAt i s) ≡ 1)
 pair-here i s h =
     let e : controlAt i s ≡ 255 = rw (le-ltb i (s .single) h) refl in
     (e, ap shownBy e ∙ repeat-shown 2 (omega arith) (omega arith) .0)

@@ -1,9 +1,9 @@
--- `pack::stretch_ahead` meets its contract: both ways give what is known.
+-- `pack::runs_ahead` meets its contract: both ways give what is known.
 use native.Mathlib.Omega.{arith}
 use borrow.Author.Needs.{needs}
-use Rattle.pack.proofs.Known.{known-answer, known-stretch}
-use Rattle.pack.proofs.stretch_ahead.Statement.{statement}
-use Rattle.pack.proofs.stretch_ahead.Tie as tie
+use Rattle.pack.proofs.Known.{known-answer, known-ahead}
+use Rattle.pack.proofs.runs_ahead.Statement.{statement}
+use Rattle.pack.proofs.runs_ahead.Tie as tie
 
 returns : tie.Need-returns
 returns c =
@@ -18,10 +18,10 @@ masked-runs-requires c κs =
 returns-2 : tie.Need-returns-2
 returns-2 c =
     let s = c .before .before .before in
-    known-stretch (s .args .row .now) (s .args .i) (c .masked-runs .result) (omega (arith, s .pre .0))
+    known-ahead (s .args .row .now) (s .args .i) (c .masked-runs .result) (omega (arith, s .pre .0))
     (c .masked-runs .ensures)
 
-pub stretch-ahead-spec : {M : Type 1} → statement M
-stretch-ahead-spec =
+pub runs-ahead-spec : {M : Type 1} → statement M
+runs-ahead-spec =
     tie.close
     (tie.spec (λ c. search needs) (λ c κs. search needs) returns masked-runs-requires returns-2)

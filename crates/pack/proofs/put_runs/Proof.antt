@@ -1,4 +1,4 @@
--- `pack::put_stretch` meets its contract: the short runs, and after them one record.
+-- `pack::put_runs` meets its contract: the short runs, and after them one record.
 use Prim.Native.Nat.{_+_, _-_, _≤_}
 use native.Mathlib.Omega.{arith}
 use mathlib.Core.Path.{_≡_}
@@ -9,8 +9,8 @@ use Rattle.pack.proofs.Emission.{RepeatFirst, repeat-first, emitted-the
 use Rattle.pack.proofs.Emission.{left-fits}
 use Rattle.pack.proofs.Known.{long-bounds, long-control}
 use borrow.Author.Needs.{needs}
-use Rattle.pack.proofs.put_stretch.Statement.{statement}
-use Rattle.pack.proofs.put_stretch.Tie as tie
+use Rattle.pack.proofs.put_runs.Statement.{statement}
+use Rattle.pack.proofs.put_runs.Tie as tie
 
 returns : tie.Need-returns
 returns c =
@@ -75,8 +75,8 @@ same-length-2 c =
     let s = d .before .before .before .before .before .before .before .before .before .before .before in
     emitted-kept (turned d) (s .pre .1)
 
-pub put-stretch-spec : {M : Type 1} → statement M
-put-stretch-spec =
+pub put-runs-spec : {M : Type 1} → statement M
+put-runs-spec =
     tie.close
     (tie.spec
     (λ c κs. search needs)
