@@ -1,10 +1,7 @@
 pub mod Acceptance
 pub mod Answers
 pub mod Damage
-pub mod Examples
 pub mod LeastBodies
-pub mod Orders
-pub mod RefusalRows
 pub mod Refusals
 pub mod Registers
 pub mod RoundTrips

@@ -1,9 +1,9 @@
 -- Demand 1: "Bad input gets the refusal number that document 01 gives for it, and then no byte of any lent area has
 -- changed." Which number it is, the contracts' definitions say; here, for each public function, what any refusal leaves
--- and gives. `report::summarise` has its own law (report/proofs/Summary.antt, `summary-refused`). `unpack::unpack_into`
--- and `unpack::unpack_rows` write what the whole records before a fault make, as their contracts say, and so does
--- `bodies::read_body` into its buffer; the operations above them lend them areas of their own. `words::put_words`
--- refuses nothing.
+-- and gives. Those of the index, which change no area, are in answers/proofs/IndexRefusals.antt. `report::summarise` has
+-- its own law (report/proofs/Summary.antt, `summary-refused`). `unpack::unpack_into` and `unpack::unpack_rows` write
+-- what the whole records before a fault make, as their contracts say, and so does `bodies::read_body` into its buffer;
+-- the operations above them lend them areas of their own. `words::put_words` refuses nothing.
 use mathlib.Core.Path.{_≡_, refl}
 use mathlib.Core.Bool.{false}
 use mathlib.Core.List.{List}
@@ -22,14 +22,6 @@ use Rattle.bodies.specs.Reading.{readInto}
 use Rattle.bodies.specs.Unpacking.{UnpackedBody}
 use Rattle.lines.specs.Lines.{lineOut, lineIn}
 use Rattle.lines.specs.Screens.{screenOut, screenIn}
-use Rattle.tally.specs.declared.Rectangle.{Rectangle}
-use Rattle.tally.specs.Counts.{tallied}
-use Rattle.colour.specs.Palette.{Rgb}
-use Rattle.colour.specs.Shown.{shown}
-use Rattle.legend.specs.declared.Legend.{Legend}
-use Rattle.legend.specs.Setting.{setting, releasing}
-use Rattle.pond.specs.declared.PondCounts.{PondCounts}
-use Rattle.pond.specs.Reading.{pondReading}
 use Rattle.picture.specs.declared.Picture.{Picture}
 use Rattle.picture.specs.Reading.{Reading}
 use Rattle.picture.specs.Writing.{Writing}
@@ -45,8 +37,7 @@ use Rattle.reader.specs.Reading.{readFile}
 use Rattle.writer.specs.Writing.{writeFile}
 use Rattle.conversion.specs.declared.Conversion.{Conversion}
 use Rattle.conversion.specs.Converting.{convert}
-use Rattle.demands.specs.Refusals.{Kept, RowRefusal, BodyRefusal, BodyReadRefusal, TallyRefusal, ColourRefusal}
-use Rattle.demands.specs.Refusals.{LegendRefusal, PondRefusal, ReadRefusal, WriteRefusal}
+use Rattle.demands.specs.Refusals.{Kept, RowRefusal, BodyRefusal, BodyReadRefusal, ReadRefusal, WriteRefusal}
 
 -- ---- any outcome
 
@@ -61,22 +52,6 @@ body-refusal (refused why) at out h = (refl, refl, refl)
 body-read-refusal : (o : Outcome UnpackedBody) (area : List ℕ) → BodyReadRefusal o area
 body-read-refusal (accepted u) area h = absurd (h refl)
 body-read-refusal (refused why) area h = (refl, refl, refl)
-
-tally-refusal : (o : Outcome (List ℕ)) → TallyRefusal o
-tally-refusal (accepted c) h = absurd (h refl)
-tally-refusal (refused why) h = refl
-
-colour-refusal : (o : Outcome Rgb) → ColourRefusal o
-colour-refusal (accepted c) h = absurd (h refl)
-colour-refusal (refused why) h = (refl, refl, refl)
-
-legend-refusal : (l : Legend) (o : Outcome Legend) → LegendRefusal l o
-legend-refusal l (accepted next) h = absurd (h refl)
-legend-refusal l (refused why) h = refl
-
-pond-refusal : (o : Outcome PondCounts) → PondRefusal o
-pond-refusal (accepted p) h = absurd (h refl)
-pond-refusal (refused why) h = (refl, refl, refl)
 
 read-refusal : (o : Outcome Reading) (area : List ℕ) → ReadRefusal o area
 read-refusal (accepted q) area h = absurd (h refl)
@@ -163,20 +138,3 @@ screen-out-refused screen number out = kept (screenOut screen number (length out
 pub screen-in-refused : (screen : List ℕ) (number : ℕ) (registers : List ℕ)
     → Kept (screenIn screen number registers) (λ s. s) screen
 screen-in-refused screen number registers = kept (screenIn screen number registers) (λ s. s) screen
-
-pub colour-refused : (number : ℕ) (palette : List ℕ) (register : ℕ) → ColourRefusal (shown number palette register)
-colour-refused number palette register = colour-refusal (shown number palette register)
-
-pub tally-refused : (screen : List ℕ) (number : ℕ) (a : Rectangle) → TallyRefusal (tallied screen number a)
-tally-refused screen number a = tally-refusal (tallied screen number a)
-
-pub pond-refused : (screen : List ℕ) (number : ℕ) (a : Rectangle) (party class floor : ℕ) (l : Legend)
-    → PondRefusal (pondReading screen number a party class floor l)
-pond-refused screen number a party class floor l = pond-refusal (pondReading screen number a party class floor l)
-
-pub set-refused : (l : Legend) (party register class confidence : ℕ)
-    → LegendRefusal l (setting l party register class confidence)
-set-refused l party register class confidence = legend-refusal l (setting l party register class confidence)
-
-pub release-refused : (l : Legend) (party register : ℕ) → LegendRefusal l (releasing l party register)
-release-refused l party register = legend-refusal l (releasing l party register)

@@ -3,20 +3,12 @@
 use Prim.Native.Nat.{ℕ}
 use mathlib.Core.Path.{_≡_}
 use mathlib.Core.List.{List}
-use lib.ListN.{replicate}
 use Rattle.outcome.specs.declared.Refusal.{Refusal}
 use Rattle.outcome.specs.Outcome.{Outcome, later, refusalOf}
 use Rattle.packbits.specs.Row.{Row, rowAnswer, rowOutput}
 use Rattle.bodies.specs.Packing.{PackedBody, packedAnswer, packedOutput}
 use Rattle.bodies.specs.Reading.{bodyArea}
 use Rattle.bodies.specs.Unpacking.{UnpackedBody, unpackedAnswer}
-use Rattle.tally.specs.Counts.{tallyAnswer}
-use Rattle.colour.specs.Palette.{Rgb}
-use Rattle.colour.specs.Shown.{colourAnswer}
-use Rattle.legend.specs.declared.Legend.{Legend}
-use Rattle.legend.specs.Setting.{legendAnswer}
-use Rattle.pond.specs.declared.PondCounts.{PondCounts}
-use Rattle.pond.specs.Reading.{pondAnswer}
 use Rattle.picture.specs.Tables.{noPicture}
 use Rattle.picture.specs.Reading.{Reading, readAnswer, readArea}
 use Rattle.picture.specs.Writing.{Writing, writeAnswer, writeOutput}
@@ -45,23 +37,6 @@ abbrev pub BodyReadRefusal : Outcome UnpackedBody → List ℕ → Type 0
 BodyReadRefusal o area =
     Refuses (unpackedAnswer o .refusal)
     → (bodyArea o area ≡ area) × (unpackedAnswer o .body ≡ 0) × (unpackedAnswer o .records ≡ 0)
-
--- a tally, a colour and a pond reading change no area
-abbrev pub TallyRefusal : Outcome (List ℕ) → Type 0
-TallyRefusal o = Refuses (tallyAnswer o .refusal) → tallyAnswer o .counts ≡ replicate 16 0
-
-abbrev pub ColourRefusal : Outcome Rgb → Type 0
-ColourRefusal o =
-    Refuses (colourAnswer o .refusal) → (colourAnswer o .red ≡ 0) × (colourAnswer o .green ≡ 0) ×
-    (colourAnswer o .blue ≡ 0)
-
--- "the legend is then unchanged": the answer has the legend that was given
-abbrev pub LegendRefusal : Legend → Outcome Legend → Type 0
-LegendRefusal l o = Refuses (legendAnswer l o .refusal) → legendAnswer l o .legend ≡ l
-
-abbrev pub PondRefusal : Outcome PondCounts → Type 0
-PondRefusal o =
-    Refuses (pondAnswer o .refusal) → (pondAnswer o .sure ≡ 0) × (pondAnswer o .unsure ≡ 0) × (pondAnswer o .other ≡ 0)
 
 -- a reading, with the area for its screen
 abbrev pub ReadRefusal : Outcome Reading → List ℕ → Type 0

@@ -23,7 +23,7 @@ use Rattle.resolution.specs.declared.Resolution.the-variants.{Low}
 use Rattle.raster.specs.Offsets.{groupOffset, wordOffset}
 use Rattle.lines.specs.Registers.{pixelBit, register}
 use Rattle.colour.specs.Palette.{Rgb, stretch, field, wordColour}
-use Rattle.demands.specs.Examples.{Example, rowPacked, rowUnpacked, coloured, firstRegister, Holds, table}
+use Rattle.answers.specs.Examples.{Example, rowPacked, rowUnpacked, coloured, firstRegister, Holds, table}
 
 -- ---- tests of equality
 

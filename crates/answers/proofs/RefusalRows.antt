@@ -67,9 +67,9 @@ use Rattle.conversion.specs.declared.Conversion.{Conversion}
 use Rattle.conversion.specs.declared.Conversion.the-variants.{ToElite, ToPlain}
 use Rattle.conversion.specs.Converting.{ignoredBits, zeroTail, recover, writeElite, plainToElite, eliteToPlain}
 use Rattle.conversion.specs.Converting.{converted, convert}
-use Rattle.demands.specs.RefusalRows.{BothZero, ZeroUnless, PackedDegas}
+use Rattle.answers.specs.RefusalRows.{BothZero, ZeroUnless, PackedDegas}
 use Rattle.demands.proofs.Answers.{read-answer, body-answer, write-answer, row-answer}
-use Rattle.demands.proofs.Answers.{tally-answer, colour-answer, pond-answer}
+use Rattle.answers.proofs.IndexAnswers.{tally-answer, colour-answer, pond-answer}
 
 -- ---- an outcome by the way it is judged
 

@@ -87,17 +87,17 @@ use Rattle.conversion.specs.declared.Conversion.the-variants.{ToElite, ToPlain}
 use Rattle.conversion.specs.Converting.{ignoredBits, zeroTail, plainToElite, eliteToPlain, converted, convert}
 use Rattle.conversion.proofs.Acceptance.{whole-passed}
 use Rattle.conversion.proofs.Elite.{elite-number}
-use Rattle.demands.specs.Orders.{Test, firstRefusal, width, height, registers, rowPackOrder, recordMakes}
-use Rattle.demands.specs.Orders.{recordTakes, recordOrder, recordFaults, rowUnpackOrder, lineOutOrder}
-use Rattle.demands.specs.Orders.{lineInOrder, colourOrder, rectangleTests, tallyOrder, pondOrder, runMakes}
-use Rattle.demands.specs.Orders.{noParty, wrongEntry, wrongLegend, anothers, setOrder, releaseOrder}
-use Rattle.demands.specs.Orders.{runTakes, runOrder, degasResolution, degasPacked, rawTests, bodyProgress}
-use Rattle.demands.specs.Orders.{packedTests, degasTests, neochromeTests, rotated, tinyHeader, controlBytes}
-use Rattle.demands.specs.Orders.{dataWords, sectionTests, tinyTests, readOrder, rasterAt, writeOrder, oneOf}
-use Rattle.demands.specs.Orders.{rowPackNumbers, rowUnpackNumbers, colourNumbers, screenNumbers, readNumbers}
-use Rattle.demands.specs.Orders.{writeNumbers, readPlateOrder, writePlateOrder, readPlateNumbers}
-use Rattle.demands.specs.Orders.{writePlateNumbers, conversionOrder, hasTail, lastTail, toEliteOrder}
-use Rattle.demands.specs.Orders.{toPlainOrder, toEliteNumbers, toPlainNumbers, legendNumbers}
+use Rattle.answers.specs.Orders.{Test, firstRefusal, width, height, registers, rowPackOrder, recordMakes}
+use Rattle.answers.specs.Orders.{recordTakes, recordOrder, recordFaults, rowUnpackOrder, lineOutOrder}
+use Rattle.answers.specs.Orders.{lineInOrder, colourOrder, rectangleTests, tallyOrder, pondOrder, runMakes}
+use Rattle.answers.specs.Orders.{noParty, wrongEntry, wrongLegend, anothers, setOrder, releaseOrder}
+use Rattle.answers.specs.Orders.{runTakes, runOrder, degasResolution, degasPacked, rawTests, bodyProgress}
+use Rattle.answers.specs.Orders.{packedTests, degasTests, neochromeTests, rotated, tinyHeader, controlBytes}
+use Rattle.answers.specs.Orders.{dataWords, sectionTests, tinyTests, readOrder, rasterAt, writeOrder, oneOf}
+use Rattle.answers.specs.Orders.{rowPackNumbers, rowUnpackNumbers, colourNumbers, screenNumbers, readNumbers}
+use Rattle.answers.specs.Orders.{writeNumbers, readPlateOrder, writePlateOrder, readPlateNumbers}
+use Rattle.answers.specs.Orders.{writePlateNumbers, conversionOrder, hasTail, lastTail, toEliteOrder}
+use Rattle.answers.specs.Orders.{toPlainOrder, toEliteNumbers, toPlainNumbers, legendNumbers}
 
 -- ---- an outcome judged by tests, in order
 

@@ -1,0 +1,5 @@
+pub mod Examples
+pub mod IndexAnswers
+pub mod IndexRefusals
+pub mod Orders
+pub mod RefusalRows

@@ -1,0 +1,4 @@
+pub mod Examples
+pub mod IndexRefusals
+pub mod Orders
+pub mod RefusalRows
