@@ -53,7 +53,7 @@ static int show_registers(const KutimuqPicture *picture)
     memcpy(palette.words, picture->palette, sizeof palette.words);
     for (unsigned number = 0; number < 1U << shape.planes; number++) {
         KutimuqColourAnswer colour =
-            kutimuq_colour(picture->resolution, palette, (uint8_t)number);
+            kutimuq_colour(picture->resolution, KUTIMUQ_MACHINE_ST, palette, (uint8_t)number);
         if (tally.counts[number] != 0) {
             printf("register %u #%02x%02x%02x %" PRIu32 "\n", number, colour.red, colour.green,
                    colour.blue, tally.counts[number]);

@@ -35,9 +35,9 @@ extern "C" {
 #endif
 
 #define KUTIMUQ_VERSION_MAJOR 0
-#define KUTIMUQ_VERSION_MINOR 5
-#define KUTIMUQ_VERSION_PATCH 1
-#define KUTIMUQ_VERSION "0.5.1"
+#define KUTIMUQ_VERSION_MINOR 6
+#define KUTIMUQ_VERSION_PATCH 0
+#define KUTIMUQ_VERSION "0.6.0"
 
 /* The answer must be looked at; no pointer may be null. */
 #ifdef __GNUC__
@@ -69,8 +69,8 @@ enum KutimuqNumber {
     KUTIMUQ_WRONG_TAIL = 8,
     /* None below 32,000 bytes for DEGAS, below 51,200 for MacPaint. */
     KUTIMUQ_NO_PACKED_BODY = 9,
-    /* Of a row width, line, register, rectangle, party, class, floor, confidence
-       or legend. */
+    /* Of a row width, line, machine, register, rectangle, party, class, floor,
+       confidence or legend. */
     KUTIMUQ_OUT_OF_RANGE = 10,
     /* Of a Tiny file. Place: the control byte's offset, here and for 12. */
     KUTIMUQ_UNDEFINED_CONTROL = 11,
@@ -146,6 +146,9 @@ enum {
     KUTIMUQ_FORM_ELITE_PACKED = 3, /* DEGAS Elite packed, at most 32,065 bytes */
     KUTIMUQ_FORM_NEO = 4           /* NEOchrome, 32,128 bytes */
 };
+
+/* The machine whose colours are shown. */
+enum { KUTIMUQ_MACHINE_ST = 1, KUTIMUQ_MACHINE_STE = 2 };
 
 /* Sizes in bytes. */
 enum {
@@ -365,12 +368,17 @@ KutimuqTallyAnswer kutimuq_tally(const uint8_t *screen, size_t screen_len,
                                  uint16_t resolution, KutimuqRectangle rectangle);
 
 /*
- * The colour of a register. At high resolution register 0 is white and
- * register 1 black, whatever the palette.
- * Refusals in order: 5, 10 register not below 2^planes.
+ * The colour of a register on a machine. On an ST bits 8-10 of its palette word
+ * are red's level, 4-6 green's and 0-2 blue's, and level v is shown as 255v/7
+ * rounded down. On an STE levels are 0 to 15: those bits are a level's upper
+ * three, bits 11, 7 and 3 its lowest, and level v is shown as 17v. Other bits are
+ * ignored. At high resolution register 0 is white and register 1 black, whatever
+ * the palette and the machine.
+ * Refusals in order: 5, 10 machine neither 1 nor 2, or register not below
+ * 2^planes.
  */
 KUTIMUQ_MUST_USE
-KutimuqColourAnswer kutimuq_colour(uint16_t resolution, KutimuqPalette palette,
+KutimuqColourAnswer kutimuq_colour(uint16_t resolution, uint8_t machine, KutimuqPalette palette,
                                    uint8_t register_number);
 
 /* A new legend: all 16 entries free. */

@@ -22,7 +22,10 @@ use Rattle.pack.proofs.Valid.{least-is-least}
 use Rattle.resolution.specs.declared.Resolution.the-variants.{Low}
 use Rattle.raster.specs.Offsets.{groupOffset, wordOffset}
 use Rattle.lines.specs.Registers.{pixelBit, register}
-use Rattle.colour.specs.Palette.{Rgb, stretch, field, wordColour}
+use Rattle.colour.specs.declared.Machine.the-variants.{St}
+use Rattle.colour.specs.Machines.{stretch, nibbleShown}
+use Rattle.colour.specs.declared.Rgb.{Rgb}
+use Rattle.colour.specs.Palette.{nibble, wordColour}
 use Rattle.answers.specs.Examples.{Example, rowPacked, rowUnpacked, coloured, firstRegister, Holds, table}
 
 -- ---- tests of equality
@@ -74,10 +77,10 @@ same-outcome (refused v) (refused w) t =
 
 -- ---- the test of an example, and what it tells
 
-abbrev levels : Rgb → List ℕ
-levels c = c .red ∷ c .green ∷ c .blue ∷ []
+abbrev parts : Rgb → List ℕ
+parts c = c .red ∷ c .green ∷ c .blue ∷ []
 
-same-colour : (c : Rgb) (red green blue : ℕ) → levels c ≡ (red ∷ green ∷ blue ∷ [])
+same-colour : (c : Rgb) (red green blue : ℕ) → parts c ≡ (red ∷ green ∷ blue ∷ [])
     → c ≡ record { red = red; green = green; blue = blue }
 same-colour c red green blue e = go (c .red) (c .green) (c .blue) e
   where
@@ -88,7 +91,7 @@ same-colour c red green blue e = go (c .red) (c .green) (c .blue) e
 unfoldable test : Example → Bool
 test (rowPacked row body) = leb (length row) 128 && same (least row) body
 test (rowUnpacked packed width outcome) = sameOutcome (unpackRow packed width width) outcome
-test (coloured word red green blue) = same (levels (wordColour word)) (red ∷ green ∷ blue ∷ [])
+test (coloured word red green blue) = same (parts (wordColour St word)) (red ∷ green ∷ blue ∷ [])
 test (firstRegister words v) = eqb (register (wordsBytes words) Low 0 0) v
 
 test-holds : (e : Example) → T (test e) → Holds e
@@ -101,7 +104,7 @@ test-holds (rowPacked row body) t =
     )
 test-holds (rowUnpacked packed width outcome) t = same-outcome (unpackRow packed width width) outcome t
 test-holds (coloured word red green blue) t =
-    same-colour (wordColour word) red green blue (same-list (levels (wordColour word)) (red ∷ green ∷ blue ∷ []) t)
+    same-colour (wordColour St word) red green blue (same-list (parts (wordColour St word)) (red ∷ green ∷ blue ∷ []) t)
 test-holds (firstRegister words v) t = eqb→eq (register (wordsBytes words) Low 0 0) v t
 
 -- ---- the table
@@ -118,7 +121,8 @@ at (e ∷ es) t (suc k) h d = at es (both (test e) (every es) t .1) k (le-of-suc
 
 all : T (every table)
 unfolding every test scan packing.prepend unpackRow outcomeOf progress progressWithin unpacking.step recordAt control
-    wordColour field stretch register wordsBytes wordBytes wordAt groupOffset wordOffset pixelBit sum flatten
+    wordColour nibble nibbleShown stretch register wordsBytes wordBytes wordAt groupOffset wordOffset pixelBit sum
+    flatten
 all = tt
 
 -- "The twelve marked P (bytes in hex) form a single table, proved once as a whole against the definitions."

@@ -5,7 +5,7 @@ use mathlib.Core.List.{List}
 use Prim.Native.Nat.{ℕ}
 use Rattle.outcome.specs.Outcome.{Outcome, accepted, refused, refusalOf}
 use Rattle.tally.specs.Counts.{tallyAnswer}
-use Rattle.colour.specs.Palette.{Rgb}
+use Rattle.colour.specs.declared.Rgb.{Rgb}
 use Rattle.colour.specs.Shown.{colourAnswer}
 use Rattle.pond.specs.declared.PondCounts.{PondCounts}
 use Rattle.pond.specs.Reading.{pondAnswer}

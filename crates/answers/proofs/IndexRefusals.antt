@@ -1,11 +1,11 @@
 -- Demand 1 for the index: what any refusal of a tally, a colour, a pond reading and a call on a legend gives.
-use mathlib.Core.Path.{_≡_, refl}
+use mathlib.Core.Path.{refl}
 use mathlib.Core.List.{List}
 use Prim.Native.Nat.{ℕ}
 use Rattle.outcome.specs.Outcome.{Outcome, accepted, refused}
 use Rattle.tally.specs.declared.Rectangle.{Rectangle}
 use Rattle.tally.specs.Counts.{tallied}
-use Rattle.colour.specs.Palette.{Rgb}
+use Rattle.colour.specs.declared.Rgb.{Rgb}
 use Rattle.colour.specs.Shown.{shown}
 use Rattle.legend.specs.declared.Legend.{Legend}
 use Rattle.legend.specs.Setting.{setting, releasing}
@@ -33,8 +33,9 @@ pond-refusal (refused why) h = (refl, refl, refl)
 
 -- ---- each public function
 
-pub colour-refused : (number : ℕ) (palette : List ℕ) (register : ℕ) → ColourRefusal (shown number palette register)
-colour-refused number palette register = colour-refusal (shown number palette register)
+pub colour-refused : (number machine : ℕ) (palette : List ℕ) (register : ℕ)
+    → ColourRefusal (shown number machine palette register)
+colour-refused number machine palette register = colour-refusal (shown number machine palette register)
 
 pub tally-refused : (screen : List ℕ) (number : ℕ) (a : Rectangle) → TallyRefusal (tallied screen number a)
 tally-refused screen number a = tally-refusal (tallied screen number a)

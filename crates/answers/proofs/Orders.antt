@@ -41,7 +41,11 @@ use Rattle.tally.specs.Counts.{counts, tallied, tallyAnswer}
 use Rattle.bodies.specs.Unpacking.{UnpackedBody, bodyOf, unpackedAnswer}
 use Rattle.bodies.specs.Reading.{judgeEnd, readBody}
 use Rattle.bodies.specs.Packing.{leastBody, PackedBody}
-use Rattle.colour.specs.Palette.{Rgb}
+use Rattle.colour.specs.declared.ChosenMachine.{ChosenMachine}
+use Rattle.colour.specs.declared.Machine.{Machine}
+use Rattle.colour.specs.declared.Machine.the-variants.{St, Ste}
+use Rattle.colour.specs.Machines.{judgeMachine, withMachine}
+use Rattle.colour.specs.declared.Rgb.{Rgb}
 use Rattle.colour.specs.Shown.{judgeRegister, shown, colourAnswer}
 use Rattle.legend.specs.declared.Legend.{Legend}
 use Rattle.legend.specs.Entries.{isParty, isAnothers, owns, ownerOf, classOf, confidenceOf, registerFits, classFits}
@@ -90,7 +94,7 @@ use Rattle.conversion.proofs.Elite.{elite-number}
 use Rattle.answers.specs.Orders.{Test, firstRefusal, width, height, registers, rowPackOrder, recordMakes}
 use Rattle.answers.specs.Orders.{recordTakes, recordOrder, recordFaults, rowUnpackOrder, lineOutOrder}
 use Rattle.answers.specs.Orders.{lineInOrder, colourOrder, rectangleTests, tallyOrder, pondOrder, runMakes}
-use Rattle.answers.specs.Orders.{noParty, wrongEntry, wrongLegend, anothers, setOrder, releaseOrder}
+use Rattle.answers.specs.Orders.{noMachine, noParty, wrongEntry, wrongLegend, anothers, setOrder, releaseOrder}
 use Rattle.answers.specs.Orders.{runTakes, runOrder, degasResolution, degasPacked, rawTests, bodyProgress}
 use Rattle.answers.specs.Orders.{packedTests, degasTests, neochromeTests, rotated, tinyHeader, controlBytes}
 use Rattle.answers.specs.Orders.{dataWords, sectionTests, tinyTests, readOrder, rasterAt, writeOrder, oneOf}
@@ -134,6 +138,18 @@ outside n most h = go (eqb n 0) refl
     go : (b : Bool) → eqb n 0 ≡ b → b || ltb most n ≡ true
     go true e = refl
     go false e = lt-ltb most n (h (eqb-false n 0 e))
+
+-- a machine's number, 10 for neither 1 nor 2, and then what is judged on the machine
+module _ {A : Type 0} (number : Outcome A → ℕ) (is : (n : ℕ) → number (refuse n) ≡ n) where
+  first-machine : (machine : ℕ) (further : Machine → Outcome A) {next : ℕ} → ((m : Machine) → number (further m) ≡ next)
+      → number (withMachine machine further) ≡ cond (noMachine machine) 10 next
+  first-machine machine further {next} h =
+      cond-eqb Is machine 1 (λ e. rw e (h St)) (λ not1.
+      cond-eqb Is machine 2 (λ e. rw e (h Ste)) (λ not2.
+      rw (outside machine 2 (λ not0. omega arith)) (is 10)))
+    where
+      Is : ChosenMachine → Type 0
+      Is c = number (judgeMachine c further) ≡ cond (noMachine machine) 10 next
 
 -- ---- one row
 
@@ -266,17 +282,22 @@ module _ (screen : List ℕ) (number y : ℕ) (line : List ℕ) where
 abbrev colourNumber : Outcome Rgb → ℕ
 colourNumber o = colourAnswer o .refusal .number
 
-pub colour-order : (number : ℕ) (palette : List ℕ) (register : ℕ)
-    → colourNumber (shown number palette register) ≡ firstRefusal (colourOrder number register)
+pub colour-order : (number machine : ℕ) (palette : List ℕ) (register : ℕ)
+    → colourNumber (shown number machine palette register) ≡ firstRefusal (colourOrder number machine register)
 unfolding shown judgeRegister
-colour-order number palette register =
-    first-resolution colourNumber (λ n. refl) number (judgeRegister palette register)
-    (λ n. firstRefusal ((leb (registers n) register, 10) ∷ []))
+colour-order number machine palette register =
+    first-resolution colourNumber (λ n. refl) number judged
+    (λ n. firstRefusal ((noMachine machine, 10) ∷ (leb (registers n) register, 10) ∷ []))
     (at Low) (at Medium) (at High)
   where
-    at : (r : Resolution) → colourNumber (judgeRegister palette register r)
-        ≡ firstRefusal ((leb (registersOf r) register, 10) ∷ [])
-    at r = first-test colourNumber (λ n. refl) (leb (registersOf r) register) outOfRange (λ _. refl)
+    judged : Resolution → Outcome Rgb
+    judged r = withMachine machine (λ m. judgeRegister r m (getD palette register 0) register)
+
+    at : (r : Resolution)
+        → colourNumber (judged r) ≡ firstRefusal ((noMachine machine, 10) ∷ (leb (registersOf r) register, 10) ∷ [])
+    at r =
+        first-machine colourNumber (λ n. refl) machine (λ m. judgeRegister r m (getD palette register 0) register) (λ m.
+        first-test colourNumber (λ n. refl) (leb (registersOf r) register) outOfRange (λ _. refl))
 
 -- what is not at most a number is above it
 above : (m n : ℕ) → ltb n m ≡ not (leb m n)
@@ -914,10 +935,10 @@ pub line-in-numbers : (screen : List ℕ) (number y : ℕ) (line : List ℕ)
 line-in-numbers screen number y line =
     in-order screenNumbers (lineInOrder screen number y line) (line-in-order screen number y line) refl
 
-pub colour-numbers : (number : ℕ) (palette : List ℕ) (register : ℕ)
-    → oneOf colourNumbers (colourNumber (shown number palette register)) ≡ true
-colour-numbers number palette register =
-    in-order colourNumbers (colourOrder number register) (colour-order number palette register) refl
+pub colour-numbers : (number machine : ℕ) (palette : List ℕ) (register : ℕ)
+    → oneOf colourNumbers (colourNumber (shown number machine palette register)) ≡ true
+colour-numbers number machine palette register =
+    in-order colourNumbers (colourOrder number machine register) (colour-order number machine palette register) refl
 
 pub tally-numbers : (screen : List ℕ) (number : ℕ) (a : Rectangle)
     → oneOf screenNumbers (tallyNumber (tallied screen number a)) ≡ true

@@ -31,6 +31,11 @@ use Rattle.lines.specs.Lines.{judgeLineAt, registersFit, lineOut, lineIn}
 use Rattle.tally.specs.declared.Rectangle.{Rectangle}
 use Rattle.tally.specs.Rectangles.{rectangleFits, judgeRectangle}
 use Rattle.tally.specs.Counts.{tallied, tallyAnswer}
+use Rattle.colour.specs.declared.ChosenMachine.{ChosenMachine}
+use Rattle.colour.specs.declared.ChosenMachine.the-variants.{Known, Unknown}
+use Rattle.colour.specs.declared.Machine.{Machine}
+use Rattle.colour.specs.Machines.{chosenMachine, judgeMachine, withMachine}
+use Rattle.colour.specs.declared.Rgb.{Rgb}
 use Rattle.colour.specs.Shown.{judgeRegister, shown, colourAnswer}
 use Rattle.legend.specs.declared.Legend.{Legend}
 use Rattle.legend.specs.Entries.{isAnothers, owns}
@@ -325,13 +330,22 @@ release-zero l party register =
     (by-if (not (callFits l party register)) outOfRange
     (by-if (not (owns l party register)) notOwned (accepts _)))
 
-pub colour-zero : (number : ℕ) (palette : List ℕ) (register : ℕ)
-    → BothZero (colourAnswer (shown number palette register) .refusal)
+by-machine : {A : Type 0} (machine : ℕ) (further : Machine → Outcome A)
+    → ((m : Machine) → ZeroExcept NoNumber (further m)) → ZeroExcept NoNumber (withMachine machine further)
+by-machine machine further p = go (chosenMachine machine)
+  where
+    go : (c : ChosenMachine) → ZeroExcept NoNumber (judgeMachine c further)
+    go (Known m) = p m
+    go Unknown = refuses outOfRange 0
+
+pub colour-zero : (number machine : ℕ) (palette : List ℕ) (register : ℕ)
+    → BothZero (colourAnswer (shown number machine palette register) .refusal)
 unfolding shown judgeRegister
-colour-zero number palette register =
-    answer-zero (shown number palette register) (colour-answer (shown number palette register))
-    (by-resolution number (judgeRegister palette register)
-    (λ r. by-if (leb (registersOf r) register) outOfRange (accepts _)))
+colour-zero number machine palette register =
+    let o : Outcome Rgb = shown number machine palette register in
+    answer-zero o (colour-answer o)
+    (by-resolution number _ (λ r. by-machine machine _ (λ m.
+    by-if (leb (registersOf r) register) outOfRange (accepts _))))
 
 -- ---- writing a file
 

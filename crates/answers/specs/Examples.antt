@@ -11,6 +11,7 @@ use Rattle.packbits.specs.Unpack.{unpackRow}
 use Rattle.pack.specs.IsLeast.{IsLeast}
 use Rattle.resolution.specs.declared.Resolution.the-variants.{Low}
 use Rattle.lines.specs.Registers.{register}
+use Rattle.colour.specs.declared.Machine.the-variants.{St}
 use Rattle.colour.specs.Palette.{wordColour}
 
 pub data Example : Type 0 where
@@ -18,7 +19,7 @@ pub data Example : Type 0 where
   rowPacked : List ℕ → List ℕ → Example
   -- packed bytes, a row's width, and what unpacking comes to
   rowUnpacked : List ℕ → ℕ → Outcome Row → Example
-  -- a palette word, and its red, green and blue
+  -- a palette word, and its red, green and blue on an ST
   coloured : ℕ → ℕ → ℕ → ℕ → Example
   -- the plane words of the first group at low resolution, and the first register
   firstRegister : List ℕ → ℕ → Example
@@ -27,7 +28,7 @@ pub data Example : Type 0 where
 abbrev pub Holds : Example → Type 0
 Holds (rowPacked row body) = (records : ℕ) × IsLeast row body records
 Holds (rowUnpacked packed width outcome) = unpackRow packed width width ≡ outcome
-Holds (coloured word red green blue) = wordColour word ≡ record { red = red; green = green; blue = blue }
+Holds (coloured word red green blue) = wordColour St word ≡ record { red = red; green = green; blue = blue }
 Holds (firstRegister words v) = register (wordsBytes words) Low 0 0 ≡ v
 
 abbrev pub table : List Example

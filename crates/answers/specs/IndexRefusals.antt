@@ -6,7 +6,7 @@ use mathlib.Core.List.{List}
 use lib.ListN.{replicate}
 use Rattle.outcome.specs.Outcome.{Outcome}
 use Rattle.tally.specs.Counts.{tallyAnswer}
-use Rattle.colour.specs.Palette.{Rgb}
+use Rattle.colour.specs.declared.Rgb.{Rgb}
 use Rattle.colour.specs.Shown.{colourAnswer}
 use Rattle.legend.specs.declared.Legend.{Legend}
 use Rattle.legend.specs.Setting.{legendAnswer}

@@ -1,6 +1,6 @@
 -- The order of judging of each operation as the papers give it (document 01, "Order of judging", "Numbers given back";
--- document 02, tickets 1, 7, 8 and 9): a list of tests, each with its refusal number. The papers' numbers stand here a
--- second time; that the contracts' definitions judge in these orders is proved (proofs/Orders.antt).
+-- document 02, tickets 1, 4, 7, 8 and 9): a list of tests, each with its refusal number. The papers' numbers stand here
+-- a second time; that the contracts' definitions judge in these orders is proved (proofs/Orders.antt).
 use Prim.Native.Nat.{ℕ, _+_, _-_, _*_, _/_, _%_, _^_}
 use mathlib.Core.Bool.{Bool, false, not, cond, _&&_, _||_}
 use mathlib.Core.List.{List, [], _∷_, _++_}
@@ -105,9 +105,14 @@ lineInOrder screen number y line =
 
 -- ---- colour, tally and pond reading
 
--- "5, 10 (register not below 2^planes)"
-abbrev pub colourOrder : ℕ → ℕ → List Test
-colourOrder number register = (ltb 2 number, 5) ∷ (leb (registers number) register, 10) ∷ []
+-- document 02, ticket 4: "machine 1, ST, or 2, STE"
+abbrev pub noMachine : ℕ → Bool
+noMachine machine = eqb machine 0 || ltb 2 machine
+
+-- "5, 10 (register not below 2^planes)"; "10 for another machine, judged after 5"
+abbrev pub colourOrder : ℕ → ℕ → ℕ → List Test
+colourOrder number machine register =
+    (ltb 2 number, 5) ∷ (noMachine machine, 10) ∷ (leb (registers number) register, 10) ∷ []
 
 -- "1, 5, 10"; "left plus columns must not exceed the width, nor top plus lines the height"
 abbrev pub rectangleTests : List ℕ → ℕ → Rectangle → List Test → List Test

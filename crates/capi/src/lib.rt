@@ -129,11 +129,16 @@ pub extern "C" fn kutimuq_tally(screen: &[u8], resolution: u16, rectangle: Recta
 
 // Colour.
 #[no_mangle]
-pub extern "C" fn kutimuq_colour(resolution: u16, palette: Palette, register: u8) -> ColourAnswer
-    ensures { λ a. ⌜ a ≡ colourAnswer (shown resolution (palette .words) register) ⌝ }
+pub extern "C" fn kutimuq_colour(
+    resolution: u16,
+    machine: u8,
+    palette: Palette,
+    register: u8,
+) -> ColourAnswer
+    ensures { λ a. ⌜ a ≡ colourAnswer (shown resolution machine (palette .words) register) ⌝ }
 {
     let words = palette.words;
-    colour::colour(resolution, words, register)
+    colour::colour(resolution, machine, words, register)
 }
 
 // A new legend.

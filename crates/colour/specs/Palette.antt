@@ -1,26 +1,20 @@
--- The colour of a palette word (document 01, "Three resolutions": colour).
+-- The colour of a palette word on a machine (document 01, "Three resolutions": colour; document 02, ticket 4).
 use Prim.Native.Nat.{ℕ, _/_, _%_, _^_}
-use mathlib.Core.List.{List, [], _∷_}
-use lib.ListN.{getD}
+use mathlib.Core.Path.{_≡_}
+use Rattle.colour.specs.declared.Machine.{Machine}
+use Rattle.colour.specs.declared.Rgb.{Rgb}
+use Rattle.colour.specs.Machines.{nibbleShown}
 
--- red, green and blue, each 0 to 255
-pub record Rgb : Type 0 where
-  pub red : ℕ
-  pub green : ℕ
-  pub blue : ℕ
+-- the nibble that a word holds in its four bits from a bit up
+unfoldable pub nibble : ℕ → ℕ → ℕ
+nibble word bit = word / 2 ^ bit % 16
 
--- levels 0 to 7 as they are shown, 0 to 255; `proofs/Palette.antt` has the rule
-abbrev pub levels : List ℕ
-levels = 0 ∷ 36 ∷ 72 ∷ 109 ∷ 145 ∷ 182 ∷ 218 ∷ 255 ∷ []
+-- bits 8 to 11 are red's nibble, 4 to 7 green's, 0 to 3 blue's; bits 12 to 15 are ignored
+unfoldable pub wordColour : Machine → ℕ → Rgb
+wordColour m word = record
+    { red = nibbleShown m (nibble word 8); green = nibbleShown m (nibble word 4); blue = nibbleShown m (nibble word 0) }
 
--- level v stretched to 0 to 255
-unfoldable pub stretch : ℕ → ℕ
-stretch v = getD levels v 0
-
--- the level that a word holds in its three bits from bit n up; other bits are ignored
-unfoldable pub field : ℕ → ℕ → ℕ
-field word n = word / 2 ^ n % 8
-
--- bits 8 to 10 are red, 4 to 6 green, 0 to 2 blue
-unfoldable pub wordColour : ℕ → Rgb
-wordColour word = record { red = stretch (field word 8); green = stretch (field word 4); blue = stretch (field word 0) }
+-- two words with the same bits, but for some of bits 3, 7 and 11
+abbrev pub SameBut3·7·11 : ℕ → ℕ → Type 0
+SameBut3·7·11 a b =
+    (k : ℕ) → (k ≡ 3 → ⊥) → (k ≡ 7 → ⊥) → (k ≡ 11 → ⊥) → a / 2 ^ k % 2 ≡ b / 2 ^ k % 2

@@ -1,4 +1,5 @@
--- The colour that a register shows (document 01, "Three resolutions", "Order of judging": colour).
+-- The colour that a register shows (document 01, "Three resolutions", "Order of judging": colour; document 02, ticket
+-- 4).
 use Prim.Native.Nat.{ℕ}
 use mathlib.Core.Bool.{cond}
 use mathlib.Core.List.{List}
@@ -11,7 +12,10 @@ use Rattle.resolution.specs.declared.Resolution.the-variants.{Low, Medium, High
 use Rattle.resolution.specs.Shapes.{registersOf}
 use Rattle.resolution.specs.Choice.{withResolution}
 use Rattle.colour.specs.declared.ColourAnswer.{ColourAnswer}
-use Rattle.colour.specs.Palette.{Rgb, wordColour}
+use Rattle.colour.specs.declared.Machine.{Machine}
+use Rattle.colour.specs.declared.Rgb.{Rgb}
+use Rattle.colour.specs.Machines.{withMachine}
+use Rattle.colour.specs.Palette.{wordColour}
 
 abbrev pub white : Rgb
 white = record { red = 255; green = 255; blue = 255 }
@@ -19,20 +23,21 @@ white = record { red = 255; green = 255; blue = 255 }
 abbrev pub black : Rgb
 black = record { red = 0; green = 0; blue = 0 }
 
--- the colour of a register: at high resolution 0 is white and 1 black, whatever the palette holds
-unfoldable pub registerColour : Resolution → List ℕ → ℕ → Rgb
-registerColour Low palette register = wordColour (getD palette register 0)
-registerColour Medium palette register = wordColour (getD palette register 0)
-registerColour High palette register = cond (eqb register 0) white black
+-- the colour of a register with its palette word: at high resolution 0 is white and 1 black, whatever the word
+unfoldable pub registerColour : Resolution → Machine → ℕ → ℕ → Rgb
+registerColour Low m word register = wordColour m word
+registerColour Medium m word register = wordColour m word
+registerColour High m word register = cond (eqb register 0) white black
 
--- a register judged at a known resolution
-unfoldable pub judgeRegister : List ℕ → ℕ → Resolution → Outcome Rgb
-judgeRegister palette register r =
-    refuseIf (leb (registersOf r) register) outOfRange (accepted (registerColour r palette register))
+-- a register judged at a known resolution, on a known machine
+unfoldable pub judgeRegister : Resolution → Machine → ℕ → ℕ → Outcome Rgb
+judgeRegister r m word register =
+    refuseIf (leb (registersOf r) register) outOfRange (accepted (registerColour r m word register))
 
--- colour: the resolution's number is judged, then the register
-unfoldable pub shown : ℕ → List ℕ → ℕ → Outcome Rgb
-shown resolution palette register = withResolution resolution (judgeRegister palette register)
+-- colour: the resolution's number is judged, then the machine's, then the register; its word is the palette's
+unfoldable pub shown : ℕ → ℕ → List ℕ → ℕ → Outcome Rgb
+shown resolution machine palette register =
+    withResolution resolution (λ r. withMachine machine (λ m. judgeRegister r m (getD palette register 0) register))
 
 -- a refusal gives 0 in all else
 abbrev pub colourAnswer : Outcome Rgb → ColourAnswer

@@ -1,9 +1,9 @@
 -- Demand 1: "Bad input gets the refusal number that document 01 gives for it, and then no byte of any lent area has
 -- changed." Which number it is, the contracts' definitions say; here, for each public function, what any refusal leaves
--- and gives. Those of the index, which change no area, are in answers/proofs/IndexRefusals.antt. `report::summarise` has
--- its own law (report/proofs/Summary.antt, `summary-refused`). `unpack::unpack_into` and `unpack::unpack_rows` write
--- what the whole records before a fault make, as their contracts say, and so does `bodies::read_body` into its buffer;
--- the operations above them lend them areas of their own. `words::put_words` refuses nothing.
+-- and gives. Those of the index, which change no area, are in answers/proofs/IndexRefusals.antt. `report::summarise`
+-- has its own law (report/proofs/Summary.antt, `summary-refused`). `unpack::unpack_into` and `unpack::unpack_rows`
+-- write what the whole records before a fault make, as their contracts say, and so does `bodies::read_body` into its
+-- buffer; the operations above them lend them areas of their own. `words::put_words` refuses nothing.
 use mathlib.Core.Path.{_≡_, refl}
 use mathlib.Core.Bool.{false}
 use mathlib.Core.List.{List}

@@ -4,9 +4,9 @@ use picture::FILE_BYTES;
 use resolution::SCREEN_BYTES;
 use writer::FORM_NEOCHROME;
 
-// Writes a label and the colour of a register at high resolution.
+// Writes a label and the colour of a register at high resolution, of an ST.
 fn show_high(label: &[u8], register: u8) {
-    let shown = colour::colour(2, [0x0123u16; 16], register);
+    let shown = colour::colour(2, 1, [0x0123u16; 16], register);
     io::write_all(STDOUT_FILENO, label);
     io::write_all(STDOUT_FILENO, b": ");
     io::print_decimal(STDOUT_FILENO, shown.red as u64);

@@ -219,8 +219,13 @@ fn index_orders() {
     };
     let pond = pond::read_pond(&screen, RESOLUTION, rectangle, 1, 0, 101, legend);
     show_refusal(b"pond reading, resolution 3, confidence 101", pond.refusal);
-    let colour = colour::colour(RESOLUTION, [0u16; 16], 16);
-    show_refusal(b"colour, resolution 3, register 16", colour.refusal);
+    let colour = colour::colour(RESOLUTION, 3, [0u16; 16], 16);
+    show_refusal(
+        b"colour, resolution 3, machine 3, register 16",
+        colour.refusal,
+    );
+    let on_another = colour::colour(0, 3, [0u16; 16], 0);
+    show_refusal(b"colour, machine 3", on_another.refusal);
 }
 
 // An entry set and released: 10, 19.

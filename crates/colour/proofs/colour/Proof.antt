@@ -8,8 +8,9 @@ use Rattle.colour.proofs.colour.Tie as tie
 returns : tie.Need-returns
 unfolding shown
 returns c =
-    let e = sym (c .before .before .before .before .from-number .ensures) ∙ c .before .before .r .given .1 in
-    rw e (c .colour-at .ensures)
+    let w = c .before in
+    let e = sym (w .before .before .before .before .from-number .ensures) ∙ w .before .before .r .given .1 in
+    rw (e, sym (w .palette-word .ensures)) (c .colour-at .ensures)
 
 returns-2 : tie.Need-returns-2
 unfolding shown
@@ -24,6 +25,7 @@ colour-spec =
     (tie.spec
     (λ c κs. search needs)
     (λ c. search needs)
+    (λ c κs. search needs)
     (λ c κs. search needs)
     (λ c. search needs)
     (λ c κs. search needs)

@@ -1,6 +1,6 @@
 -- `colour::stretch` meets its contract: the same list.
 use mathlib.Core.Path.{refl}
-use Rattle.colour.specs.Palette.{stretch}
+use Rattle.colour.specs.Machines.{stretch}
 use borrow.Author.Needs.{needs}
 use Rattle.colour.proofs.stretch.Statement.{statement}
 use Rattle.colour.proofs.stretch.Tie as tie

@@ -1,4 +1,4 @@
--- `colour::word_colour` meets its contract: each part is its level, stretched.
+-- `colour::word_colour` meets its contract: each part is what its nibble shows.
 use Rattle.colour.specs.Palette.{wordColour}
 use borrow.Author.Needs.{needs}
 use Rattle.colour.proofs.word_colour.Statement.{statement}
@@ -12,7 +12,6 @@ pub word-colour-spec : {M : Type 1} → statement M
 word-colour-spec =
     tie.close
     (tie.spec
-    (λ c κs. search needs)
     (λ c κs. search needs)
     (λ c κs. search needs)
     (λ c κs. search needs)
