@@ -3,9 +3,9 @@
 #
 # Usage: instructions.sh [OPERATION...]
 #
-# OPERATION is an operation of the tables of times, or pack-row alone; sixteen are counted where none is named. The
+# OPERATION is an operation of the tables of times, or pack-row alone; seventeen are counted where none is named. The
 # environment variable SCREEN is a screen of the first table, by default map; 64 screens in turn count as one call.
-# An operation on plates is counted on each plate, one on legends on each legend.
+# An operation on plates is counted on each plate, one on legends on each legend, colours on each machine.
 set -eu
 
 # Valgrind counts each byte of a rep movsb as one instruction: here no copy is long enough for one.
@@ -116,6 +116,20 @@ legend_lines() {
     done
 }
 
+machine_lines() {
+    echo "| operation | st | ste | Rust st | Rust ste | ratio |"
+    echo "|---|---|---|---|---|---|"
+    counts=
+    for by in "" rust-; do
+        for machine in st ste; do
+            count=$(instructions "${by}colours" $machine machine)
+            counts="$counts $count"
+        done
+    done
+    # shellcheck disable=SC2086 # one word a count
+    columns colours $counts
+}
+
 row_lines() {
     echo "| width of a row packed | library | Rust | ratio |"
     echo "|---|---|---|---|"
@@ -129,12 +143,14 @@ row_lines() {
 pictures=
 plates=
 legends=
+machines=
 case "$*" in
 "")
     pictures="packed-read tiny-read form3-write to-elite to-plain"
     pictures="$pictures lines-in lines-out screen-in screen-out tally pond raw-read"
     plates="plate-read plate-write"
     legends="set-entry release-entry"
+    machines=colours
     ;;
 pack-row) ;;
 *)
@@ -142,6 +158,7 @@ pack-row) ;;
         case $operation in
         plate-*) plates="$plates $operation" ;;
         *-entry) legends="$legends $operation" ;;
+        colours) machines=colours ;;
         *) pictures="$pictures $operation" ;;
         esac
     done
@@ -167,4 +184,8 @@ fi
 if [ -n "$legends" ]; then
     echo
     legend_lines $legends
+fi
+if [ -n "$machines" ]; then
+    echo
+    machine_lines
 fi

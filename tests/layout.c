@@ -1,6 +1,6 @@
 /* Prints what kutimuq.h declares, without its prefix, as `kutimuq-tests --layout`
    does for the Rust side: each struct with its fields, the version, refusal
-   numbers with their meanings, kinds and forms, sizes and shapes. */
+   numbers with their meanings, kinds, forms and machines, sizes and shapes. */
 
 #include <stdalign.h>
 #include <stddef.h>
@@ -150,6 +150,8 @@ static void print_constants(void)
     CONSTANT(FORM_ELITE_RAW);
     CONSTANT(FORM_ELITE_PACKED);
     CONSTANT(FORM_NEO);
+    CONSTANT(MACHINE_ST);
+    CONSTANT(MACHINE_STE);
     CONSTANT(SCREEN_BYTES);
     CONSTANT(LONGEST_FILE);
     CONSTANT(LONGEST_TINY_FILE);

@@ -7,8 +7,10 @@
 //! picture of the series. OPERATION is a name of the table, `rust-` and such a name, or
 //! `memcpy`; or `pack-row` or `rust-pack-row`, with a row width in place of the resolution. With
 //! `plate` in place of the resolution OPERATION is one on plates or `memcpy`, and SCREEN a plate;
-//! with `legend` it is one on legends, and SCREEN a legend.
+//! with `legend` it is one on legends, and SCREEN a legend; with `machine` it is `colours`, and
+//! SCREEN a machine.
 
+mod colours;
 mod legends;
 mod operations;
 mod pictures;
@@ -18,6 +20,7 @@ mod times;
 
 use std::process::ExitCode;
 
+use colours::{COLOURS, MACHINES};
 use kutimuq_tests::reference::PACK_AREA_BYTES;
 use legends::{LEGENDS, LEGEND_OPERATIONS};
 use operations::{By, OPERATIONS};
@@ -51,6 +54,7 @@ fn once(operation: &str, screen: &str, size: &str, times: &str) -> Option<()> {
     match size {
         "plate" => return once_a_plate(name, by, screen, times),
         "legend" => return once_a_legend(name, by, screen, times),
+        "machine" => return once_a_machine(name, by, screen, times),
         _ => {}
     }
     let series = named(&SERIES, screen)?;
@@ -86,6 +90,11 @@ fn once_a_legend(name: &str, by: By, legend: &str, times: usize) -> Option<()> {
     let operation = named(LEGEND_OPERATIONS, name)?;
     (0..times).for_each(|_| legends::run(operation, by, &legend));
     Some(())
+}
+
+fn once_a_machine(name: &str, by: By, machine: &str, times: usize) -> Option<()> {
+    let machine = named(&MACHINES, machine)?;
+    (name == COLOURS).then(|| (0..times).for_each(|_| colours::run(by, machine)))
 }
 
 fn named<T: Copy>(table: &[(T, &str)], name: &str) -> Option<T> {

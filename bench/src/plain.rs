@@ -2,6 +2,7 @@
 //!
 //! Each judges before it writes, as the library does.
 
+mod colours;
 mod conversion;
 mod counts;
 mod degas;
@@ -13,6 +14,7 @@ mod screens;
 mod tiny;
 mod unpacking;
 
+pub use colours::colour;
 pub use conversion::{to_elite, to_plain};
 pub use counts::{pond, tally};
 pub use legends::{release_entry, set_entry};

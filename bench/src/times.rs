@@ -4,6 +4,7 @@ use std::time::Instant;
 
 use kutimuq_tests::reference::PACK_AREA_BYTES;
 
+use crate::colours::{self, COLOURS, MACHINES};
 use crate::legends::{self, LEGENDS, LEGEND_OPERATIONS};
 use crate::operations::{self, By, Operation, OPERATIONS};
 use crate::pictures::{Subject, RESOLUTIONS, SERIES};
@@ -38,7 +39,7 @@ fn least_times<const JOBS: usize>(rounds: usize, mut job: impl FnMut(usize)) -> 
 struct Measured {
     operation: &'static str,
     screen: &'static str,
-    /// A resolution, a row's width, "plate" or "legend".
+    /// A resolution, a row's width, "plate", "legend" or "machine".
     size: String,
     ratio: f64,
 }
@@ -51,6 +52,8 @@ pub fn print_tables() {
     all.extend(print_rows());
     println!();
     all.extend(print_legends());
+    println!();
+    all.extend(print_colours());
     println!();
     print_worst(&all);
 }
@@ -170,6 +173,25 @@ fn print_legends() -> Vec<Measured> {
             Measured { operation: operation_name, screen: name, size, ratio }
         })
         .collect()
+}
+
+/// The colours of all registers on each machine.
+fn print_colours() -> Vec<Measured> {
+    println!("nanoseconds per 16 colours; ratio: library / Rust");
+    println!();
+    println!("| operation | machine | library | Rust | ratio |");
+    println!("|---|---|---|---|---|");
+    assert!(colours::agree(), "{COLOURS}: library and plain Rust differ");
+    let measure = |(machine, name)| {
+        let [library, plain] = least_times(ROUNDS, |number| {
+            let by = if number == 0 { By::Library } else { By::Plain };
+            colours::run(by, machine);
+        });
+        let ratio = library / plain;
+        println!("| {COLOURS} | {name} | {library:.1} | {plain:.1} | {ratio:.2} |");
+        Measured { operation: COLOURS, screen: name, size: "machine".to_string(), ratio }
+    };
+    MACHINES.map(measure).into()
 }
 
 /// The worst ratio of each operation over all screens and resolutions.

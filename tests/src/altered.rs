@@ -1,10 +1,12 @@
 //! The reference altered: wrong versions that the checks must find.
 
+mod colours;
 mod conversions;
 mod legends;
 mod plates;
 mod ponds;
 
+pub use colours::{ShowColour, RARELY_WRONG_COLOURS, WRONG_COLOURS};
 pub use conversions::{
     Convert, ConvertBy, RARELY_WRONG_TO_ELITE, RARELY_WRONG_TO_PLAIN, WRONG_BOTH_WAYS,
     WRONG_TO_ELITE, WRONG_TO_PLAIN,
@@ -33,6 +35,7 @@ pub enum Altered {
     LinesBottomUp,
     /// Entries past the last pixel of a whole screen judged.
     AllEntriesJudged,
+    Colour(ShowColour),
     NewLegend(NewLegend),
     SetEntry(SetEntry),
     ReleaseEntry(ReleaseEntry),
@@ -129,8 +132,11 @@ impl Operations for Altered {
         Reference.tally(screen, resolution, area)
     }
 
-    fn colour(&self, resolution: u16, palette: Palette, register: u8) -> ColourAnswer {
-        Reference.colour(resolution, palette, register)
+    fn colour(&self, resolution: u16, machine: u8, palette: Palette, register: u8) -> ColourAnswer {
+        match self {
+            Altered::Colour(colour) => colour(resolution, machine, palette, register),
+            _ => Reference.colour(resolution, machine, palette, register),
+        }
     }
 
     fn new_legend(&self) -> Legend {

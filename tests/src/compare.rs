@@ -192,12 +192,14 @@ impl<'a> Comparison<'a> {
         });
     }
 
-    pub fn colour(&mut self, resolution: u16, palette: Palette, register: u8) {
+    pub fn colour(&mut self, resolution: u16, machine: u8, palette: Palette, register: u8) {
         self.prepare(&[], 0);
-        let expected = reference::colour(resolution, palette, register);
-        let actual = self.library.colour(resolution, palette, register);
+        let expected = reference::colour(resolution, machine, palette, register);
+        let actual = self.library.colour(resolution, machine, palette, register);
         self.judge(expected, actual, &[], || {
-            format!("resolution {resolution}, register {register}, {palette:04X?}")
+            format!(
+                "resolution {resolution}, machine {machine}, register {register}, {palette:04X?}"
+            )
         });
     }
 

@@ -1,6 +1,8 @@
 //! Every example of document 01, as a check of its own, on one implementation; then Tiny files,
-//! rows at fault, legends, DEGAS files made Elite and plain, and MacPaint plates.
+//! rows at fault, colours on two machines, legends, DEGAS files made Elite and plain, and MacPaint
+//! plates.
 
+mod colours;
 mod conversion;
 mod legend;
 mod macpaint;
@@ -10,7 +12,7 @@ mod tiny;
 
 use crate::generate::{blank_file, screen_of_rows, shape_of};
 use crate::operations::Operations;
-use crate::reference::{self, Shape, KIND_DEGAS, SCREEN_BYTES, WRITE_AREA_BYTES};
+use crate::reference::{self, Shape, KIND_DEGAS, MACHINE_ST, SCREEN_BYTES, WRITE_AREA_BYTES};
 use crate::report::Report;
 use kutimuq::ffi::*;
 use kutimuq::refusal::{self, Refusal};
@@ -55,9 +57,16 @@ pub fn run(operations: &dyn Operations, report: &mut Report) {
     tiny::run(&mut examples);
     examples.report.section(&format!("examples of faults: {}", operations.name()));
     row_at_fault::run(&mut examples);
+    run_colours(operations, report);
     run_legends(operations, report);
     run_conversions(operations, report);
     run_plates(operations, report);
+}
+
+/// Only the examples of colours on two machines.
+pub fn run_colours(operations: &dyn Operations, report: &mut Report) {
+    report.section(&format!("examples of colours: {}", operations.name()));
+    colours::run(&mut Examples { operations, report });
 }
 
 /// Only the examples of legends and of pond readings.
@@ -145,9 +154,10 @@ impl Examples<'_> {
         self.colour("high resolution, register 1", 2, 0x0735, 1, [0; 3]);
     }
 
+    /// On an ST, with the word in every register.
     fn colour(&mut self, name: &str, resolution: u16, word: u16, register: u8, rgb: [u8; 3]) {
         let palette = Palette { words: [word; 16] };
-        let answer = self.operations.colour(resolution, palette, register);
+        let answer = self.operations.colour(resolution, MACHINE_ST, palette, register);
         let [red, green, blue] = rgb;
         self.equal(name, answer, ColourAnswer { red, green, blue, ..ColourAnswer::default() });
     }

@@ -1,5 +1,5 @@
 //! The C interface as text: each struct with its fields, the version, refusal
-//! numbers with their meanings, kinds and forms, sizes and shapes.
+//! numbers with their meanings, kinds, forms and machines, sizes and shapes.
 //!
 //! layout.c prints the same text from the header; layout.sh compares the two.
 
@@ -73,6 +73,8 @@ fn constants() -> Vec<String> {
         ("FORM_ELITE_RAW", usize::from(FORM_ELITE_RAW)),
         ("FORM_ELITE_PACKED", usize::from(FORM_ELITE_PACKED)),
         ("FORM_NEO", usize::from(FORM_NEO)),
+        ("MACHINE_ST", usize::from(MACHINE_ST)),
+        ("MACHINE_STE", usize::from(MACHINE_STE)),
         ("SCREEN_BYTES", SCREEN_BYTES),
         ("LONGEST_FILE", NEO_FILE_BYTES.max(ELITE_RAW_FILE_BYTES)),
         ("LONGEST_TINY_FILE", LONGEST_TINY_FILE),

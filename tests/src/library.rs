@@ -88,8 +88,8 @@ impl Operations for Library {
         unsafe { kutimuq_tally(screen.as_ptr(), screen.len(), resolution, area) }
     }
 
-    fn colour(&self, resolution: u16, palette: Palette, register: u8) -> ColourAnswer {
-        unsafe { kutimuq_colour(resolution, palette, register) }
+    fn colour(&self, resolution: u16, machine: u8, palette: Palette, register: u8) -> ColourAnswer {
+        unsafe { kutimuq_colour(resolution, machine, palette, register) }
     }
 
     fn new_legend(&self) -> Legend {

@@ -14,7 +14,7 @@ pub trait Operations {
     fn screen_out(&self, screen: &[u8], resolution: u16, out: &mut [u8]) -> Refusal;
     fn screen_in(&self, screen: &mut [u8], resolution: u16, registers: &[u8]) -> Refusal;
     fn tally(&self, screen: &[u8], resolution: u16, area: Rectangle) -> TallyAnswer;
-    fn colour(&self, resolution: u16, palette: Palette, register: u8) -> ColourAnswer;
+    fn colour(&self, resolution: u16, machine: u8, palette: Palette, register: u8) -> ColourAnswer;
     fn new_legend(&self) -> Legend;
     fn set_entry(
         &self,
@@ -113,8 +113,8 @@ impl Operations for Reference {
         reference::tally(screen, resolution, area)
     }
 
-    fn colour(&self, resolution: u16, palette: Palette, register: u8) -> ColourAnswer {
-        reference::colour(resolution, palette, register)
+    fn colour(&self, resolution: u16, machine: u8, palette: Palette, register: u8) -> ColourAnswer {
+        reference::colour(resolution, machine, palette, register)
     }
 
     fn new_legend(&self) -> Legend {

@@ -1,5 +1,6 @@
 //! The reference's own tests.
 
+mod colours;
 mod legends;
 
 use crate::altered::{

@@ -163,7 +163,12 @@ extern "C" {
         resolution: u16,
         rectangle: Rectangle,
     ) -> TallyAnswer;
-    pub fn kutimuq_colour(resolution: u16, palette: Palette, register: u8) -> ColourAnswer;
+    pub fn kutimuq_colour(
+        resolution: u16,
+        machine: u8,
+        palette: Palette,
+        register: u8,
+    ) -> ColourAnswer;
     pub fn kutimuq_new_legend() -> Legend;
     pub fn kutimuq_set_entry(
         legend: Legend,

@@ -41,7 +41,7 @@ pub use ffi::{Legend, Rectangle};
 pub use files::{read, write, Form, Kind, Picture, Reading, Tail, Written};
 pub use legend::Party;
 pub use pixels::{
-    colour, line_in, line_out, pond, screen_in, screen_out, tally, Colour, PondReading,
+    colour, line_in, line_out, pond, screen_in, screen_out, tally, Colour, Machine, PondReading,
 };
 pub use plates::{read_plate, write_plate, PlateReading};
 pub use refusal::Refusal;

@@ -1,7 +1,30 @@
 //! Registers of a screen, their colours and their counts.
 
 use crate::ffi::{self, Palette};
-use crate::{Legend, Party, Rectangle, Refusal, Resolution};
+use crate::refusal::{self, Refusal};
+use crate::{Legend, Party, Rectangle, Resolution};
+
+/// The machine whose colours are shown.
+#[repr(u8)]
+#[derive(Clone, Copy, Debug, PartialEq, Eq, Hash)]
+pub enum Machine {
+    /// 8 levels of each part: bits 8-10, 4-6 and 0-2 of a palette word.
+    St = 1,
+    /// 16 levels of each part: bits 8-11, 4-7 and 0-3, the highest of which is the level's lowest.
+    Ste = 2,
+}
+
+impl TryFrom<u8> for Machine {
+    type Error = Refusal;
+
+    fn try_from(number: u8) -> Result<Machine, Refusal> {
+        match number {
+            1 => Ok(Machine::St),
+            2 => Ok(Machine::Ste),
+            _ => Err(Refusal { number: refusal::OUT_OF_RANGE, ..Refusal::default() }),
+        }
+    }
+}
 
 /// Each part from 0 to 255.
 #[derive(Clone, Copy, Debug, PartialEq, Eq)]
@@ -75,15 +98,28 @@ pub fn tally(screen: &[u8], resolution: Resolution, area: Rectangle) -> Result<[
     Ok(answer.counts)
 }
 
-/// The colour of a register; at high resolution 0 is white and 1 black, whatever the palette.
+/// The colour of a register on a machine; at high resolution 0 is white and 1 black, whatever the
+/// palette.
+///
+/// ```
+/// use kutimuq::{colour, Colour, Machine, Resolution};
+///
+/// let palette = [0x0888; 16];
+/// let on = |machine| colour(Resolution::Low, machine, &palette, 0);
+/// assert_eq!(on(Machine::St)?, Colour { red: 0, green: 0, blue: 0 });
+/// assert_eq!(on(Machine::Ste)?, Colour { red: 17, green: 17, blue: 17 });
+/// # Ok::<(), kutimuq::Refusal>(())
+/// ```
 pub fn colour(
     resolution: Resolution,
+    machine: Machine,
     palette: &[u16; 16],
     register: u8,
 ) -> Result<Colour, Refusal> {
     let palette = Palette { words: *palette };
     // SAFETY: nothing is lent.
-    let answer = unsafe { ffi::kutimuq_colour(resolution as u16, palette, register) };
+    let answer =
+        unsafe { ffi::kutimuq_colour(resolution as u16, machine as u8, palette, register) };
     answer.refusal.judged()?;
     Ok(Colour { red: answer.red, green: answer.green, blue: answer.blue })
 }

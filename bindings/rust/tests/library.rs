@@ -214,15 +214,62 @@ fn a_damaged_legend_is_refused_and_stays() {
     }
 }
 
+const MACHINES: [Machine; 2] = [Machine::St, Machine::Ste];
+
+fn rgb([red, green, blue]: [u8; 3]) -> Colour {
+    Colour { red, green, blue }
+}
+
 #[test]
 fn colours_of_registers() {
-    let mut palette = [0; 16];
-    palette[3] = 0x0735;
-    let shown = Colour { red: 255, green: 109, blue: 182 };
-    assert_eq!(colour(Resolution::Low, &palette, 3), Ok(shown));
-    let white = Colour { red: 255, green: 255, blue: 255 };
-    assert_eq!(colour(Resolution::High, &palette, 0), Ok(white));
-    assert_eq!(refused(colour(Resolution::High, &palette, 2)), (refusal::OUT_OF_RANGE, 0));
+    for (word, on_st, on_ste) in [
+        (0x0000, [0, 0, 0], [0, 0, 0]),
+        (0x0735, [255, 109, 182], [238, 102, 170]),
+        (0x0777, [255, 255, 255], [238, 238, 238]),
+        (0x0888, [0, 0, 0], [17, 17, 17]),
+        (0x0FFF, [255, 255, 255], [255, 255, 255]),
+        (0x0123, [36, 72, 109], [34, 68, 102]),
+        (0x09AB, [36, 72, 109], [51, 85, 119]),
+        (0x0456, [145, 182, 218], [136, 170, 204]),
+        (0x0CDE, [145, 182, 218], [153, 187, 221]),
+        (0xF735, [255, 109, 182], [238, 102, 170]),
+    ] {
+        for (resolution, registers) in [(Resolution::Low, 16), (Resolution::Medium, 4)] {
+            for register in 0..registers {
+                let mut palette = [!word; 16];
+                palette[usize::from(register)] = word;
+                let shown = MACHINES.map(|machine| colour(resolution, machine, &palette, register));
+                assert_eq!(shown, [Ok(rgb(on_st)), Ok(rgb(on_ste))], "word {word:04X}");
+            }
+        }
+    }
+}
+
+#[test]
+fn high_resolution_is_white_and_black() {
+    for machine in MACHINES {
+        for palette in [[0; 16], [0x0FFF; 16]] {
+            let shown = [0, 1].map(|number| colour(Resolution::High, machine, &palette, number));
+            assert_eq!(shown, [Ok(rgb([255; 3])), Ok(rgb([0; 3]))]);
+        }
+    }
+}
+
+#[test]
+fn colours_out_of_range_are_refused() {
+    let out_of_range = (refusal::OUT_OF_RANGE, 0);
+    for machine in MACHINES {
+        assert_eq!(Machine::try_from(machine as u8), Ok(machine));
+        for resolution in Resolution::ALL {
+            for register in [1 << resolution.shape().planes, 255] {
+                let answer = colour(resolution, machine, &[0; 16], register);
+                assert_eq!(refused(answer), out_of_range);
+            }
+        }
+    }
+    for number in [0, 3, 255] {
+        assert_eq!(refused(Machine::try_from(number)), out_of_range);
+    }
 }
 
 #[test]

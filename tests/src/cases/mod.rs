@@ -54,6 +54,11 @@ pub fn run_all(comparison: &mut Comparison, seed: u64) {
     macpaint::write(comparison, &mut random);
 }
 
+/// Only the inputs for colours.
+pub fn run_colours(comparison: &mut Comparison, seed: u64) {
+    colours::colour(comparison, &mut Random::seeded(seed));
+}
+
 /// Only the inputs for legends, their entries set and released.
 pub fn run_legends(comparison: &mut Comparison, seed: u64) {
     legend::run(comparison, &mut Random::seeded(seed));

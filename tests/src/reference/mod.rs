@@ -24,7 +24,7 @@ mod tiny;
 mod words;
 
 pub use body::least_body;
-pub use colour::colour;
+pub use colour::{colour, MACHINES, MACHINE_ST, MACHINE_STE};
 pub use conversion::{to_elite, to_plain, IGNORED_BITS};
 pub use degas::{
     DEGAS_HEADER_BYTES, ELITE_RAW_FILE_BYTES, LONGEST_PACKED_FILE, PACKED_BIT, PACKED_BODY_LIMIT,
