@@ -6,8 +6,9 @@ LIBDIR = $(PREFIX)/lib
 INCLUDEDIR = $(PREFIX)/include
 
 version_part = $(shell sed -n 's/^\#define KUTIMUQ_VERSION_$(1) //p' include/kutimuq.h)
-SOVERSION := $(call version_part,MAJOR)
-VERSION := $(SOVERSION).$(call version_part,MINOR).$(call version_part,PATCH)
+# While the major number is 0, a new minor number may change an interface.
+SOVERSION := $(call version_part,MAJOR).$(call version_part,MINOR)
+VERSION := $(SOVERSION).$(call version_part,PATCH)
 
 ARCHIVE = target/staticlib/libcapi.a
 OUT = target/lib

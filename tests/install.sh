@@ -37,13 +37,13 @@ warns() {
 }
 
 installed_library() {
+    version=$(sed -n 's/#define KUTIMUQ_VERSION "\(.*\)"/\1/p' "$include/kutimuq.h")
     soname=$(readelf -d "$lib/libkutimuq.so" | sed -n 's/.*soname: \[\(.*\)\]/\1/p')
-    check "soname" test "$soname" = libkutimuq.so.0
+    check "soname" test "$soname" = "libkutimuq.so.${version%.*}"
     check "the soname is installed" test -e "$lib/$soname"
     nm -D --defined-only "$lib/libkutimuq.so" | sed -n 's/.* T \(kutimuq_.*\)/\1/p' | sort > "$work/defined"
     sed -n 's/^Kutimuq[A-Za-z]* \(kutimuq_[a-z_]*\)(.*/\1/p' "$include/kutimuq.h" | sort > "$work/declared"
     check "functions declared and defined" cmp "$work/declared" "$work/defined"
-    version=$(sed -n 's/#define KUTIMUQ_VERSION "\(.*\)"/\1/p' "$include/kutimuq.h")
     check "version" test "$(pkg-config --modversion kutimuq)" = "$version"
 }
 
