@@ -8,7 +8,7 @@
 Each name is imported at its first use.
 """
 
-__version__ = "0.5.1"
+__version__ = "0.6.0"
 
 # Public name: the module that has it.
 _PUBLIC = {
@@ -21,6 +21,7 @@ _PUBLIC = {
     "Kind": "files",
     "Legend": "legend",
     "LibraryMissing": "library",
+    "Machine": "files",
     "Picture": "pictures",
     "Plate": "pictures",
     "Pond": "index",

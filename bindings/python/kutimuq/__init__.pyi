@@ -2,6 +2,7 @@
 
 from .files import Form as Form
 from .files import Kind as Kind
+from .files import Machine as Machine
 from .files import find_kind as find_kind
 from .images import BadImage as BadImage
 from .index import Colour as Colour

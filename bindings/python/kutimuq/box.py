@@ -440,7 +440,7 @@ def keep_results(check: Check, options, legend, outputs: dict[str, Output], jobs
     if options.report is not None:
         from .report import page
 
-        outputs[options.report].write(page(check, options.operands, legend, jobs))
+        outputs[options.report].write(page(check, options.operands, legend, options.machine, jobs))
         outputs[options.report].keep()
     if options.csv is not None:
         write_csv(outputs[options.csv], check.records)

@@ -12,9 +12,11 @@ from .files import (
     FORM_NAMES,
     FORMS,
     KIND_NAMES,
+    MACHINE_NAMES,
     OUTPUT,
     PLATE_EXTENSIONS,
     PLATE_FORM,
+    Machine,
     Output,
     complain,
     find_kind,
@@ -34,11 +36,14 @@ from .options import (
     TO_ENVI,
     TO_FILES,
     TO_FORM,
+    TO_LIST_COLOURS,
+    TO_LIST_LEVELS,
     TO_MAKE_LEGEND,
     TO_READ_POND,
     TO_READ_PONDS,
     TO_RELEASE,
     TO_SET,
+    TO_SHOW_COLOURS,
     TO_TALLY,
     Command,
     WrongUse,
@@ -48,7 +53,7 @@ from .options import (
 )
 
 PROGRAM = "kutimuq"
-NO_PICTURE = "a MacPaint plate has no registers, palette or tail"
+NO_PICTURE = "a MacPaint plate has no registers, palette, tail or machine"
 NO_PLATE = "not a MacPaint plate"
 ACCEPTED, REFUSED, WRONG, INTERRUPTED, PIPE_CLOSED, ENDED = 0, 1, 2, 130, 141, 143
 
@@ -126,6 +131,11 @@ def end_in_order() -> None:
 def kind_of(options) -> int | None:
     """The number of the kind that is named, or None."""
     return None if options.kind is None else KIND_NAMES[options.kind]
+
+
+def machine_of(options) -> Machine:
+    """The machine that is named, an ST where none is."""
+    return Machine.ST if options.machine is None else MACHINE_NAMES[options.machine]
 
 
 def legend_at(path: str | None):
@@ -261,13 +271,15 @@ def summary(options) -> int:
 
 def palette(options) -> int:
     """`palette`: palette words and colours."""
-    from .index import colours
+    from .index import STE_HINT, colours, has_ste_bits
 
     def lines(name, picture):
-        shown_colours = colours(picture.resolution, picture.palette)
+        shown_colours = colours(picture.resolution, picture.palette, machine_of(options))
         for register, palette_word in enumerate(picture.palette):
             parts = " ".join(map(str, shown_colours[register])) if register < len(shown_colours) else "-"
             tell(options, name, [f"register {register} word {palette_word:04x} colour {parts}"])
+        if options.machine is None and not options.quiet and has_ste_bits(picture.resolution, picture.palette):
+            complain(f"{STE_HINT}: --machine ste shows its colours", name)
 
     return each(options, lines)
 
@@ -286,7 +298,10 @@ def png(options) -> int:
     """`png`: indexed PNG files."""
     from .images import plate_png_of, png_of
 
-    return make_files(options, lambda picture: (".png", png_of(picture)), lambda plate: (".png", plate_png_of(plate)))
+    machine = machine_of(options)
+    return make_files(
+        options, lambda picture: (".png", png_of(picture, machine)), lambda plate: (".png", plate_png_of(plate))
+    )
 
 
 def pbm(options) -> int:
@@ -307,7 +322,8 @@ def colours_command(options) -> int:
     """`colours`: PPM files."""
     from .images import pixmap_of
 
-    return make_files(options, lambda picture: (".ppm", pixmap_of(picture)))
+    machine = machine_of(options)
+    return make_files(options, lambda picture: (".ppm", pixmap_of(picture, machine)))
 
 
 def envi(options) -> int:
@@ -315,6 +331,7 @@ def envi(options) -> int:
     from .images import envi_of
 
     entries = legend_at(options.legend)
+    machine = machine_of(options)
     places = destinations(options)
 
     def save(name, picture):
@@ -322,7 +339,7 @@ def envi(options) -> int:
         stem, extension = os.path.splitext(path)
         if path == "-" or extension.lower() == ".hdr":
             raise WrongUse("the registers need a file of their own beside the header: name it with -o")
-        raw, header = envi_of(picture, entries)
+        raw, header = envi_of(picture, entries, machine)
         with Output(path) as data_file, Output(stem + ".hdr") as header_file:
             data_file.write(raw)
             header_file.write(header)
@@ -402,7 +419,7 @@ def encode(options) -> int:
 
 
 def picture_encoder(options):
-    """What makes an image a picture's file, with the palette and tail that the options name."""
+    """What makes an image a picture's file, with the palette, tail and machine that the options name."""
     from .images import picture_of
     from .pictures import Plate, read_any
 
@@ -414,14 +431,15 @@ def picture_encoder(options):
             raise WrongUse(f"{shown(options.like)}: {NO_PICTURE}")
         words = words or model.palette
         tables = model.tail if model.tail_present else None
-    return lambda image: picture_file(picture_of(image, words, tables), FORM_NAMES[options.form])
+    form = FORM_NAMES[options.form]
+    return lambda image: picture_file(picture_of(image, words, tables, options.machine), form)
 
 
 def plate_encoder(options):
     """What makes an image a plate's file."""
     from .images import plate_of
 
-    if options.palette is not None or options.like is not None:
+    if any(option is not None for option in (options.palette, options.like, options.machine)):
         raise WrongUse(NO_PICTURE)
     return lambda image: plate_file(plate_of(image))
 
@@ -580,12 +598,15 @@ def give_legend(path: str | None, file: bytes) -> None:
 
 
 def levels_command(options) -> int:
-    """`levels`: the table of colour levels."""
+    """`levels`: the table of a machine's colour levels."""
     from .index import levels
 
+    rows = levels(machine_of(options))
+    digits = (len(rows) - 1).bit_length()
     give_text("level  bits   red  green  blue  shown\n")
-    for level, (red, green, blue), shown_value in levels():
-        give_text(f"{level:5}   {level:03b}  {red:04x}   {green:04x}  {blue:04x}  {shown_value:5}\n")
+    for level, (red, green, blue), shown_value in rows:
+        bits = f"{blue:0{digits}b}"
+        give_text(f"{level:5}  {bits:>4}  {red:04x}   {green:04x}  {blue:04x}  {shown_value:5}\n")
     return ACCEPTED
 
 
@@ -597,6 +618,7 @@ def check(options) -> int:
 
     end_in_order()
     options.kind = kind_of(options)
+    options.machine = machine_of(options)
     return run(options, legend_at(options.legend))
 
 
@@ -605,14 +627,16 @@ COMMANDS = {
     "summary": Command(
         summary, "resolution, counts, tail and tally, as text; of a plate counts and tally", "FILE", SOURCES
     ),
-    "palette": Command(palette, "the 16 palette words and their colours", "FILE", SOURCES),
+    "palette": Command(palette, "the 16 palette words and their colours", "FILE", TO_LIST_COLOURS),
     "tail": Command(tail, "the animation tail's tables", "FILE", SOURCES),
-    "png": Command(png, "an indexed PNG whose pixel values are the registers, or a plate's bits", "FILE", TO_FILES),
+    "png": Command(
+        png, "an indexed PNG whose pixel values are the registers, or a plate's bits", "FILE", TO_SHOW_COLOURS
+    ),
     "pbm": Command(pbm, "a PBM of a MacPaint plate", "FILE", TO_FILES),
     "envi": Command(envi, "an ENVI classification: registers, class names and colours", "FILE", TO_ENVI),
     "registers": Command(registers, "a PGM with one register a byte", "FILE", TO_FILES),
     "colours": Command(
-        colours_command, "a PPM with colours alone: never turn one back into classes", "FILE", TO_FILES
+        colours_command, "a PPM with colours alone: never turn one back into classes", "FILE", TO_SHOW_COLOURS
     ),
     "convert": Command(convert, "the picture in another form, or the plate with its least body", "FILE", TO_FORM),
     "elite": Command(elite, "plain DEGAS files as DEGAS Elite, packed where a packed body exists", "FILE+", TO_CONVERT),
@@ -627,5 +651,7 @@ COMMANDS = {
     "legend show": Command(legend_show, "the entries of a legend, with their owners", "FILE?", ()),
     "legend set": Command(legend_set, "the legend with a free entry, or the party's own, set", "FILE?", TO_SET),
     "legend release": Command(legend_release, "the legend with the party's own entry freed", "FILE?", TO_RELEASE),
-    "levels": Command(levels_command, "the eight colour levels, their bits and the values shown", None, ()),
+    "levels": Command(
+        levels_command, "the colour levels of a machine, their bits and the values shown", None, TO_LIST_LEVELS
+    ),
 }

@@ -27,11 +27,19 @@ class Form(IntEnum):
     NEO = 4  # NEOchrome
 
 
+class Machine(IntEnum):
+    """A machine whose colours are shown, by its number in the library; no picture file names one."""
+
+    ST = 1
+    STE = 2
+
+
 UNKNOWN = 0  # no kind has this number: the library refuses it
 
 # Their names at the command line.
 KIND_NAMES = {"mac": Kind.MAC, "degas": Kind.DEGAS, "neo": Kind.NEO, "tiny": Kind.TINY}
 FORM_NAMES = {"plain": Form.PLAIN, "elite": Form.ELITE, "packed": Form.PACKED, "neo": Form.NEO}
+MACHINE_NAMES = {"st": Machine.ST, "ste": Machine.STE}
 PLATE_FORM = "mac"  # the one form of a plate
 
 RAW_EXTENSIONS = (".pi1", ".pi2", ".pi3")
@@ -192,7 +200,7 @@ def find_kind(data: bytes, name: str = "") -> Found:
 
 
 def number_of(choice, names: dict[str, int]) -> int:
-    """The number of a kind, form, party or owner that is given as a member, as a number or by its name."""
+    """The number of a kind, form, machine, party or owner that is given as a member, as a number or by its name."""
     if not isinstance(choice, str):
         return choice
     try:

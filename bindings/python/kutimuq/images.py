@@ -5,6 +5,7 @@ from __future__ import annotations
 import zlib
 from collections import namedtuple
 
+from .files import MACHINE_NAMES, Machine, number_of
 from .index import Colour, colours
 from .pictures import (
     PLATE_BYTES,
@@ -25,6 +26,7 @@ SIGNATURE = b"\x89PNG\r\n\x1a\n"
 GREY, INDEXED = 0, 3  # PNG colour types
 PALETTE_KEYWORD = b"Atari ST palette"
 TAIL_KEYWORD = b"Atari ST tail"
+MACHINE_KEYWORD = b"Atari machine"  # in the PNG of another machine than an ST
 COMMENT = b"Comment\0Pixel values are colour registers."
 PLATE_COLOURS = [Colour(255, 255, 255), Colour(0, 0, 0)]  # of the bits 0 and 1
 DIGITS = bytes.maketrans(b"\0\1", b"01")
@@ -34,23 +36,40 @@ class BadImage(ValueError):
     """An image that no picture or plate can be made of."""
 
 
-class Image(namedtuple("Image", "width height pixels colours palette tail", defaults=(None, None, None))):
-    """Pixel values, one byte each, with the colours, palette words and tail words that the file gives, else None."""
+class Image(
+    namedtuple(
+        "Image", "width height pixels colours palette tail machine", defaults=(None, None, None, Machine.ST)
+    )
+):
+    """Pixel values, one byte each, with the colours, palette words and tail words that the file gives, else None.
+
+    The machine is an ST where the file names none.
+    """
 
     __slots__ = ()
     width: int
     height: int
     pixels: bytes
+    machine: Machine
 
 
-def png_of(picture: Picture) -> bytes:
-    """An indexed PNG: its pixel values are the registers, its palette their colours."""
+def png_of(picture: Picture, machine=Machine.ST) -> bytes:
+    """An indexed PNG: its pixel values are the registers, its palette their colours on a machine."""
     rows = register_rows(picture.screen, picture.resolution)
+    shown = colours(picture.resolution, picture.palette, machine)
     texts = [COMMENT, PALETTE_KEYWORD + b"\0" + hex_words(picture.palette)]
     if picture.tail_present:
         tail = [word for table in picture.tail for word in table]
         texts.append(TAIL_KEYWORD + b"\0" + hex_words(tail))
-    return indexed_png(len(rows[0]), 8, rows, colours(picture.resolution, picture.palette), texts)
+    known = known_machine(machine)
+    if known != Machine.ST:
+        texts.append(MACHINE_KEYWORD + b"\0" + known.name.encode("ascii"))
+    return indexed_png(len(rows[0]), 8, rows, shown, texts)
+
+
+def known_machine(machine) -> Machine:
+    """The machine that is given by its number or name, where the library has taken it."""
+    return Machine(number_of(machine, MACHINE_NAMES))
 
 
 def plate_png_of(plate: Plate) -> bytes:
@@ -76,15 +95,15 @@ def hex_words(words) -> bytes:
     return b" ".join(b"%04x" % word for word in words)
 
 
-def envi_of(picture: Picture, legend=None) -> tuple[bytes, bytes]:
-    """An ENVI classification: the raw registers, and the header with class names and colours."""
+def envi_of(picture: Picture, legend=None, machine=Machine.ST) -> tuple[bytes, bytes]:
+    """An ENVI classification: the raw registers, and the header with class names and colours on a machine."""
     width, height, _ = shape(picture.resolution)
-    shown = colours(picture.resolution, picture.palette)
+    shown = colours(picture.resolution, picture.palette, machine)
     lookup = ", ".join(str(part) for colour in shown for part in colour)
     names = ", ".join(class_name(register, legend) for register in range(len(shown)))
     header = (
         "ENVI\n"
-        "description = {Colour registers of an Atari ST picture}\n"
+        f"description = {{Colour registers of an Atari {known_machine(machine).name} picture}}\n"
         f"samples = {width}\nlines = {height}\nbands = 1\nheader offset = 0\n"
         "file type = ENVI Classification\ndata type = 1\ninterleave = bsq\nbyte order = 0\n"
         f"classes = {len(shown)}\nclass lookup = {{{lookup}}}\nclass names = {{{names}}}\n"
@@ -110,10 +129,10 @@ def greymap_of(picture: Picture) -> bytes:
     return netpbm_header("P5", picture) + screen_out(picture.screen, picture.resolution)
 
 
-def pixmap_of(picture: Picture) -> bytes:
-    """A portable pixmap (P6), three bytes a pixel: the colour of its register."""
+def pixmap_of(picture: Picture, machine=Machine.ST) -> bytes:
+    """A portable pixmap (P6), three bytes a pixel: the colour of its register on a machine."""
     pixels = screen_out(picture.screen, picture.resolution)
-    shown = colours(picture.resolution, picture.palette)
+    shown = colours(picture.resolution, picture.palette, machine)
     painted = bytearray(3 * len(pixels))
     for part in range(3):
         table = bytes(colour[part] for colour in shown).ljust(256, b"\0")
@@ -131,11 +150,12 @@ def bitmap_of(plate: Plate) -> bytes:
     return f"P4\n{PLATE_WIDTH} {PLATE_HEIGHT}\n".encode("ascii") + b"".join(plate.rows())
 
 
-def picture_of(image: Image, palette=None, tail: Tail | None = None) -> Picture:
+def picture_of(image: Image, palette=None, tail: Tail | None = None, machine=None) -> Picture:
     """The picture whose registers are an image's pixel values; refused with 10 where a value is no register.
 
-    Without a palette the words that the image carries are taken. Its colours must be the palette's, each at its
-    register: a program that makes an index from colours numbers them in an order of its own.
+    Without a palette the words that the image carries are taken, without a machine its own. Its colours must be the
+    palette's on that machine, each at its register: a program that makes an index from colours numbers them in an order
+    of its own.
     """
     try:
         resolution = resolution_of(image.width, image.height)
@@ -145,13 +165,27 @@ def picture_of(image: Image, palette=None, tail: Tail | None = None) -> Picture:
     words = image.palette if palette is None else palette
     if words is None:
         raise BadImage("the image has no palette words: name a palette, or a picture like it")
-    expected = colours(resolution, words)
-    found = expected if image.colours is None else image.colours[: len(expected)]
-    if found != expected[: len(found)]:
-        raise BadImage("its colours are not the palette's, so its values may not be registers")
+    check_colours(image, resolution, words, image.machine if machine is None else machine)
     if tail is None and image.tail is not None:
         tail = Tail(*(tuple(image.tail[start : start + 4]) for start in range(0, 16, 4)))
     return Picture(resolution, tuple(words), tail is not None, Tail() if tail is None else tail, screen)
+
+
+def check_colours(image: Image, resolution: int, palette, machine) -> None:
+    """Refuses an image whose colours are not the palette's on a machine; says it where they are another machine's."""
+    if has_colours(image, colours(resolution, palette, machine)):
+        return
+    wrong = f"its colours are not the palette's on an {known_machine(machine).name}"
+    for other in Machine:
+        if has_colours(image, colours(resolution, palette, other)):
+            raise BadImage(f"{wrong}, but they are on an {other.name}: name that machine")
+    raise BadImage(f"{wrong}, so its values may not be registers")
+
+
+def has_colours(image: Image, expected: list[Colour]) -> bool:
+    """Whether an image has these colours, as many as it gives."""
+    found = expected if image.colours is None else image.colours[: len(expected)]
+    return found == expected[: len(found)]
 
 
 def plate_of(image: Image) -> Plate:
@@ -232,7 +266,7 @@ def read_png(data: bytes) -> Image:
             body.append(content)
         elif name == b"tEXt" and b"\0" in content:
             keyword, text = content.split(b"\0", 1)
-            texts[keyword] = words_of(text)
+            texts[keyword] = text
     if len(header) != 13:
         raise BadImage("a PNG begins with its header")
     width, height = int.from_bytes(header[:4], "big"), int.from_bytes(header[4:8], "big")
@@ -242,7 +276,13 @@ def read_png(data: bytes) -> Image:
     check_size(width, height)
     rows = unfiltered(b"".join(body), (width * depth + 7) // 8, height)
     pixels = spread(rows, depth, width)
-    return Image(width, height, pixels, palette, texts.get(PALETTE_KEYWORD), texts.get(TAIL_KEYWORD))
+    return Image(width, height, pixels, palette, *facts_in(texts))
+
+
+def facts_in(texts: dict[bytes, bytes]) -> tuple[list[int] | None, list[int] | None, Machine]:
+    """The palette words, the tail words and the machine in a PNG's texts, by their keywords."""
+    words, tail, machine = (texts.get(keyword, b"") for keyword in (PALETTE_KEYWORD, TAIL_KEYWORD, MACHINE_KEYWORD))
+    return words_of(words), words_of(tail), MACHINE_NAMES.get(machine.decode("latin-1").lower(), Machine.ST)
 
 
 def check_size(width: int, height: int) -> None:

@@ -5,9 +5,12 @@ from __future__ import annotations
 from collections import namedtuple
 
 from . import library as lib
-from .files import number_of
+from .files import MACHINE_NAMES, Machine, number_of
 from .library import accepted, library
 from .pictures import rectangle_struct, shape
+
+STE_BITS = 0x0888  # of a palette word; an ST ignores them
+STE_HINT = "palette words with bit 3, 7 or 11 set, as on an STE"
 
 
 class Colour(namedtuple("Colour", "red green blue")):
@@ -28,17 +31,27 @@ class Pond(namedtuple("Pond", "sure unsure other")):
     other: int
 
 
-def colour(resolution: int, palette, register: int) -> Colour:
-    """The colour of a register, each part from 0 to 255."""
+def colour(resolution: int, palette, register: int, machine=Machine.ST) -> Colour:
+    """The colour of a register, each part from 0 to 255, on a machine: 1 or "st", 2 or "ste".
+
+    Refused with 5 for an unknown resolution, then with 10 for an unknown machine or register.
+    """
     struct = lib.Palette()
     struct.words[:] = lib.words(palette, 16)
-    answer = accepted(library().kutimuq_colour(lib.word(resolution), struct, lib.byte(register)))
+    number = lib.byte(number_of(machine, MACHINE_NAMES))
+    answer = accepted(library().kutimuq_colour(lib.word(resolution), number, struct, lib.byte(register)))
     return Colour(answer.red, answer.green, answer.blue)
 
 
-def colours(resolution: int, palette) -> list[Colour]:
-    """The colours of all registers of a resolution, register 0 first."""
-    return [colour(resolution, palette, register) for register in range(shape(resolution).registers)]
+def colours(resolution: int, palette, machine=Machine.ST) -> list[Colour]:
+    """The colours of all registers of a resolution on a machine, register 0 first."""
+    return [colour(resolution, palette, register, machine) for register in range(shape(resolution).registers)]
+
+
+def has_ste_bits(resolution: int, palette) -> bool:
+    """Whether an STE shows otherwise what a palette has in the bits that an ST ignores: a hint that it is an STE's."""
+    without = [word & ~STE_BITS for word in palette]
+    return colours(resolution, palette, Machine.STE) != colours(resolution, without, Machine.STE)
 
 
 def tally(screen, resolution: int, rectangle=None) -> tuple[int, ...]:
@@ -67,10 +80,13 @@ def pond(screen, resolution: int, rectangle, class_: int, floor: int, legend, pa
     return Pond(accepted(answer).sure, answer.unsure, answer.other)
 
 
-def levels() -> list[tuple[int, tuple[int, int, int], int]]:
-    """For each level 0 to 7 its palette words for red, green and blue, and the value from 0 to 255 that is shown."""
-    rows = []
-    for level in range(8):
-        words = (level << 8, level << 4, level)
-        rows.append((level, words, colour(0, [sum(words)] * 16, 0).red))
-    return rows
+def levels(machine=Machine.ST) -> list[tuple[int, tuple[int, int, int], int]]:
+    """For each level of a machine its palette words for red, green and blue, and the value from 0 to 255 that is shown.
+
+    Of the words that show the same level, the least.
+    """
+    shown: dict[int, tuple[int, int, int]] = {}
+    for nibble in range(16):
+        words = (nibble << 8, nibble << 4, nibble)
+        shown.setdefault(colour(0, [sum(words)] * 16, 0, machine).red, words)
+    return [(level, words, value) for level, (value, words) in enumerate(sorted(shown.items()))]

@@ -152,7 +152,7 @@ FUNCTIONS = {
     "kutimuq_screen_out": (Refusal, (*INPUT, c_uint16, *OUTPUT)),
     "kutimuq_screen_in": (Refusal, (*OUTPUT, c_uint16, *INPUT)),
     "kutimuq_tally": (TallyAnswer, (*INPUT, c_uint16, Rectangle)),
-    "kutimuq_colour": (ColourAnswer, (c_uint16, Palette, c_uint8)),
+    "kutimuq_colour": (ColourAnswer, (c_uint16, c_uint8, Palette, c_uint8)),
     "kutimuq_new_legend": (Legend, ()),
     "kutimuq_set_entry": (LegendAnswer, (Legend, c_uint8, c_uint8, c_uint16, c_uint8)),
     "kutimuq_release_entry": (LegendAnswer, (Legend, c_uint8, c_uint8)),
@@ -204,7 +204,7 @@ def _fitted(number: int, largest: int) -> int:
 
 
 def byte(number: int) -> int:
-    """A kind, form, register, party, owner, floor or confidence."""
+    """A kind, form, machine, register, party, owner, floor or confidence."""
     return _fitted(number, BYTE_MAX)
 
 

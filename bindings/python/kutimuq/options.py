@@ -6,7 +6,7 @@ from collections import namedtuple
 from keyword import iskeyword
 from types import SimpleNamespace
 
-from .files import FORM_NAMES, KIND_NAMES, PLATE_FORM
+from .files import FORM_NAMES, KIND_NAMES, MACHINE_NAMES, PLATE_FORM
 
 
 class WrongUse(Exception):
@@ -110,14 +110,21 @@ def check_operands(found: SimpleNamespace, command: Command) -> None:
 
 
 def choice(names: list[str]):
-    """A parser of one of these names."""
+    """A parser of one of these names, in small letters or capitals."""
 
     def parse_choice(text: str) -> str:
-        if text not in names:
+        if text.lower() not in names:
             raise ValueError(f"{text!r} is none of {', '.join(names)}")
-        return text
+        return text.lower()
 
     return parse_choice
+
+
+def name_or_number(names: dict[str, int]):
+    """A parser of one of these names, or of its number."""
+    named = {f"{number:d}": name for name, number in names.items()}
+    parse_name = choice(list(names))
+    return lambda text: parse_name(named.get(text, text))
 
 
 def command_help(program: str, name: str, command: Command) -> str:
@@ -169,8 +176,7 @@ def parse_register(text: str) -> int:
 def parse_party(text: str) -> str:
     from .legend import PARTIES
 
-    named = {str(number): name for name, number in PARTIES.items()}
-    return choice(list(PARTIES))(named.get(text, text))
+    return name_or_number(PARTIES)(text)
 
 
 def parse_name(text: str) -> str:
@@ -203,6 +209,7 @@ KIND = Option(
     choice(list(KIND_NAMES)),
 )
 QUIET = Option(("-q", "--quiet"), None, "do not say which kind was found")
+QUIET_ON_PALETTES = QUIET._replace(about="do not say which kind was found, or that a word has STE bits")
 OUTPUT_FILE = Option(("-o", "--output"), "FILE", "where the result goes; default: standard output")
 FOLDER = Option(("-d", "--folder"), "FOLDER", "one result for each file, named after it, in this folder")
 RESULTS = Option(("-o", *FOLDER.names), "FOLDER", "where the results go; default: beside each file")
@@ -213,6 +220,14 @@ FORM = Option(
     choice([*FORM_NAMES, PLATE_FORM]),
     True,
 )
+MACHINE = Option(
+    ("--machine",),
+    "MACHINE",
+    "whose colours are shown: st (1) or ste (2); default: st",
+    name_or_number(MACHINE_NAMES),
+)
+MACHINE_OF_PAGE = MACHINE._replace(about=f"{MACHINE.about}, on the report page")
+MACHINE_OF_IMAGE = MACHINE._replace(about="whose colours the image has: st (1) or ste (2); default: the PNG's, else st")
 RECTANGLE = Option(("--rectangle",), "L,T,C,N", "left, top, columns, lines; default: the whole screen", parse_rectangle)
 LEGEND = Option(("--legend",), "FILE", "16 lines `class confidence [owner [name]]`, register 0 first")
 NEEDED_LEGEND = LEGEND._replace(required=True)
@@ -237,14 +252,17 @@ RESUME = Option(("--resume",), None, "take up an interrupted run that had the sa
 # The options of the commands, by what the commands are for.
 SOURCES = (KIND, QUIET)
 TO_FILES = (KIND, QUIET, OUTPUT_FILE, FOLDER)
-TO_CHECK = (KIND, JSON, CSV, REPORT, LEGEND, JOBS, RESUME)
-TO_ENVI = (*TO_FILES, LEGEND)
+TO_CHECK = (KIND, JSON, CSV, REPORT, LEGEND, MACHINE_OF_PAGE, JOBS, RESUME)
+TO_LIST_COLOURS = (MACHINE, KIND, QUIET_ON_PALETTES)
+TO_SHOW_COLOURS = (*TO_FILES, MACHINE)
+TO_ENVI = (*TO_SHOW_COLOURS, LEGEND)
 TO_FORM = (FORM, *TO_FILES)
 TO_CONVERT = (RESULTS, JSON, CSV)
-TO_ENCODE = (FORM, PALETTE, LIKE, OUTPUT_FILE, FOLDER)
+TO_ENCODE = (FORM, PALETTE, LIKE, MACHINE_OF_IMAGE, OUTPUT_FILE, FOLDER)
 TO_TALLY = (RECTANGLE, *SOURCES)
 TO_READ_POND = (NEEDED_LEGEND, CLASS, FLOOR, PARTY, RECTANGLE, *SOURCES)
 TO_READ_PONDS = (NEEDED_LEGEND, LIST, PARTY, OUTPUT_FILE, *SOURCES)
 TO_MAKE_LEGEND = (NEW_FILE,)
 TO_SET = (NEEDED_PARTY, REGISTER, CLASS, CONFIDENCE, NAME, SAME_OR_NEW_FILE)
 TO_RELEASE = (NEEDED_PARTY, REGISTER, SAME_OR_NEW_FILE)
+TO_LIST_LEVELS = (MACHINE,)

@@ -13,6 +13,7 @@ from .files import (
     KIND_NAMES,
     LONGEST_PLATE_FILE,
     Kind,
+    Machine,
     find_kind,
     form_named,
     number_of,
@@ -71,11 +72,11 @@ class Picture(
         """The registers, height x width: a numpy uint8 array where numpy is present, else a list of bytes rows."""
         return registers(self.screen, self.resolution)
 
-    def colours(self):
-        """The colours of the registers, register 0 first."""
+    def colours(self, machine=Machine.ST):
+        """The colours of the registers on a machine, 1 or "st", 2 or "ste"; register 0 first."""
         from .index import colours
 
-        return colours(self.resolution, self.palette)
+        return colours(self.resolution, self.palette, machine)
 
     def tally(self, rectangle=None) -> tuple[int, ...]:
         """The pixels of each of the 16 registers in a rectangle, or on the whole screen."""
@@ -83,11 +84,11 @@ class Picture(
 
         return tally(self.screen, self.resolution, rectangle)
 
-    def png(self) -> bytes:
-        """An indexed PNG whose pixel values are the registers."""
+    def png(self, machine=Machine.ST) -> bytes:
+        """An indexed PNG whose pixel values are the registers, with their colours on a machine."""
         from .images import png_of
 
-        return png_of(self)
+        return png_of(self, machine)
 
     def save(self, path, form=None) -> File:
         """Writes the picture to a file, whole or not at all, and gives what was written.

@@ -12,11 +12,11 @@ from importlib.resources import files as package_files
 
 from . import __version__
 from .box import Check, least_rewriting, spread_over
-from .files import Kind, kind_titled, shown, take
+from .files import Kind, Machine, kind_titled, shown, take
 from .images import PLATE_COLOURS
-from .index import colours
+from .index import STE_HINT, colours, has_ste_bits
 from .library import Refused, good_part
-from .pictures import PLATE_SHAPE, Shape, read_any, shape
+from .pictures import PLATE_SHAPE, Plate, Shape, read_any, shape
 
 TITLES = ("low", "medium", "high")
 GOOD_NOTE = (
@@ -25,8 +25,8 @@ GOOD_NOTE = (
 )
 
 
-def page(check: Check, paths: list[str], legend, jobs: int) -> bytes:
-    """The page for a run over these paths."""
+def page(check: Check, paths: list[str], legend, machine: Machine, jobs: int) -> bytes:
+    """The page for a run over these paths, with the colours of a machine."""
     template = package_files(__package__).joinpath("page.html").read_text("utf-8")
     accepted, refused, unread = check.counts()
     copies = copies_of(check.records)
@@ -38,8 +38,9 @@ def page(check: Check, paths: list[str], legend, jobs: int) -> bytes:
         "COUNTS": counts_line(accepted, refused, unread, len(check.records) - unread - refused - len(first)),
         "REFUSED": refused_table(check.records),
         "DUPLICATES": duplicates_list(copies),
-        "PICTURES": figures(first, copies, jobs),
-        "DATA": data_of(first, legend),
+        "COLOURS": colours_line(first, machine),
+        "PICTURES": figures(first, copies, machine, jobs),
+        "DATA": data_of(first, legend, machine),
     }
     return filled(template, parts).encode("utf-8", "backslashreplace")
 
@@ -127,14 +128,28 @@ def duplicates_list(copies: dict[str, list[str]]) -> str:
     return "<ul>" + "\n".join(rows) + "</ul>"
 
 
-def figures(records: list[dict], copies: dict[str, list[str]], jobs: int) -> str:
+def colours_line(records: list[dict], machine: Machine) -> str:
+    """Whose colours are shown, and what the mark of some pictures means."""
+    marked = any(ste_mark(record, machine) for record in records)
+    return f"Colours as on an {machine.name}." + (f" STE bits: {STE_HINT}." if marked else "")
+
+
+def ste_mark(record: dict, machine: Machine) -> str:
+    """The mark of a picture that may be an STE's where an ST's colours are shown."""
+    if machine != Machine.ST or is_plate(record):
+        return ""
+    return ", STE bits" if has_ste_bits(record["resolution"], record["palette"]) else ""
+
+
+def figures(records: list[dict], copies: dict[str, list[str]], machine: Machine, jobs: int) -> str:
     """The contact sheet."""
-    images = spread_over(image_of, [(record["name"], record["kind"], record["sha256"]) for record in records], jobs)
+    sources = [(record["name"], record["kind"], record["sha256"], machine) for record in records]
+    images = spread_over(image_of, sources, jobs)
     made = []
     for record, image in zip(records, images):
         name = text(record["name"])
         more = f" and {len(copies[record['name']])} more" if record["name"] in copies else ""
-        about = f"{escape(record['kind'])}, {size_of(record)}{more}"
+        about = f"{escape(record['kind'])}, {size_of(record)}{more}{ste_mark(record, machine)}"
         source = f"data:image/png;base64,{image}"
         picture = f'<img loading="lazy" alt="" src="{source}">' if image else "<p>changed since it was judged</p>"
         caption = f"<figcaption><b>{text(os.path.basename(record['name']))}</b> {about}</figcaption>"
@@ -143,7 +158,7 @@ def figures(records: list[dict], copies: dict[str, list[str]], jobs: int) -> str
     return "\n".join(made) or "<p>None.</p>"
 
 
-def image_of(name: str, kind: str, digest: str) -> str:
+def image_of(name: str, kind: str, digest: str, machine: Machine) -> str:
     """A picture or plate as base64 of an indexed PNG; empty if the file is not what was judged."""
     try:
         picture = read_any(take(name), kind_titled(kind))
@@ -151,10 +166,11 @@ def image_of(name: str, kind: str, digest: str) -> str:
         return ""
     if sha256(least_rewriting(picture)[1]).hexdigest() != digest:
         return ""
-    return b64encode(picture.png()).decode("ascii")
+    png = picture.png() if isinstance(picture, Plate) else picture.png(machine)
+    return b64encode(png).decode("ascii")
 
 
-def data_of(records: list[dict], legend) -> str:
+def data_of(records: list[dict], legend, machine: Machine) -> str:
     """What the page's program shows beside a picture."""
     pictures = []
     for record in records:
@@ -169,7 +185,7 @@ def data_of(records: list[dict], legend) -> str:
                 "height": height,
                 "tally": record["tally"],
                 "palette": [] if plate else [f"{word:04x}" for word in record["palette"]],
-                "colours": PLATE_COLOURS if plate else colours(record["resolution"], record["palette"]),
+                "colours": PLATE_COLOURS if plate else colours(record["resolution"], record["palette"], machine),
                 "facts": f"{record['kind']}, {size_of(record)}{unit}, SHA-256 {record['sha256']}",
             }
         )

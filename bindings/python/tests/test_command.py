@@ -4,6 +4,7 @@ import csv
 import os
 import shlex
 import signal
+import struct
 import subprocess
 import tempfile
 import time
@@ -13,6 +14,7 @@ from pathlib import Path
 
 import kutimuq
 from kutimuq import Form
+from kutimuq.images import MACHINE_KEYWORD, read_image
 
 from . import support
 from .support import (
@@ -35,6 +37,11 @@ PROGRAM = shlex.join(support.PROGRAM)
 COMMANDS = (
     *"check summary palette tail png pbm envi registers colours convert elite plain encode tally pond ponds".split(),
     *("legend new", "legend show", "legend set", "legend release", "levels"),
+)
+# Those that show colours, and what else they need.
+WITH_MACHINE = (
+    ["palette"], ["png"], ["envi", "-o", "/nowhere/a.img"], ["colours"], ["encode", "--form", "neo"], ["check", "."],
+    ["levels"],
 )
 MEANING_8 = "bytes after the body not as the format has them"
 GREY_16 = b"P5\n320 200\n255\n" + bytes(63_999) + b"\x10"
@@ -195,6 +202,124 @@ class Accepted(unittest.TestCase):
         self.assertEqual(command("summary", "--kind", "neo", path).stderr, b"")
         done = command("summary", data=BLANK)
         self.assertEqual(done.stderr, b"kutimuq: standard input: DEGAS by content\n")
+
+
+class Machines(unittest.TestCase):
+    """The colours of an ST, which is the default, and of an STE."""
+
+    WORDS = (0x0735, 0x0888, 0x0777, 0x0FFF, *[0] * 12)
+    ON_ST = ("255 109 182", "0 0 0", "255 255 255", "255 255 255", *["0 0 0"] * 12)
+    ON_STE = ("238 102 170", "17 17 17", "238 238 238", "255 255 255", *["0 0 0"] * 12)
+    HINT = b"palette words with bit 3, 7 or 11 set, as on an STE: --machine ste shows its colours\n"
+    # The default, then each by its name and number.
+    WAYS = (
+        ([], ON_ST), (["--machine", "st"], ON_ST), (["--machine=1"], ON_ST),
+        (["--machine", "ste"], ON_STE), (["--machine=2"], ON_STE),
+    )
+
+    def setUp(self):
+        folder = tempfile.TemporaryDirectory()
+        self.addCleanup(folder.cleanup)
+        self.folder = Path(folder.name)
+        screen = kutimuq.screen_from_registers(blocks(0), 0)
+        self.file = bytes(kutimuq.write(kutimuq.Picture(0, self.WORDS), screen, Form.PLAIN))
+        self.pixels = b"".join(map(bytes, blocks(0)))
+
+    def output(self, *arguments, data=None):
+        done = command(*arguments, data=self.file if data is None else data)
+        self.assertEqual((done.stderr, done.returncode), (b"", 0))
+        return done.stdout
+
+    def test_palette(self):
+        for options, shown in self.WAYS:
+            lines = [f"register {r} word {self.WORDS[r]:04x} colour {shown[r]}" for r in range(16)]
+            self.assertEqual(self.output("palette", "-q", *options).decode().splitlines(), lines)
+
+    def test_palette_hints_at_an_ste(self):
+        found = b"kutimuq: standard input: DEGAS by content\n"
+        hint = b"kutimuq: standard input: " + self.HINT
+        self.assertEqual(command("palette", data=self.file).stderr, found + hint)
+        for options in (["--machine", "st"], ["--machine", "ste"]):
+            self.assertEqual(command("palette", *options, data=self.file).stderr, found)
+        for word in (0x0777, 0xF000):
+            plain = b"\0\0" + word.to_bytes(2, "big") * 16 + bytes(32_000)
+            self.assertEqual(command("palette", data=plain).stderr, found)
+        for word in (0x0008, 0x0080, 0x0800):
+            plain = b"\0\0" + bytes(30) + word.to_bytes(2, "big") + bytes(32_000)
+            self.assertEqual(command("palette", data=plain).stderr, found + hint)
+
+    def test_no_hint_where_no_ste_bits_are_shown(self):
+        found = b"kutimuq: standard input: DEGAS by content\n"
+        for resolution, words in ((1, [0] * 4 + [0x0888] * 12), (2, [0x0888] * 16)):
+            plain = struct.pack(">17H", resolution, *words) + bytes(32_000)
+            self.assertEqual(command("palette", data=plain).stderr, found)
+
+    def test_capitals(self):
+        self.assertEqual(self.output("palette", "--machine", "STE", "-q"), self.output("palette", "--machine", "ste", "-q"))
+
+    def test_colours(self):
+        for options, shown in self.WAYS:
+            parts = [bytes(map(int, colour.split())) for colour in shown]
+            painted = b"".join(parts[register] for register in self.pixels)
+            self.assertEqual(self.output("colours", "-q", *options), b"P6\n320 200\n255\n" + painted)
+
+    def test_envi(self):
+        path = self.folder / "map.img"
+        for options, shown in self.WAYS:
+            self.output("envi", "-q", *options, "-o", path)
+            self.assertEqual(path.read_bytes(), self.pixels)
+            lookup = ", ".join(" ".join(shown).split())
+            self.assertIn(f"class lookup = {{{lookup}}}", (self.folder / "map.hdr").read_text())
+
+    def test_png_and_back(self):
+        for options, shown in self.WAYS:
+            made = self.output("png", "-q", *options)
+            self.assertEqual([" ".join(map(str, colour)) for colour in read_image(made).colours], list(shown))
+            self.assertEqual(MACHINE_KEYWORD in made, shown is self.ON_STE)
+            for named in ([], options):
+                self.assertEqual(self.output("encode", "--form", "plain", *named, data=made), self.file)
+
+    def test_png_of_another_machine(self):
+        for one, other in (("st", "ste"), ("ste", "st")):
+            made = self.output("png", "-q", "--machine", one)
+            done = command("encode", "--form", "plain", "--machine", other, data=made)
+            told = f"on an {other.upper()}, but they are on an {one.upper()}: name that machine"
+            line = f"kutimuq: standard input: its colours are not the palette's {told}\n"
+            self.assertEqual((done.stdout, done.stderr.decode(), done.returncode), (b"", line, 1))
+
+    def test_check(self):
+        (self.folder / "A.PI1").write_bytes(self.file)
+        page, records, table = (self.folder / name for name in ("page", "records", "table"))
+        kept = set()
+        for options, shown in self.WAYS:
+            where = ("--report", page, "--json", records, "--csv", table)
+            told = self.output("check", self.folder / "A.PI1", *options, *where)
+            kept.add((told, records.read_bytes(), table.read_bytes()))
+            self.assertIn(f"Colours as on an {'STE' if shown is self.ON_STE else 'ST'}.", page.read_text())
+        self.assertEqual(len(kept), 1)  # no colour is judged or recorded
+
+    def test_levels(self):
+        self.assertEqual(command("levels", "--machine", "st"), command("levels"))
+        rows = [line.split() for line in self.output("levels", "--machine", "ste").decode().splitlines()]
+        self.assertEqual(rows[0], ["level", "bits", "red", "green", "blue", "shown"])
+        self.assertEqual(rows[2], ["1", "1000", "0800", "0080", "0008", "17"])
+        self.assertEqual(rows[11], ["10", "0101", "0500", "0050", "0005", "170"])
+        self.assertEqual(rows[15], ["14", "0111", "0700", "0070", "0007", "238"])
+        self.assertEqual(rows[16], ["15", "1111", "0f00", "00f0", "000f", "255"])
+        self.assertEqual([int(row[-1]) for row in rows[1:]], list(range(0, 256, 17)))
+
+    def test_names_that_are_no_machines(self):
+        for arguments in WITH_MACHINE:
+            for name in ("tt", "", "0", "3", "ste "):
+                done = command(*arguments, "--machine", name, data=self.file)
+                self.assertEqual((done.stdout, done.returncode), (b"", 2))
+                self.assertIn(f"option --machine: {name!r} is none of st, ste: ".encode(), done.stderr)
+
+    def test_commands_that_show_no_colours(self):
+        for name in set(COMMANDS) - {arguments[0] for arguments in WITH_MACHINE}:
+            done = command(*name.split(), "--machine", "st", data=self.file)
+            self.assertEqual((done.stdout, done.returncode), (b"", 2))
+            self.assertIn(b"unknown option '--machine'", done.stderr)
 
 
 class Many(unittest.TestCase):

@@ -12,7 +12,7 @@ import zlib
 from pathlib import Path
 
 import kutimuq
-from kutimuq import images
+from kutimuq import Machine, images
 from kutimuq.legend import Entry, Legend
 
 from .support import SAMPLES, SHAPES, TAIL, Case, expected_registers, noise
@@ -212,6 +212,87 @@ class ClassNames(Case):
         _, header = images.envi_of(picture_at(0), Legend(legend + [(0, 0, "free")] * 11))
         names = "0 brine  mixed 95%, 1 gypsum 60% (them), 2 free, 3 class 7 5% (them), 4 class 7 5%, 5 free, 6 free"
         self.assertIn(f"class names = {{{names}", header.decode())
+
+
+def without_machine(chunks):
+    return [part for part in chunks if not part[1].startswith(images.MACHINE_KEYWORD)]
+
+
+class Machines(Case):
+    def test_there_and_back(self):
+        for resolution in (0, 1, 2):
+            picture = picture_at(resolution)
+            for machine in Machine:
+                image = images.read_image(picture.png(machine))
+                self.assertEqual((image.machine, image.pixels), (machine, pixels_at(resolution)))
+                self.assertEqual(image.colours, picture.colours(machine))
+                self.assertEqual(images.picture_of(image), picture)
+                self.assertEqual(images.picture_of(image, machine=machine.name), picture)
+
+    def test_a_png_of_an_st_is_as_before(self):
+        picture = picture_at(0)
+        made = picture.png()
+        self.assertEqual(picture.png("st"), made)
+        texts = [data.split(b"\0")[0] for name, data in images.chunks(made) if name == b"tEXt"]
+        self.assertEqual(texts, [b"Comment", b"Atari ST palette", b"Atari ST tail"])
+        # The palette and one more text are all that an STE's has otherwise.
+        named = [(b"tEXt", b"Atari machine\0STE")]
+        other = [part for part in images.chunks(picture.png("ste")) if part not in list(images.chunks(made))]
+        self.assertEqual(other, [(b"PLTE", b"".join(map(bytes, picture.colours("ste")))), *named])
+
+    def assertBad(self, told, *arguments):
+        with self.assertRaises(kutimuq.BadImage) as caught:
+            images.picture_of(*arguments)
+        self.assertEqual(str(caught.exception), f"its colours are not the palette's on {told}")
+
+    def test_colours_of_the_other_machine(self):
+        for resolution in (0, 1):
+            picture = picture_at(resolution)
+            on_st, on_ste = (images.read_image(picture.png(machine)) for machine in Machine)
+            unnamed = images.read_image(remade(picture.png("ste"), without_machine))
+            self.assertEqual(unnamed, on_ste._replace(machine=Machine.ST))
+            told = "an ST, but they are on an STE: name that machine"
+            self.assertBad(told, unnamed)
+            self.assertBad(told, on_ste, None, None, "st")
+            self.assertBad("an STE, but they are on an ST: name that machine", on_st, None, None, 2)
+            self.assertEqual(images.picture_of(unnamed, machine="ste"), picture)
+
+    def test_colours_of_no_machine(self):
+        image = images.read_image(picture_at(0).png())
+        moved = image._replace(colours=image.colours[::-1])
+        for machine in Machine:
+            told = f"an {machine.name}, so its values may not be registers"
+            self.assertBad(told, moved, None, None, machine)
+            self.assertBad(told, moved._replace(machine=machine))
+
+    def test_high_resolution_is_the_same_on_both(self):
+        image = images.read_image(picture_at(2).png("ste"))
+        self.assertEqual(images.picture_of(image, machine="st"), picture_at(2))
+
+    def test_a_machine_that_is_none(self):
+        def falcon(chunks):
+            return [(name, data.replace(b"\0STE", b"\0Falcon")) for name, data in chunks]
+
+        image = images.read_image(remade(picture_at(0).png("ste"), falcon))
+        self.assertEqual(image.machine, Machine.ST)
+        for machine in (0, 3, 258):
+            self.assertRefused(10, 0, images.picture_of, image, None, None, machine)
+            for made in (images.png_of, images.pixmap_of):
+                self.assertRefused(10, 0, made, picture_at(0), machine)
+            self.assertRefused(10, 0, images.envi_of, picture_at(0), None, machine)
+
+    def test_envi_and_ppm(self):
+        picture = picture_at(1)
+        for machine in Machine:
+            shown = picture.colours(machine)
+            _, header = images.envi_of(picture, None, machine)
+            lookup = ", ".join(str(part) for colour in shown for part in colour)
+            self.assertIn(f"class lookup = {{{lookup}}}", header.decode())
+            self.assertIn(f"description = {{Colour registers of an Atari {machine.name} picture}}", header.decode())
+            painted = b"".join(bytes(shown[register]) for register in pixels_at(1))
+            self.assertEqual(images.pixmap_of(picture, machine), b"P6\n640 200\n255\n" + painted)
+        self.assertEqual(images.envi_of(picture), images.envi_of(picture, None, "st"))
+        self.assertEqual(images.pixmap_of(picture), images.pixmap_of(picture, "st"))
 
 
 class Registers(Case):

@@ -4,7 +4,8 @@ import tempfile
 from pathlib import Path
 
 import kutimuq
-from kutimuq.index import levels
+from kutimuq import Machine
+from kutimuq.index import colours, levels
 from kutimuq.legend import BadText, Entry, Legend, read_legend, read_questions
 
 from .support import SHAPES, Case, expected_registers, noise
@@ -101,6 +102,10 @@ class Ponds(Case):
 
 
 LEVELS = (0, 36, 72, 109, 145, 182, 218, 255)
+# What an STE shows of the nibbles 0 to 15: bit 3 is the level's lowest.
+STE_NIBBLES = (0, 34, 68, 102, 136, 170, 204, 238, 17, 51, 85, 119, 153, 187, 221, 255)
+MACHINES = ((1, 2), ("st", "ste"), ("ST", "STE"), (Machine.ST, Machine.STE))
+NO_MACHINES = (0, 3, 255, 256, 257, 258, -1, 1 << 64)
 
 
 class Colours(Case):
@@ -115,24 +120,81 @@ class Colours(Case):
                 palette = [0xF888 | level << 8 | level << 4 | level] * 16
                 self.assertEqual(kutimuq.colour(resolution, palette, 3), (shown,) * 3)
 
+    def test_both_machines(self):
+        for word, on_st, on_ste in (
+            (0x0735, (255, 109, 182), (238, 102, 170)),
+            (0x0888, (0, 0, 0), (17, 17, 17)),
+            (0x0777, (255, 255, 255), (238, 238, 238)),
+            (0x0FFF, (255, 255, 255), (255, 255, 255)),
+            (0xF94C, (36, 145, 145), (51, 136, 153)),
+            (0xF000, (0, 0, 0), (0, 0, 0)),
+        ):
+            palette = [0] * 3 + [word] + [0] * 12
+            for resolution in (0, 1):
+                self.assertEqual(kutimuq.colour(resolution, palette, 3), on_st)
+                for st, ste in MACHINES:
+                    self.assertEqual(kutimuq.colour(resolution, palette, 3, st), on_st)
+                    self.assertEqual(kutimuq.colour(resolution, palette, 3, machine=ste), on_ste)
+
+    def test_nibbles_of_an_ste(self):
+        for nibble, shown in enumerate(STE_NIBBLES):
+            for part in range(3):
+                expected = tuple(shown if each == part else 0 for each in range(3))
+                palette = [0xF000 | nibble << (8, 4, 0)[part]] * 16
+                self.assertEqual(kutimuq.colour(0, palette, 15, "ste"), expected)
+
+    def test_as_many_colours_as_a_machine_has(self):
+        palettes = [range(first, first + 16) for first in range(0, 4096, 16)]
+        for machine, count in (("st", 512), ("ste", 4096)):
+            self.assertEqual(len({shown for palette in palettes for shown in colours(0, palette, machine)}), count)
+
+    def test_colours_of_a_picture(self):
+        words = range(0x0880, 0x0890)
+        for resolution, (_, _, planes) in enumerate(SHAPES):
+            picture = kutimuq.Picture(resolution, tuple(words))
+            for machine in Machine:
+                expected = [kutimuq.colour(resolution, words, register, machine) for register in range(1 << planes)]
+                self.assertEqual(picture.colours(machine), expected)
+                self.assertEqual(colours(resolution, words, machine), expected)
+            self.assertEqual(picture.colours(), picture.colours("st"))
+            self.assertEqual(colours(resolution, words), picture.colours())
+
     def test_high_resolution(self):
-        for word in (0, 1, 0x0777):
-            self.assertEqual(kutimuq.colour(2, [word] * 16, 0), (255, 255, 255))
-            self.assertEqual(kutimuq.colour(2, [word] * 16, 1), (0, 0, 0))
+        for word in (0, 1, 0x0777, 0x0888, 0xFFFF):
+            for machine in Machine:
+                self.assertEqual(kutimuq.colour(2, [word] * 16, 0, machine), (255, 255, 255))
+                self.assertEqual(kutimuq.colour(2, [word] * 16, 1, machine), (0, 0, 0))
 
     def test_refusals(self):
         palette = [0] * 16
         for resolution, (_, _, planes) in enumerate(SHAPES):
             for register in (1 << planes, 255, 256, -1):
-                self.assertRefused(10, 0, kutimuq.colour, resolution, palette, register)
+                for machine in Machine:
+                    self.assertRefused(10, 0, kutimuq.colour, resolution, palette, register, machine)
+            for machine in NO_MACHINES:
+                self.assertRefused(10, 0, kutimuq.colour, resolution, palette, 0, machine)
+                self.assertRefused(10, 0, colours, resolution, palette, machine)
         for resolution in (3, -1, 65_536):
-            self.assertRefused(5, 0, kutimuq.colour, resolution, palette, 99)
+            for machine in (*Machine, *NO_MACHINES):
+                self.assertRefused(5, 0, kutimuq.colour, resolution, palette, 99, machine)
+                self.assertRefused(5, 0, colours, resolution, palette, machine)
         self.assertRaises(ValueError, kutimuq.colour, 0, [0] * 15, 0)
+        self.assertRaisesRegex(ValueError, "'tt' is none of st, ste", kutimuq.colour, 0, palette, 0, "tt")
+        self.assertRaises(TypeError, kutimuq.colour, 0, palette, 0, None)
 
     def test_levels(self):
         self.assertEqual([row[0] for row in levels()], list(range(8)))
         self.assertEqual(tuple(row[2] for row in levels()), LEVELS)
         self.assertEqual(levels()[5][1], (0x500, 0x050, 0x005))
+        self.assertEqual(levels("st"), levels())
+
+    def test_levels_of_an_ste(self):
+        rows = levels("ste")
+        self.assertEqual([row[0] for row in rows], list(range(16)))
+        self.assertEqual([row[2] for row in rows], sorted(STE_NIBBLES))
+        self.assertEqual([row[1] for row in rows[:3]], [(0, 0, 0), (0x800, 0x080, 0x008), (0x100, 0x010, 0x001)])
+        self.assertEqual([STE_NIBBLES[blue] for _, (_, _, blue), _ in rows], sorted(STE_NIBBLES))
+        self.assertRefused(10, 0, levels, 3)
 
 
 class TextFiles(Case):

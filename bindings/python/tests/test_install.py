@@ -103,6 +103,9 @@ class Names(unittest.TestCase):
         page = (PYTHON / "man" / "kutimuq.1").read_text().replace("\\", "")
         for name in COMMANDS:
             self.assertRegex(page, rf"\n\.(B|BI|BR) ([a-z\", ]* )?\"?{name}\b")
-        options = "json csv report legend jobs resume kind quiet output folder form palette like party register name"
-        for option in options.split():
+        options = (
+            *"json csv report legend jobs resume kind quiet output folder form palette like machine".split(),
+            *"party register name".split(),
+        )
+        for option in options:
             self.assertIn(f"--{option}", page)

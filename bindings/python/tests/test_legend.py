@@ -616,9 +616,9 @@ class Readings(InFolder):
 
     def test_pond(self):
         ours, theirs = b"sure 64000\nunsure 0\nother 0\n", b"sure 0\nunsure 0\nother 64000\n"
-        for party, expected in ((), ours), (["us"], ours), ([1], ours), (["them"], theirs), ([2], theirs):
+        for party, expected in ((), ours), (["us"], ours), (["US"], ours), ([1], ours), (["them"], theirs), ([2], theirs):
             self.assertEqual(self.pond(*(["--party", *party] if party else [])), expected)
-        for party in (0, 3, "free", "", "US"):
+        for party in (0, 3, "free", "", "u s"):
             done = command("pond", *self.question, "--party", party, data=BLANK)
             self.assertEqual((done.stdout, done.returncode), (b"", 2))
             self.assertIn(b"option --party: ", done.stderr)

@@ -18,7 +18,7 @@ LONGEST_FILE = 51_711
 BLANK_ROW = bytes((257 - ROW_BYTES, 0))
 BLANK_BODY = BLANK_ROW * HEIGHT
 CROSSING = b"\x7f"  # a literal of 128 bytes, which no row holds
-NO_PICTURE = "a MacPaint plate has no registers, palette or tail"
+NO_PICTURE = "a MacPaint plate has no registers, palette, tail or machine"
 
 
 def file_of(body=BLANK_BODY, version=0):
@@ -327,7 +327,8 @@ class Commands(Folder):
             done = command(*arguments, "-q", data=BLANK)
             self.assertEqual((done.stdout, done.returncode), (b"", 2))
             self.assertEqual(done.stderr, b"kutimuq: standard input: not a MacPaint plate\n")
-        for option, value in (("--palette", "0000 " * 16), ("--like", self.put("a.pc1", BLANK))):
+        options = (("--palette", "0000 " * 16), ("--like", self.put("a.pc1", BLANK)), ("--machine", "st"))
+        for option, value in options:
             done = command("encode", "--form", "mac", option, value, data=Plate(drawing()).pbm())
             self.assertEqual((done.stdout, done.returncode), (b"", 2))
             self.assertEqual(done.stderr.decode(), f"kutimuq: {NO_PICTURE}\n")

@@ -6,11 +6,12 @@ import shutil
 import subprocess
 import tempfile
 import unittest
+from base64 import b64decode
 from html.parser import HTMLParser
 from pathlib import Path
 
 import kutimuq
-from kutimuq import Form, box, report
+from kutimuq import Form, Machine, box, images, report
 
 from .support import BLANK, PALETTE, SAMPLES, TAIL, blocks, broken, command
 
@@ -88,12 +89,47 @@ class Page(unittest.TestCase):
 
     def test_a_file_that_changed_since(self):
         judged = box.judge(str(self.folder / "A.PC1"))
-        arguments = (judged["name"], judged["kind"], judged["sha256"])
+        arguments = (judged["name"], judged["kind"], judged["sha256"], Machine.ST)
         self.assertTrue(report.image_of(*arguments))
         self.put("A.PC1", BLANK)
         self.assertEqual(report.image_of(*arguments), "")
         (self.folder / "A.PC1").unlink()
         self.assertEqual(report.image_of(*arguments), "")
+
+    def test_colours_of_a_machine(self):
+        for options, machine in (([], "ST"), (["--machine", "st"], "ST"), (["--machine", "ste"], "STE")):
+            page = self.page(*options)
+            self.assertIn(f"\n<p>Colours as on an {machine}.", page)
+            shown = self.picture.colours(machine)
+            self.assertEqual(self.data(page)["pictures"][1]["colours"], list(map(list, shown)))
+            image = re.findall('src="data:image/png;base64,([^"]*)"', page)[1]
+            self.assertEqual(images.read_image(b64decode(image)).colours, shown)
+
+    def test_a_picture_that_may_be_an_stes(self):
+        note = "STE bits: palette words with bit 3, 7 or 11 set, as on an STE.</p>"
+        page = self.page()
+        self.assertIn(note, page)
+        captions = re.findall("<figcaption>(.*?)</figcaption>", page)
+        self.assertEqual(captions, ["<b>A.PC1</b> DEGAS, low", "<b>B.PI2</b> DEGAS, medium and 1 more, STE bits"])
+        self.assertNotIn("STE bits", self.page("--machine", "ste"))
+        for name in ("B.PI2", "C.PC2"):
+            (self.folder / name).unlink()
+        self.assertNotIn("STE", self.page())
+
+    def test_another_machine_for_a_run_taken_up(self):
+        records = self.out / "records"
+        self.page("--json", records)
+        judged = records.read_bytes()
+        # A mark in the journal shows that a record is taken from there.
+        (self.out / "records.part").write_bytes(judged.replace(b'"records": 3850', b'"records": 3851'))
+        page = self.page("--json", records, "--resume", "--machine", "ste")
+        self.assertIn("<p>Colours as on an STE.</p>", page)
+        self.assertEqual(self.data(page)["pictures"][1]["colours"], list(map(list, self.picture.colours("ste"))))
+        self.assertEqual(records.read_bytes(), judged.replace(b'"records": 3850', b'"records": 3851'))
+
+    def data(self, page):
+        """What the page's program shows."""
+        return json.loads(re.search('<script type="application/json" id="data">(.*?)</script>', page)[1])
 
     def test_how_far_maps_are_good(self):
         for resolution, plane_row, good_bytes, line, plane, pixels in (
@@ -131,8 +167,7 @@ class Page(unittest.TestCase):
 
     def test_owners(self):
         legend = self.shared_legend()
-        data = re.search('<script type="application/json" id="data">(.*?)</script>', self.page("--legend", legend))[1]
-        entries = json.loads(data)["legend"]
+        entries = self.data(self.page("--legend", legend))["legend"]
         self.assertEqual(entries[1:4], [
             {"class": 1, "confidence": 90, "owner": "us", "name": "fresh water"},
             {"class": 2, "confidence": 80, "owner": "them", "name": "gypsum"},
