@@ -24,10 +24,8 @@ mod spread;
 use outcome::AREA_TOO_SHORT;
 use outcome::OUT_OF_RANGE;
 use outcome::Refusal;
-use outcome::UNKNOWN_RESOLUTION;
-use resolution::Chosen;
 use resolution::Resolution;
-use resolution::SCREEN_BYTES;
+use resolution::ScreenChosen;
 use spread::SPREAD;
 
 // The bytes that hold eight pixels, one for each plane; 0 for a plane that is not there.
@@ -195,12 +193,9 @@ pub fn line_out(screen: &[u8], resolution: u16, line: usize, out: &mut [u8]) -> 
     ensures { λ _. ⌜ now (out .exit) ≡ later (lineOut (now (screen .entry)) resolution line (length (now (out .entry))))
         (λ l. over l (now (out .entry))) (now (out .entry)) ⌝ }
 {
-    if screen.len() < SCREEN_BYTES {
-        return outcome::refuse(AREA_TOO_SHORT);
-    }
-    match Resolution::from_number(resolution) {
-        Chosen::Known(r) => line_out_at(screen, r, line, out),
-        Chosen::Unknown => outcome::refuse(UNKNOWN_RESOLUTION),
+    match resolution::judge_screen(screen.len(), resolution) {
+        ScreenChosen::Fits(r) => line_out_at(screen, r, line, out),
+        ScreenChosen::Refused(number) => outcome::refuse(number),
     }
 }
 
@@ -447,12 +442,9 @@ pub fn line_in(screen: &mut [u8], resolution: u16, line: usize, registers: &[u8]
     ensures { λ _. ⌜ now (screen .exit) ≡ later (lineIn (now (screen .entry)) resolution line (now (registers .entry)))
         (λ s. s) (now (screen .entry)) ⌝ }
 {
-    if screen.len() < SCREEN_BYTES {
-        return outcome::refuse(AREA_TOO_SHORT);
-    }
-    match Resolution::from_number(resolution) {
-        Chosen::Known(r) => line_in_at(screen, r, line, registers),
-        Chosen::Unknown => outcome::refuse(UNKNOWN_RESOLUTION),
+    match resolution::judge_screen(screen.len(), resolution) {
+        ScreenChosen::Fits(r) => line_in_at(screen, r, line, registers),
+        ScreenChosen::Refused(number) => outcome::refuse(number),
     }
 }
 
@@ -499,12 +491,9 @@ pub fn screen_out(screen: &[u8], resolution: u16, out: &mut [u8]) -> Refusal
     ensures { λ _. ⌜ now (out .exit) ≡ later (screenOut (now (screen .entry)) resolution (length (now (out .entry))))
         (λ l. over l (now (out .entry))) (now (out .entry)) ⌝ }
 {
-    if screen.len() < SCREEN_BYTES {
-        return outcome::refuse(AREA_TOO_SHORT);
-    }
-    match Resolution::from_number(resolution) {
-        Chosen::Known(r) => screen_out_at(screen, r, out),
-        Chosen::Unknown => outcome::refuse(UNKNOWN_RESOLUTION),
+    match resolution::judge_screen(screen.len(), resolution) {
+        ScreenChosen::Fits(r) => screen_out_at(screen, r, out),
+        ScreenChosen::Refused(number) => outcome::refuse(number),
     }
 }
 
@@ -548,11 +537,8 @@ pub fn screen_in(screen: &mut [u8], resolution: u16, registers: &[u8]) -> Refusa
     ensures { λ _. ⌜ now (screen .exit) ≡ later (screenIn (now (screen .entry)) resolution (now (registers .entry)))
         (λ s. s) (now (screen .entry)) ⌝ }
 {
-    if screen.len() < SCREEN_BYTES {
-        return outcome::refuse(AREA_TOO_SHORT);
-    }
-    match Resolution::from_number(resolution) {
-        Chosen::Known(r) => screen_in_at(screen, r, registers),
-        Chosen::Unknown => outcome::refuse(UNKNOWN_RESOLUTION),
+    match resolution::judge_screen(screen.len(), resolution) {
+        ScreenChosen::Fits(r) => screen_in_at(screen, r, registers),
+        ScreenChosen::Refused(number) => outcome::refuse(number),
     }
 }

@@ -1,18 +1,21 @@
 -- Laws of what is judged with the resolution that a number names.
 use mathlib.Core.Path.{_≡_, refl, sym, ap, _∙_}
+use mathlib.Core.Bool.{Bool, true, false}
 use Prim.Native.Nat.{ℕ, _≤_}
 use native.Mathlib.Omega.{arith}
 use lib.Dec.{ltb}
 use borrow.Author.Tests.{ltb-false}
-use Rattle.lists.proofs.Cond.{cond-eqb}
-use Rattle.outcome.specs.Outcome.{Outcome, accepted, refuse}
+use Rattle.lists.proofs.Cond.{cond-ltb, cond-eqb}
+use Rattle.outcome.specs.Outcome.{Outcome, accepted, refuse, refuseIf}
 use Rattle.outcome.specs.Refusal.{areaTooShort, unknownResolution}
 use Rattle.outcome.proofs.Outcome.{passed}
 use Rattle.resolution.specs.declared.Chosen.{Chosen}
 use Rattle.resolution.specs.declared.Chosen.the-variants.{Known, Unknown}
 use Rattle.resolution.specs.declared.Resolution.{Resolution}
 use Rattle.resolution.specs.declared.Resolution.the-variants.{Low, Medium, High}
+use Rattle.resolution.specs.declared.ScreenChosen.the-variants.{Fits}
 use Rattle.resolution.specs.Choice.{chosen, numberOf, judgeWith, withResolution, judgeScreen}
+use Rattle.resolution.specs.Choice.{screenChosen, judgeOn}
 use Rattle.resolution.specs.Shapes.{screenBytes}
 
 -- ---- a resolution and its number
@@ -66,3 +69,26 @@ judgeScreen-fits {A = A} {P = P} screenLen number further a e f =
     (λ q. let z : _≡_ {A = ℕ} 0 1 = cc in absurd (omega arith))
     (λ r known. f r known (ltb-false screenLen screenBytes (p .0)))
     (p .1)
+
+-- ---- the answer of a judged screen
+
+-- to judge further with a screen is to judge further by its answer
+pub judgeScreen-chosen : {A : Type 0} (screenLen number : ℕ) (further : Resolution → Outcome A)
+    → judgeScreen screenLen number further
+    ≡ judgeOn (screenChosen (judgeScreen screenLen number (λ r. accepted r))) further
+judgeScreen-chosen screenLen number further = go (ltb screenLen screenBytes) (chosen number)
+  where
+    go : (t : Bool) (c : Chosen)
+        → refuseIf t areaTooShort (judgeWith c further)
+        ≡ judgeOn (screenChosen (refuseIf t areaTooShort (judgeWith c (λ r. accepted r)))) further
+    go true c = refl
+    go false (Known r) = refl
+    go false Unknown = refl
+
+-- a screen that has a resolution is whole
+pub chosen-whole : (screenLen number : ℕ) (r : Resolution)
+    → screenChosen (judgeScreen screenLen number (λ r. accepted r)) ≡ Fits r → screenBytes ≤ screenLen
+chosen-whole screenLen number r =
+    cond-ltb (λ (o : Outcome Resolution). screenChosen o ≡ Fits r → screenBytes ≤ screenLen) screenLen screenBytes
+    (λ _ e. let z : _≡_ {A = ℕ} 0 1 = cc in absurd (omega arith))
+    (λ h _. h)

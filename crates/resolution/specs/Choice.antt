@@ -3,12 +3,14 @@
 use Prim.Native.Nat.{ℕ}
 use mathlib.Core.Bool.{cond}
 use lib.Dec.{ltb, eqb}
-use Rattle.outcome.specs.Outcome.{Outcome, refuse, refuseIf}
+use Rattle.outcome.specs.Outcome.{Outcome, accepted, refused, refuse, refuseIf}
 use Rattle.outcome.specs.Refusal.{areaTooShort, unknownResolution}
 use Rattle.resolution.specs.declared.Chosen.{Chosen}
 use Rattle.resolution.specs.declared.Chosen.the-variants.{Known, Unknown}
 use Rattle.resolution.specs.declared.Resolution.{Resolution}
 use Rattle.resolution.specs.declared.Resolution.the-variants.{Low, Medium, High}
+use Rattle.resolution.specs.declared.ScreenChosen.{ScreenChosen}
+use Rattle.resolution.specs.declared.ScreenChosen.the-variants.{Fits, Refused}
 use Rattle.resolution.specs.Shapes.{screenBytes}
 
 -- 0 low, 1 medium, 2 high
@@ -33,3 +35,13 @@ withResolution number further = judgeWith (chosen number) further
 -- the length of a screen and the resolution's number, judged in this order
 abbrev pub judgeScreen : {A : Type 0} → ℕ → ℕ → (Resolution → Outcome A) → Outcome A
 judgeScreen screenLen number further = refuseIf (ltb screenLen screenBytes) areaTooShort (withResolution number further)
+
+-- the answer of such a judgement: the resolution, or the number of the refusal
+abbrev pub screenChosen : Outcome Resolution → ScreenChosen
+screenChosen (accepted r) = Fits r
+screenChosen (refused why) = Refused (why .number)
+
+-- judged further by such an answer (proofs/Choice.antt, `judgeScreen-chosen`)
+abbrev pub judgeOn : {A : Type 0} → ScreenChosen → (Resolution → Outcome A) → Outcome A
+judgeOn (Fits r) further = further r
+judgeOn (Refused n) further = refuse n

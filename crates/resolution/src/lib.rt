@@ -2,7 +2,10 @@
 ghost use mathlib.Core.Path.{_≡_};
 ghost use Rattle.resolution.specs.Shapes.{shapeOf, widthOf, heightOf, planesOf, rowBytesOf, planeRowsOf};
 ghost use Rattle.resolution.specs.Shapes.{groupsOf, lineBytesOf, registersOf, rasterOf};
-ghost use Rattle.resolution.specs.Choice.{chosen, numberOf};
+ghost use Rattle.outcome.specs.Outcome.{accepted};
+ghost use Rattle.resolution.specs.Choice.{chosen, numberOf, judgeScreen, screenChosen};
+use outcome::AREA_TOO_SHORT;
+use outcome::UNKNOWN_RESOLUTION;
 use raster::Raster;
 
 // Bytes of a screen, at every resolution.
@@ -28,6 +31,12 @@ pub enum Resolution {
 pub enum Chosen {
     Known(Resolution),
     Unknown,
+}
+
+// The resolution of a screen, or the number of the refusal.
+pub enum ScreenChosen {
+    Fits(Resolution),
+    Refused(u8),
 }
 
 impl Resolution {
@@ -165,5 +174,18 @@ impl Resolution {
             Resolution::Medium => 4,
             Resolution::High => 2,
         }
+    }
+}
+
+// A screen's length judged, then the resolution's number.
+pub fn judge_screen(screen_len: usize, number: u16) -> ScreenChosen
+    ensures { λ c. ⌜ c ≡ screenChosen (judgeScreen «screen_len» number (λ r. accepted r)) ⌝ }
+{
+    if screen_len < SCREEN_BYTES {
+        return ScreenChosen::Refused(AREA_TOO_SHORT);
+    }
+    match Resolution::from_number(number) {
+        Chosen::Known(r) => ScreenChosen::Fits(r),
+        Chosen::Unknown => ScreenChosen::Refused(UNKNOWN_RESOLUTION),
     }
 }

@@ -14,13 +14,10 @@ ghost use Rattle.tally.specs.Blocks.{partRegister, blocksRegister, regis
 ghost use Rattle.tally.specs.Counts.{mostPixels, mostCounted, CountsTo, counted, lineCounts, countedLines};
 ghost use Rattle.tally.specs.Counts.{counts, talliedAt, tallied, tallyAnswer};
 ghost use Rattle.tally.specs.Rectangles.{rectangleFits};
-use outcome::AREA_TOO_SHORT;
 use outcome::OUT_OF_RANGE;
 use outcome::Refusal;
-use outcome::UNKNOWN_RESOLUTION;
-use resolution::Chosen;
 use resolution::Resolution;
-use resolution::SCREEN_BYTES;
+use resolution::ScreenChosen;
 
 // A rectangle of pixels: its left column, top line, columns and lines.
 #[repr(C)]
@@ -451,11 +448,8 @@ fn tally_at(screen: &[u8], r: Resolution, rectangle: Rectangle) -> TallyAnswer
 pub fn tally(screen: &[u8], resolution: u16, rectangle: Rectangle) -> TallyAnswer
     ensures { λ t. ⌜ t ≡ tallyAnswer (tallied (now (screen .entry)) resolution rectangle) ⌝ }
 {
-    if screen.len() < SCREEN_BYTES {
-        return tally_refused(outcome::refuse(AREA_TOO_SHORT));
-    }
-    match Resolution::from_number(resolution) {
-        Chosen::Known(r) => tally_at(screen, r, rectangle),
-        Chosen::Unknown => tally_refused(outcome::refuse(UNKNOWN_RESOLUTION)),
+    match resolution::judge_screen(screen.len(), resolution) {
+        ScreenChosen::Fits(r) => tally_at(screen, r, rectangle),
+        ScreenChosen::Refused(number) => tally_refused(outcome::refuse(number)),
     }
 }

@@ -1,41 +1,41 @@
--- `lines::screen_in` meets its contract: the screen, the resolution, then the registers.
+-- `lines::screen_in` meets its contract: the screen is judged, then the registers.
 use mathlib.Core.Path.{refl, sym, _∙_}
 use borrow.Author.Needs.{needs}
-use borrow.Author.Tests.{lt-ltb, le-ltb}
+use Rattle.resolution.proofs.Choice.{judgeScreen-chosen, chosen-whole}
 use Rattle.lines.specs.Screens.{screenIn}
 use Rattle.lines.proofs.screen_in.Statement.{statement}
 use Rattle.lines.proofs.screen_in.Tie as tie
 
+screen-in-at-requires : tie.Need-screen-in-at-requires
+screen-in-at-requires c κs =
+    let r = c .before .before in
+    let j = r .before .before in
+    chosen-whole _ (j .before .before .before .args .resolution) _ (sym (j .judge-screen .ensures) ∙ r .r .given .1)
+
 returns : tie.Need-returns
 unfolding screenIn
-returns c = simp (lt-ltb _ _ (c .before .if1 .taken)) (c .refuse .ensures, refl)
+returns c =
+    let k = c .before .before in
+    let r = k .before .before .before in
+    let e = sym (r .before .before .judge-screen .ensures) ∙ r .r .given .1 in
+    rw (judgeScreen-chosen _ _ _, e) (k .screen-in-at .ensures)
 
 returns-2 : tie.Need-returns-2
 unfolding screenIn
 returns-2 c =
-    let k = c .before .before in
-    let f = k .before .before .before .before .before in
-    let e = sym (f .from-number .ensures) ∙ k .before .before .before .r .given .1 in
-    rw e (simp (le-ltb _ _ (f .before .if1 .left)) (k .screen-in-at .ensures))
-
-returns-3 : tie.Need-returns-3
-unfolding screenIn
-returns-3 c =
-    let f = c .before .before .before in
-    let e = sym (f .from-number .ensures) ∙ c .before .enum-told .given .1 in
-    rw e (simp (le-ltb _ _ (f .before .if1 .left)) (c .refuse2 .ensures, refl))
+    let n = c .before .before in
+    let e = sym (n .before .before .judge-screen .ensures) ∙ n .number .given .1 in
+    rw (judgeScreen-chosen _ _ _, e) (c .refuse .ensures, refl)
 
 pub screen-in-spec : {M : Type 1} → statement M
 screen-in-spec =
     tie.close
     (tie.spec
     (λ c κs. search needs)
+    (λ c. search needs)
+    screen-in-at-requires
+    (λ c. search needs)
+    (λ c κs. search needs)
+    (λ c. search needs)
     returns
-    (λ c κs. search needs)
-    (λ c. search needs)
-    (λ c κs. search needs)
-    (λ c. search needs)
-    (λ c κs. search needs)
-    (λ c. search needs)
-    returns-2
-    returns-3)
+    returns-2)

@@ -1,41 +1,41 @@
--- `lines::screen_out` meets its contract: the screen, the resolution, then the output.
+-- `lines::screen_out` meets its contract: the screen is judged, then the output.
 use mathlib.Core.Path.{refl, sym, _∙_}
 use borrow.Author.Needs.{needs}
-use borrow.Author.Tests.{lt-ltb, le-ltb}
+use Rattle.resolution.proofs.Choice.{judgeScreen-chosen, chosen-whole}
 use Rattle.lines.specs.Screens.{screenOut}
 use Rattle.lines.proofs.screen_out.Statement.{statement}
 use Rattle.lines.proofs.screen_out.Tie as tie
 
+screen-out-at-requires : tie.Need-screen-out-at-requires
+screen-out-at-requires c κs =
+    let r = c .before .before in
+    let j = r .before .before in
+    chosen-whole _ (j .before .before .before .args .resolution) _ (sym (j .judge-screen .ensures) ∙ r .r .given .1)
+
 returns : tie.Need-returns
 unfolding screenOut
-returns c = simp (lt-ltb _ _ (c .before .if1 .taken)) (c .refuse .ensures, refl)
+returns c =
+    let k = c .before .before in
+    let r = k .before .before .before in
+    let e = sym (r .before .before .judge-screen .ensures) ∙ r .r .given .1 in
+    rw (judgeScreen-chosen _ _ _, e) (k .screen-out-at .ensures)
 
 returns-2 : tie.Need-returns-2
 unfolding screenOut
 returns-2 c =
-    let k = c .before .before in
-    let f = k .before .before .before .before .before in
-    let e = sym (f .from-number .ensures) ∙ k .before .before .before .r .given .1 in
-    rw e (simp (le-ltb _ _ (f .before .if1 .left)) (k .screen-out-at .ensures))
-
-returns-3 : tie.Need-returns-3
-unfolding screenOut
-returns-3 c =
-    let f = c .before .before .before in
-    let e = sym (f .from-number .ensures) ∙ c .before .enum-told .given .1 in
-    rw e (simp (le-ltb _ _ (f .before .if1 .left)) (c .refuse2 .ensures, refl))
+    let n = c .before .before in
+    let e = sym (n .before .before .judge-screen .ensures) ∙ n .number .given .1 in
+    rw (judgeScreen-chosen _ _ _, e) (c .refuse .ensures, refl)
 
 pub screen-out-spec : {M : Type 1} → statement M
 screen-out-spec =
     tie.close
     (tie.spec
     (λ c κs. search needs)
+    (λ c. search needs)
+    screen-out-at-requires
+    (λ c. search needs)
+    (λ c κs. search needs)
+    (λ c. search needs)
     returns
-    (λ c κs. search needs)
-    (λ c. search needs)
-    (λ c κs. search needs)
-    (λ c. search needs)
-    (λ c κs. search needs)
-    (λ c. search needs)
-    returns-2
-    returns-3)
+    returns-2)
