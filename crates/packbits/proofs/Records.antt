@@ -43,6 +43,12 @@ control-whole x =
     (λ h. ap (λ (c : ℕ). fault (control c)) h ∙ ap fault control-nothing)
     (λ h. ap fault (control-repeat x h))
 
+-- and each takes a byte at least
+pub control-takes : (x : ℕ) → 0 < packedLen (control x)
+control-takes x =
+    by-control x (λ h. rw (control-literal x h) (omega arith)) (λ h. rw (h, control-nothing) (omega arith))
+    (λ h. rw (control-repeat x h) (omega arith))
+
 -- ---- a record judged
 
 module _ (r : Record) (left room : ℕ) where
