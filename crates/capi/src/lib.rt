@@ -23,9 +23,15 @@ ghost use Rattle.macpaint.specs.Reading.{readPlate};
 ghost use Rattle.macpaint.specs.Writing.{writePlate};
 ghost use Rattle.conversion.specs.declared.Conversion.the-variants.{ToElite, ToPlain};
 ghost use Rattle.conversion.specs.Converting.{convert};
+ghost use Rattle.degas_records.specs.Answers.{cursorAnswer, recordAnswer};
+ghost use Rattle.degas_records.specs.Opening.{packedOpening};
+ghost use Rattle.degas_records.specs.Steps.{stepped};
 use bodies::BodyAnswer;
 use colour::ColourAnswer;
 use conversion::Conversion;
+use degas_records::CursorAnswer;
+use degas_records::RecordAnswer;
+use degas_records::RecordCursor;
 use legend::Legend;
 use legend::LegendAnswer;
 use outcome::Refusal;
@@ -252,4 +258,20 @@ pub extern "C" fn kutimuq_to_plain(file: &[u8], out: &mut [u8]) -> WriteAnswer
         ≡ writeOutput (convert ToPlain (now (file .entry)) (length (now (out .entry)))) (now (out .entry)) ⌝ }
 {
     conversion::convert(Conversion::ToPlain, file, out)
+}
+
+// The records of a packed DEGAS file opened.
+#[no_mangle]
+pub extern "C" fn kutimuq_open_records(file: &[u8]) -> CursorAnswer
+    ensures { λ a. ⌜ a ≡ cursorAnswer (packedOpening (now (file .entry))) ⌝ }
+{
+    degas_records::open_records(file)
+}
+
+// The record at a cursor, or done, or the refusal; and the next cursor.
+#[no_mangle]
+pub extern "C" fn kutimuq_next_record(file: &[u8], cursor: RecordCursor) -> RecordAnswer
+    ensures { λ a. ⌜ a ≡ recordAnswer (stepped (now (file .entry)) cursor) ⌝ }
+{
+    degas_records::next_record(file, cursor)
 }

@@ -1,0 +1,9 @@
+pub mod BodyRecords
+pub mod Examples
+pub mod Induction
+pub mod Listing
+pub mod Opening
+pub mod Reader
+pub mod Reading
+pub mod Steps
+pub mod Unpacking

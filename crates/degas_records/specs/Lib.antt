@@ -1,0 +1,6 @@
+pub mod Answers
+pub mod BodyRecords
+pub mod Listing
+pub mod Opening
+pub mod Reader
+pub mod Steps
