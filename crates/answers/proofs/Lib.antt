@@ -2,4 +2,5 @@ pub mod Examples
 pub mod IndexAnswers
 pub mod IndexRefusals
 pub mod Orders
+pub mod RecordList
 pub mod RefusalRows

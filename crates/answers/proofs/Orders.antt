@@ -106,7 +106,7 @@ use Rattle.answers.specs.Orders.{toPlainOrder, toEliteNumbers, toPlainNu
 -- ---- an outcome judged by tests, in order
 
 module _ {A : Type 0} (number : Outcome A → ℕ) (is : (n : ℕ) → number (refuse n) ≡ n) where
-  first-test : (t : Bool) (n : ℕ) {further : Outcome A} {next : ℕ} → (t ≡ false → number further ≡ next)
+  pub first-test : (t : Bool) (n : ℕ) {further : Outcome A} {next : ℕ} → (t ≡ false → number further ≡ next)
       → number (refuseIf t n further) ≡ cond t n next
   first-test true n h = is n
   first-test false n h = h refl
@@ -119,7 +119,7 @@ module _ {A : Type 0} (number : Outcome A → ℕ) (is : (n : ℕ) → number (r
   first-either false false n h = h
 
   -- a resolution's number, 5 above 2, and then what is judged at the resolution
-  first-resolution : (n : ℕ) (further : Resolution → Outcome A) (next : ℕ → ℕ) → number (further Low) ≡ next 0
+  pub first-resolution : (n : ℕ) (further : Resolution → Outcome A) (next : ℕ → ℕ) → number (further Low) ≡ next 0
       → number (further Medium) ≡ next 1 → number (further High) ≡ next 2
       → number (withResolution n further) ≡ cond (ltb 2 n) 5 (next n)
   first-resolution n further next low medium high =
@@ -888,7 +888,7 @@ write-plate-order plate out =
 -- ---- the numbers that an operation can give back
 
 -- 0 and the number of each test that can hold are among these
-abbrev giveOnly : List ℕ → List Test → Bool
+abbrev pub giveOnly : List ℕ → List Test → Bool
 giveOnly numbers [] = oneOf numbers 0
 giveOnly numbers (t ∷ rest) = (oneOf numbers (t .1) || not (t .0)) && giveOnly numbers rest
 
@@ -908,7 +908,7 @@ first-given numbers (t ∷ rest) e =
     let p = and-true (oneOf numbers (t .1) || not (t .0)) (giveOnly numbers rest) e in
     given-next numbers (t .0) (t .1) (firstRefusal rest) (p .0) (first-given numbers rest (p .1))
 
-in-order : (numbers : List ℕ) (tests : List Test) {n : ℕ} → n ≡ firstRefusal tests → giveOnly numbers tests ≡ true
+pub in-order : (numbers : List ℕ) (tests : List Test) {n : ℕ} → n ≡ firstRefusal tests → giveOnly numbers tests ≡ true
     → oneOf numbers n ≡ true
 in-order numbers tests e h = ap (oneOf numbers) e ∙ first-given numbers tests h
 

@@ -1,4 +1,5 @@
 pub mod Examples
 pub mod IndexRefusals
 pub mod Orders
+pub mod RecordList
 pub mod RefusalRows

@@ -3,6 +3,7 @@ pub mod Blank
 pub mod Conversions
 pub mod Plates
 pub mod Reading
+pub mod Records
 pub mod RoundTrips
 pub mod Rows
 pub mod Writing

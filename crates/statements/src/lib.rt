@@ -1,4 +1,4 @@
-// The demands of document 00, and those of document 02, tickets 7 and 9, said of the operations themselves: each
+// The demands of document 00, and those of document 02, tickets 7, 9 and 13, said of the operations themselves: each
 // function here only calls public operations, and promises the demand. Nothing is assumed of an argument but its type.
 // The clause `refused` is demand 1, "then no byte of any lent area has changed", and `whole` the complete answer of the
 // operations. Definitions: specs/.
@@ -27,6 +27,8 @@ ghost use Rattle.statements.specs.Plates.{HoldsPlate, StatedPlate, Reads
 ghost use Rattle.statements.specs.Plates.{blankPlateFile, NoPlateBodyBelow, WritesLeastPlate};
 ghost use Rattle.statements.specs.Plates.{PlateNeverAbove, PlateAttained, PlateBothOccur, AnswersPlateWrite};
 ghost use Rattle.statements.specs.Plates.{PlateBack, AnswersPlateRoundTrip};
+ghost use Rattle.degas_records.specs.Listing.{listed};
+ghost use Rattle.statements.specs.Records.{RecordsAsRead};
 ghost use Rattle.statements.specs.Reading.{Reads, ReadsNothing, AnswersRead};
 ghost use Rattle.statements.specs.RoundTrips.{IsWritten, ReadsBack, AnswersRoundTrip};
 ghost use Rattle.statements.specs.Rows.{Packable, PacksLeast, UnpacksToRow, Unpacked, RowRefused};
@@ -35,6 +37,7 @@ ghost use Rattle.statements.specs.Writing.{WritesLeast, NeverAbove, Atta
 ghost use Rattle.statements.specs.Writing.{WritesNothing, AnswersWrite};
 use bodies::BodyAnswer;
 use conversion::Conversion;
+use degas_records::Found;
 use packbits::RowAnswer;
 use picture::Picture;
 use picture::ReadAnswer;
@@ -284,4 +287,23 @@ pub fn convert_and_back(file: &[u8], out: &mut [u8], into: &mut [u8]) -> Convers
     let length = to_elite.length;
     let to_plain = conversion::convert(Conversion::ToPlain, &out[..length], into);
     ConversionRoundTrip { to_elite, to_plain }
+}
+
+// Document 02, ticket 13: "Each step gives offset, plane row, kind .. and length .., or done, or the whole reading's
+// refusal with its place, again on each later step." Step k over a file, from 0: its records come in file order, each
+// once, and after them, for every later k, done or the refusal.
+pub fn nth_step(file: &[u8], k: usize) -> Found
+    ensures step { λ f. ⌜ f ≡ listed (now (file .entry)) k ⌝ }
+    ensures records { λ _. ⌜ RecordsAsRead (now (file .entry)) ⌝ }
+{
+    let opened = degas_records::open_records(file);
+    let mut cursor = opened.cursor;
+    let mut i: usize = 0;
+    while i < k {
+        let s = degas_records::step(file, cursor);
+        cursor = s.next;
+        i += 1;
+    }
+    let last = degas_records::step(file, cursor);
+    last.found
 }
