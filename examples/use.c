@@ -1,7 +1,8 @@
 /*
  * Shows a picture file: what reading found, the registers it uses with their
  * colours, and the length of its shortest packed file. Of a MacPaint plate it
- * shows what reading found and the length of its shortest file.
+ * shows what reading found and the length of its shortest file. Of a damaged
+ * packed DEGAS file it counts the records before the fault.
  *
  *     cc use.c $(pkg-config --cflags --libs kutimuq) -o use
  *     ./use ponds.pc1
@@ -74,6 +75,21 @@ static void show_packed(const KutimuqPicture *picture)
     }
 }
 
+/* Counts the whole records before the fault of a packed DEGAS file; another file has none. */
+static void show_good_records(size_t length)
+{
+    KutimuqRecordCursor first = kutimuq_open_records(file, length).cursor;
+    KutimuqRecordAnswer step = kutimuq_next_record(file, length, first);
+    size_t records = 0;
+    while (step.kind != 0) {
+        records++;
+        step = kutimuq_next_record(file, length, step.next);
+    }
+    if (records != 0) {
+        fprintf(stderr, "good records %zu\n", records);
+    }
+}
+
 /* A MacPaint file has no mark of its own: it is one if it can be read as one. */
 static bool show_plate(size_t length)
 {
@@ -121,6 +137,7 @@ int main(int count, char **words)
     uint8_t kind = length == KUTIMUQ_LONGEST_FILE ? KUTIMUQ_KIND_NEO : KUTIMUQ_KIND_DEGAS;
     KutimuqReadAnswer found = kutimuq_read(kind, file, length, screen, sizeof screen);
     if (found.refusal.number != KUTIMUQ_ACCEPTED) {
+        show_good_records(length);
         return refused(words[1], found.refusal);
     }
     show_reading(&found);

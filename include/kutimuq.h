@@ -11,8 +11,9 @@
  *
  * Every function takes every other input and answers. The number 0 means
  * accepted; any other number is a refusal. A refusal gives its number, a place,
- * for numbers 6 and 7 how far the rows are good, and zero in all else, and no
- * byte of any lent area has changed. An accepted answer's refusal is all 0.
+ * for numbers 6 and 7 how far the rows are good, and zero in all else but a
+ * legend or a step's cursor, which come back as given; no byte of any lent area
+ * has changed. An accepted answer's refusal is all 0.
  *
  * Resolutions: 0 low (320 x 200, 4 planes), 1 medium (640 x 200, 2 planes),
  * 2 high (640 x 400, 1 plane). A screen is the first 32,000 bytes of the area
@@ -35,9 +36,9 @@ extern "C" {
 #endif
 
 #define KUTIMUQ_VERSION_MAJOR 0
-#define KUTIMUQ_VERSION_MINOR 6
+#define KUTIMUQ_VERSION_MINOR 7
 #define KUTIMUQ_VERSION_PATCH 0
-#define KUTIMUQ_VERSION "0.6.0"
+#define KUTIMUQ_VERSION "0.7.0"
 
 /* The answer must be looked at; no pointer may be null. */
 #ifdef __GNUC__
@@ -53,7 +54,8 @@ enum KutimuqNumber {
     KUTIMUQ_ACCEPTED = 0,
     KUTIMUQ_AREA_TOO_SHORT = 1,
     /* Unknown kind (reading) or form (writing); a DEGAS file that is packed or
-       has a tail, where a plain one is needed. */
+       has a tail, where a plain one is needed; one that is not packed, where
+       its records are asked for. */
     KUTIMUQ_UNKNOWN_KIND = 2,
     KUTIMUQ_WRONG_LENGTH = 3,
     KUTIMUQ_WRONG_FLAG = 4,
@@ -70,7 +72,7 @@ enum KutimuqNumber {
     /* None below 32,000 bytes for DEGAS, below 51,200 for MacPaint. */
     KUTIMUQ_NO_PACKED_BODY = 9,
     /* Of a row width, line, machine, register, rectangle, party, class, floor,
-       confidence or legend. */
+       confidence, legend or cursor. */
     KUTIMUQ_OUT_OF_RANGE = 10,
     /* Of a Tiny file. Place: the control byte's offset, here and for 12. */
     KUTIMUQ_UNDEFINED_CONTROL = 11,
@@ -150,6 +152,13 @@ enum {
 /* The machine whose colours are shown. */
 enum { KUTIMUQ_MACHINE_ST = 1, KUTIMUQ_MACHINE_STE = 2 };
 
+/* What a record does. */
+enum {
+    KUTIMUQ_RECORD_LITERAL = 1, /* takes the bytes after its control byte as they stand */
+    KUTIMUQ_RECORD_REPEAT = 2,  /* takes the byte after its control byte several times */
+    KUTIMUQ_RECORD_NOTHING = 3  /* a control byte alone, which makes no byte */
+};
+
 /* Sizes in bytes. */
 enum {
     KUTIMUQ_SCREEN_BYTES = 32000,      /* a screen */
@@ -185,9 +194,9 @@ static inline KutimuqShape kutimuq_shape(uint16_t resolution)
 
 /* Why an input is refused; all 0 in an accepted answer. Plane row and good bytes
    come with numbers 6 and 7 only and are 0 otherwise: reading or converting a
-   file gives both, unpacking a row gives good bytes, and plane row 0. By
-   themselves row 0 with 0 bytes cannot be told from "not given": the number
-   tells. */
+   file or listing its records gives both, unpacking a row gives good bytes, and
+   plane row 0. By themselves row 0 with 0 bytes cannot be told from "not given":
+   the number tells. */
 typedef struct KutimuqRefusal {
     uint8_t number;
     size_t place;
@@ -245,6 +254,31 @@ typedef struct KutimuqWriteAnswer {
     size_t body;
     size_t records;
 } KutimuqWriteAnswer;
+
+/* Where the next step of a record list stands. */
+typedef struct KutimuqRecordCursor {
+    size_t offset;     /* of the next record's control byte, from the file's start */
+    size_t plane_row;  /* the plane row which that record is in, from 0 */
+    size_t good_bytes; /* that row's bytes from the records before it */
+} KutimuqRecordCursor;
+
+/* The answer of an opening. The cursor of a refusal is all 0. */
+typedef struct KutimuqCursorAnswer {
+    KutimuqRefusal refusal;
+    KutimuqRecordCursor cursor;
+} KutimuqCursorAnswer;
+
+/* The answer of a step: a record; or, with kind 0, done where the refusal is all
+   0, else the refusal. Of done and of a refusal offset, plane row and length are
+   0 as well, and next is the cursor that was given. */
+typedef struct KutimuqRecordAnswer {
+    KutimuqRefusal refusal;
+    uint8_t kind;             /* 0: no record */
+    size_t offset;            /* of the record's control byte, from the file's start */
+    size_t plane_row;         /* from 0 */
+    size_t length;            /* bytes of the row made: 0 for nothing */
+    KutimuqRecordCursor next; /* for the next step */
+} KutimuqRecordAnswer;
 
 /* Left plus columns must not exceed the width, top plus lines not the height,
    as whole numbers. No columns or no lines is an empty rectangle. */
@@ -434,6 +468,45 @@ KutimuqPondAnswer kutimuq_pond(const uint8_t *screen, size_t screen_len, uint16_
 KUTIMUQ_MUST_USE KUTIMUQ_NONNULL
 KutimuqReadAnswer kutimuq_read(uint8_t kind, const uint8_t *file, size_t file_len,
                                uint8_t *area, size_t area_len);
+
+/*
+ * Opens the record list of a packed DEGAS file: the cursor of its first record.
+ * The file's length and first word are judged, nothing else.
+ * Refusals in order: 3 (under 34 bytes), 5, 2 not packed, 3 (above 32,065
+ * bytes). A call takes under 1,000 bytes of stack, and so does a step.
+ */
+KUTIMUQ_MUST_USE KUTIMUQ_NONNULL
+KutimuqCursorAnswer kutimuq_open_records(const uint8_t *file, size_t file_len);
+
+/*
+ * A step of the record list: the record at a cursor, and the cursor after it. A
+ * row is finished the moment it is full: a do-nothing record after it belongs to
+ * the next plane row. From the opening's cursor, each step given the cursor that
+ * the last one left, the records of the body come in file order, each once; then
+ * every step is done, or gives the refusal of kutimuq_read. A loop over them:
+ *
+ *     KutimuqRecordCursor first = kutimuq_open_records(file, file_len).cursor;
+ *     KutimuqRecordAnswer step = kutimuq_next_record(file, file_len, first);
+ *     while (step.kind != 0) {
+ *         printf("plane row %zu: %zu bytes\n", step.plane_row, step.length);
+ *         step = kutimuq_next_record(file, file_len, step.next);
+ *     }
+ *     return step.refusal.number;
+ *
+ * The loop need not look at the opening's refusal: each step judges the opening
+ * again, whatever its cursor. Nothing is kept between calls, and a cursor that
+ * no call gave is taken too: it is refused with 10, or the record there is
+ * judged, in a row that has good_bytes bytes. A plane row equal to the number of
+ * plane rows (800, 400 or 400) is past the last: done where exactly 32 bytes
+ * follow the offset, else 8.
+ * Refusals in order: the opening's; 10 offset below 34 or above the file's
+ * length, plane row above the number of plane rows, or good bytes not below the
+ * bytes of a plane row (40, 80 or 80); 7 or 6 of the record, or 8. Offsets count
+ * from the file's start.
+ */
+KUTIMUQ_MUST_USE KUTIMUQ_NONNULL
+KutimuqRecordAnswer kutimuq_next_record(const uint8_t *file, size_t file_len,
+                                        KutimuqRecordCursor cursor);
 
 /*
  * Writes a picture in form 1 to 4 to the front of `out`; output past the file

@@ -1,7 +1,7 @@
 """Prints the fields of each struct that C sees, with their types, in the order of declaration: `fields.py rattle CRATES`
 reads the Rattle sources, `fields.py c HEADER` the C header. A struct's layout is fixed by its fields' types in order.
 
-`fields.py sizes CRATES` prints Rattle's sizes as `kutimuq-tests --layout` prints Rust's."""
+`fields.py constants CRATES` prints Rattle's kinds of a record and sizes as `kutimuq-tests --layout` prints Rust's."""
 
 import pathlib
 import re
@@ -13,7 +13,10 @@ GROUP_PIXELS = 16
 GROUP_BYTES = 2
 
 # The header's name: the crate, Rattle's constant there, and what one of its units counts.
-SIZES = {
+CONSTANTS = {
+    "RECORD_LITERAL": ("degas_records", "RECORD_LITERAL", 1),
+    "RECORD_REPEAT": ("degas_records", "RECORD_REPEAT", 1),
+    "RECORD_NOTHING": ("degas_records", "RECORD_NOTHING", 1),
     "SCREEN_BYTES": ("resolution", "SCREEN_BYTES", 1),
     "WRITE_AREA_BYTES": ("picture", "FILE_BYTES", 1),
     "WIDEST_ROW": ("packbits", "MAX_WIDTH", 1),
@@ -26,8 +29,8 @@ SIZES = {
 }
 
 
-def rattle_sizes(crates):
-    for name, (crate, constant, unit) in SIZES.items():
+def rattle_constants(crates):
+    for name, (crate, constant, unit) in CONSTANTS.items():
         text = (pathlib.Path(crates) / crate / "src/lib.rt").read_text()
         (value,) = re.findall(rf"^pub const {constant}: \w+ = (\d+);", text, re.M)
         yield f"{name} is {unit * int(value)}"
@@ -60,6 +63,6 @@ if __name__ == "__main__":
     lines = {
         "rattle": lambda crates: by_struct(rattle_fields(crates)),
         "c": lambda header: by_struct(c_fields(header)),
-        "sizes": rattle_sizes,
+        "constants": rattle_constants,
     }[sys.argv[1]](sys.argv[2])
     print("\n".join(lines))

@@ -1,6 +1,7 @@
 /* Prints what kutimuq.h declares, without its prefix, as `kutimuq-tests --layout`
    does for the Rust side: each struct with its fields, the version, refusal
-   numbers with their meanings, kinds, forms and machines, sizes and shapes. */
+   numbers with their meanings, kinds, forms, machines and kinds of a record,
+   sizes and shapes. */
 
 #include <stdalign.h>
 #include <stddef.h>
@@ -65,6 +66,26 @@ static void print_files(void)
     REFUSAL(BodyAnswer);
     FIELD(BodyAnswer, body);
     FIELD(BodyAnswer, records);
+}
+
+static void print_records(void)
+{
+    STRUCT(RecordCursor);
+    FIELD(RecordCursor, offset);
+    FIELD(RecordCursor, plane_row);
+    FIELD(RecordCursor, good_bytes);
+
+    STRUCT(CursorAnswer);
+    REFUSAL(CursorAnswer);
+    FIELD(CursorAnswer, cursor);
+
+    STRUCT(RecordAnswer);
+    REFUSAL(RecordAnswer);
+    FIELD(RecordAnswer, kind);
+    FIELD(RecordAnswer, offset);
+    FIELD(RecordAnswer, plane_row);
+    FIELD(RecordAnswer, length);
+    FIELD(RecordAnswer, next);
 }
 
 static void print_pixels(void)
@@ -152,6 +173,9 @@ static void print_constants(void)
     CONSTANT(FORM_NEO);
     CONSTANT(MACHINE_ST);
     CONSTANT(MACHINE_STE);
+    CONSTANT(RECORD_LITERAL);
+    CONSTANT(RECORD_REPEAT);
+    CONSTANT(RECORD_NOTHING);
     CONSTANT(SCREEN_BYTES);
     CONSTANT(LONGEST_FILE);
     CONSTANT(LONGEST_TINY_FILE);
@@ -177,6 +201,7 @@ int main(void)
 {
     print_refusals();
     print_files();
+    print_records();
     print_pixels();
     printf("version %s\n", KUTIMUQ_VERSION);
     print_numbers();

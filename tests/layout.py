@@ -1,4 +1,6 @@
-"""Prints Python's version, refusals and sizes as `kutimuq-tests --layout` prints Rust's; loads no library."""
+"""Prints Python's version, refusals, kinds of a record and sizes as `kutimuq-tests --layout` prints Rust's.
+
+Loads no library."""
 
 import kutimuq
 from kutimuq import pictures
@@ -18,5 +20,7 @@ SIZES = {
 print("version", kutimuq.__version__)
 for refusal in kutimuq.RefusalNumber:
     print(f"{refusal.name} number {refusal.value}: {refusal.meaning}")
+for kind in kutimuq.RecordKind:
+    print(f"RECORD_{kind.name} is {kind.value}")
 for name, size in SIZES.items():
     print(f"{name} is {size}")

@@ -1,7 +1,7 @@
 #!/bin/sh
-# Compares what the C header declares with the Rust side, the structs' fields, the refusal numbers and sizes
-# with Rattle's, and those numbers, their meanings, the version and sizes with Python's. KUTIMUQ_INCLUDE names
-# the header's folder, default include/ of the repository.
+# Compares what the C header declares with the Rust side, the structs' fields, the refusal numbers, kinds of a
+# record and sizes with Rattle's, and the version, those numbers with their meanings, kinds of a record and sizes
+# with Python's. KUTIMUQ_INCLUDE names the header's folder, default include/ of the repository.
 set -eu
 
 here=$(cd "$(dirname "$0")" && pwd)
@@ -29,8 +29,8 @@ equal "C and Rust" "$work/c" "$work/rust"
 sed -n '/^ACCEPTED /d; s/ number \([0-9]*\):.*/ \1/p' "$work/rust" > "$work/numbers"
 sed -n 's/^pub const \([A-Z_0-9]*\): u8 = \([0-9]*\);.*/\1 \2/p' "$root/crates/outcome/src/lib.rt" > "$work/rattle"
 equal "the refusal numbers of Rust and Rattle" "$work/numbers" "$work/rattle"
-sizes='\(SCREEN\|WRITE_AREA\|PACK_AREA\|PLATE\|LONGEST_PLATE\)_[A-Z_]*'
-grep "^version \| number [0-9]*: \|^$sizes is " "$work/rust" > "$work/named"
+constants='\(RECORD\|SCREEN\|WRITE_AREA\|PACK_AREA\|PLATE\|LONGEST_PLATE\)_[A-Z_]*'
+grep "^version \| number [0-9]*: \|^$constants is " "$work/rust" > "$work/named"
 PYTHONPATH=$root/bindings/python python3 "$here/layout.py" > "$work/python"
 equal "Rust and Python" "$work/named" "$work/python"
 
@@ -38,8 +38,8 @@ python3 "$here/fields.py" rattle "$root/crates" > "$work/rattle-fields"
 python3 "$here/fields.py" c "$include/kutimuq.h" > "$work/c-fields"
 equal "the fields of Rattle's structs and C's" "$work/rattle-fields" "$work/c-fields"
 
-python3 "$here/fields.py" sizes "$root/crates" > "$work/rattle-sizes"
-sed 's/^\(.*\) is .*/^\1 is /' "$work/rattle-sizes" | grep -f - "$work/rust" > "$work/rust-sizes"
-equal "the sizes of Rust and Rattle" "$work/rust-sizes" "$work/rattle-sizes"
+python3 "$here/fields.py" constants "$root/crates" > "$work/rattle-constants"
+sed 's/^\(.*\) is .*/^\1 is /' "$work/rattle-constants" | grep -f - "$work/rust" > "$work/rust-constants"
+equal "the constants of Rust and Rattle" "$work/rust-constants" "$work/rattle-constants"
 
 echo "layout: $passed passed, 0 failed"

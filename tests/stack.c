@@ -14,10 +14,11 @@
 enum {
     STACK_BYTES = 1 << 17,
     PAINT = 0xA5,
-    /* Limits: a raw file read, or a file refused before its body or runs are unpacked;
-       a packed or Tiny file unpacked; a MacPaint file unpacked; a raw DEGAS file made
-       Elite or plain, or refused before its body is unpacked; a packed one unpacked for
-       that; an operation on a legend alone; any other operation. */
+    /* Limits: a raw file read, a file refused before its body or runs are unpacked, or a
+       record list opened or stepped; a packed or Tiny file unpacked; a MacPaint file
+       unpacked; a raw DEGAS file made Elite or plain, or refused before its body is
+       unpacked; a packed one unpacked for that; an operation on a legend alone; any other
+       operation. */
     NOT_UNPACKED = 1000,
     UNPACKED = 35000,
     PLATE_UNPACKED = 55000,
@@ -31,10 +32,12 @@ enum {
     PIXELS = 640 * 400,
     LINE_BYTES = 160,
     RESOLUTIONS = 3,
-    /* DEGAS: bit 15 of the first word; the body's offset; a literal of 128 bytes. */
+    /* DEGAS: bit 15 of the first word; the body's offset; a literal of 128 bytes; the tail's
+       bytes. */
     PACKED = 0x80,
     BODY = 34,
     LONG_LITERAL = 127,
+    TAIL = 32,
     /* One of the bits of the first word that reading ignores. */
     IGNORED = 0x40,
     /* Tiny: offsets without rotation bytes; an undefined control byte; half a screen's words. */
@@ -66,6 +69,7 @@ static uint8_t plate[LONG_PLATE];
 static uint8_t plate_file[KUTIMUQ_LONGEST_PLATE_FILE];
 static uint8_t registers[PIXELS];
 static KutimuqPicture picture;
+static KutimuqRecordCursor cursor;
 static KutimuqLegend legend;
 static KutimuqRectangle whole;
 static uint8_t kind, form;
@@ -87,6 +91,20 @@ static void write_file(void)
     KutimuqWriteAnswer answer =
         kutimuq_write(form, picture, screen, sizeof screen, file, sizeof file);
     file_len = answer.length;
+    number = answer.refusal.number;
+}
+
+static void open_records(void)
+{
+    KutimuqCursorAnswer answer = kutimuq_open_records(file, file_len);
+    cursor = answer.cursor;
+    number = answer.refusal.number;
+}
+
+static void next_record(void)
+{
+    KutimuqRecordAnswer answer = kutimuq_next_record(file, file_len, cursor);
+    cursor = answer.next;
     number = answer.refusal.number;
 }
 
@@ -259,6 +277,48 @@ static void packed_files(void)
                   KUTIMUQ_RECORD_CROSSES);
 }
 
+/* A step of each kind and with each answer. */
+static void record_steps(void)
+{
+    /* A literal of one byte, nothing, a repeat of two bytes, a literal that crosses. */
+    static const uint8_t records[] = {0x00, 0x00, 0x80, 0xFF, 0x00, LONG_LITERAL};
+    check_writing("packed written", KUTIMUQ_FORM_ELITE_PACKED);
+    memcpy(file + BODY, records, sizeof records);
+    check("records opened", open_records, NOT_UNPACKED, KUTIMUQ_ACCEPTED);
+    check("literal", next_record, NOT_UNPACKED, KUTIMUQ_ACCEPTED);
+    check("nothing", next_record, NOT_UNPACKED, KUTIMUQ_ACCEPTED);
+    check("repeat", next_record, NOT_UNPACKED, KUTIMUQ_ACCEPTED);
+    check("record at fault", next_record, NOT_UNPACKED, KUTIMUQ_RECORD_CROSSES);
+    cursor.offset = file_len;
+    check("no record", next_record, NOT_UNPACKED, KUTIMUQ_INPUT_ENDS);
+    cursor.good_bytes = kutimuq_shape(picture.resolution).row_bytes;
+    check("cursor out of range", next_record, NOT_UNPACKED, KUTIMUQ_OUT_OF_RANGE);
+    cursor.good_bytes = 0;
+    cursor.plane_row = KUTIMUQ_SCREEN_BYTES / kutimuq_shape(picture.resolution).row_bytes;
+    check("other tail", next_record, NOT_UNPACKED, KUTIMUQ_WRONG_TAIL);
+    cursor.offset = file_len - TAIL;
+    check("records done", next_record, NOT_UNPACKED, KUTIMUQ_ACCEPTED);
+}
+
+/* A file whose records are not listed: each step judges the opening again. */
+static void check_not_listed(const char *what, uint8_t expected)
+{
+    check(what, open_records, NOT_UNPACKED, expected);
+    check(what, next_record, NOT_UNPACKED, expected);
+}
+
+static void record_openings(void)
+{
+    check_writing("DEGAS Elite written", KUTIMUQ_FORM_ELITE_RAW);
+    check_not_listed("records of a raw file", KUTIMUQ_UNKNOWN_KIND);
+    file[0] = PACKED;
+    check_not_listed("records of a packed file too long", KUTIMUQ_WRONG_LENGTH);
+    file[1] = RESOLUTIONS;
+    check_not_listed("records of no resolution", KUTIMUQ_UNKNOWN_RESOLUTION);
+    file_len = BODY - 1;
+    check_not_listed("records without a header", KUTIMUQ_WRONG_LENGTH);
+}
+
 /* One word repeated over half of the screen, then the other half's words. */
 static void tiny_files(void)
 {
@@ -385,6 +445,8 @@ int main(int argc, char **argv)
     for (picture.resolution = 0; picture.resolution < RESOLUTIONS; picture.resolution++) {
         raw_files();
         packed_files();
+        record_steps();
+        record_openings();
         tiny_files();
         plain_files_converted();
         elite_files_converted();

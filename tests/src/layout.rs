@@ -1,5 +1,6 @@
 //! The C interface as text: each struct with its fields, the version, refusal
-//! numbers with their meanings, kinds, forms and machines, sizes and shapes.
+//! numbers with their meanings, kinds, forms, machines and kinds of a record,
+//! sizes and shapes.
 //!
 //! layout.c prints the same text from the header; layout.sh compares the two.
 
@@ -47,6 +48,9 @@ pub fn table() -> Vec<String> {
     describe_answer!(lines, ReadAnswer { picture, body, records });
     describe_answer!(lines, WriteAnswer { length, body, records });
     describe_answer!(lines, BodyAnswer { body, records });
+    describe!(lines, RecordCursor { offset, plane_row, good_bytes });
+    describe_answer!(lines, CursorAnswer { cursor });
+    describe_answer!(lines, RecordAnswer { kind, offset, plane_row, length, next });
     describe!(lines, Rectangle { left, top, columns, lines });
     describe_answer!(lines, TallyAnswer { counts });
     describe_answer!(lines, ColourAnswer { red, green, blue });
@@ -75,6 +79,9 @@ fn constants() -> Vec<String> {
         ("FORM_NEO", usize::from(FORM_NEO)),
         ("MACHINE_ST", usize::from(MACHINE_ST)),
         ("MACHINE_STE", usize::from(MACHINE_STE)),
+        ("RECORD_LITERAL", usize::from(RECORD_LITERAL)),
+        ("RECORD_REPEAT", usize::from(RECORD_REPEAT)),
+        ("RECORD_NOTHING", usize::from(RECORD_NOTHING)),
         ("SCREEN_BYTES", SCREEN_BYTES),
         ("LONGEST_FILE", NEO_FILE_BYTES.max(ELITE_RAW_FILE_BYTES)),
         ("LONGEST_TINY_FILE", LONGEST_TINY_FILE),

@@ -8,7 +8,7 @@
 Each name is imported at its first use.
 """
 
-__version__ = "0.6.0"
+__version__ = "0.7.0"
 
 # Public name: the module that has it.
 _PUBLIC = {
@@ -25,6 +25,10 @@ _PUBLIC = {
     "Picture": "pictures",
     "Plate": "pictures",
     "Pond": "index",
+    "Record": "degas_records",
+    "RecordCursor": "degas_records",
+    "RecordKind": "degas_records",
+    "RecordReader": "degas_records",
     "Rectangle": "pictures",
     "RefusalNumber": "library",
     "Refused": "library",
@@ -43,6 +47,7 @@ _PUBLIC = {
     "read": "pictures",
     "read_legend": "legend",
     "read_plate": "pictures",
+    "records": "degas_records",
     "registers": "pictures",
     "screen_from_registers": "pictures",
     "tally": "index",

@@ -53,6 +53,37 @@ pub struct BodyAnswer {
     pub records: usize,
 }
 
+/// Where the next step of a record list stands.
+#[repr(C)]
+#[derive(Clone, Copy, Debug, Default, PartialEq, Eq)]
+pub struct RecordCursor {
+    /// Of the next record's control byte, from the file's start.
+    pub offset: usize,
+    /// The plane row that this record is in, from 0.
+    pub plane_row: usize,
+    /// That row's bytes from the records before it.
+    pub good_bytes: usize,
+}
+
+#[repr(C)]
+#[derive(Clone, Copy, Debug, Default, PartialEq, Eq)]
+pub struct CursorAnswer {
+    pub refusal: Refusal,
+    pub cursor: RecordCursor,
+}
+
+/// A record; kind 0 is none: done or refused, and `next` is then the cursor that was given.
+#[repr(C)]
+#[derive(Clone, Copy, Debug, Default, PartialEq, Eq)]
+pub struct RecordAnswer {
+    pub refusal: Refusal,
+    pub kind: u8,
+    pub offset: usize,
+    pub plane_row: usize,
+    pub length: usize,
+    pub next: RecordCursor,
+}
+
 #[repr(C)]
 #[derive(Clone, Copy, Debug, Default, PartialEq, Eq)]
 pub struct Rectangle {
@@ -195,6 +226,12 @@ extern "C" {
         area: *mut u8,
         area_len: usize,
     ) -> ReadAnswer;
+    pub fn kutimuq_open_records(file: *const u8, file_len: usize) -> CursorAnswer;
+    pub fn kutimuq_next_record(
+        file: *const u8,
+        file_len: usize,
+        cursor: RecordCursor,
+    ) -> RecordAnswer;
     pub fn kutimuq_write(
         form: u8,
         picture: Picture,

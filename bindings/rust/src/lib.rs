@@ -32,18 +32,20 @@ mod files;
 mod legend;
 mod pixels;
 mod plates;
+mod records;
 pub mod refusal;
 mod resolution;
 mod rows;
 
 pub use conversion::{to_elite, to_plain};
-pub use ffi::{Legend, Rectangle};
+pub use ffi::{Legend, RecordCursor, Rectangle};
 pub use files::{read, write, Form, Kind, Picture, Reading, Tail, Written};
 pub use legend::Party;
 pub use pixels::{
     colour, line_in, line_out, pond, screen_in, screen_out, tally, Colour, Machine, PondReading,
 };
 pub use plates::{read_plate, write_plate, PlateReading};
+pub use records::{records, records_from, Record, RecordKind, RecordReader};
 pub use refusal::Refusal;
 pub use resolution::{Resolution, Shape};
 pub use rows::{pack_row, unpack_row, PackedRow};

@@ -6,7 +6,7 @@ use std::fmt;
 /// Why an operation refused its input; all zero in the answer of one that accepted it.
 ///
 /// The place is an offset for 6, 7, 8, 11 and 12, and else 0. Plane row and good bytes come with 6
-/// and 7 only and are else 0: `read`, `to_elite`, `to_plain` and `read_plate` give both,
+/// and 7 only and are else 0: `read`, `records`, `to_elite`, `to_plain` and `read_plate` give both,
 /// `unpack_row` good bytes, and plane row 0.
 #[repr(C)]
 #[derive(Clone, Copy, Debug, Default, PartialEq, Eq)]
