@@ -1,5 +1,10 @@
 """What type checkers see of the names that __init__.py imports at their first use."""
 
+from .degas_records import Record as Record
+from .degas_records import RecordCursor as RecordCursor
+from .degas_records import RecordKind as RecordKind
+from .degas_records import RecordReader as RecordReader
+from .degas_records import records as records
 from .files import Form as Form
 from .files import Kind as Kind
 from .files import Machine as Machine

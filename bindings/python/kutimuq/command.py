@@ -38,6 +38,7 @@ from .options import (
     TO_FORM,
     TO_LIST_COLOURS,
     TO_LIST_LEVELS,
+    TO_LIST_RECORDS,
     TO_MAKE_LEGEND,
     TO_READ_POND,
     TO_READ_PONDS,
@@ -175,24 +176,39 @@ def refuse(refusal, name: str) -> None:
 def each(options, work, refused=None, plate=None) -> int:
     """Calls `work(name, picture)` for each picture, `plate(name, plate)` for each plate, and gives the exit status.
 
-    What there is no function for is wrong use. One bad file does not stop the others.
+    What there is no function for is wrong use.
+    """
+    from .pictures import Plate
+
+    def work_on(name):
+        found = read_named(name, options)
+        function = plate if isinstance(found, Plate) else work
+        if function is None:
+            raise WrongUse(NO_PICTURE if isinstance(found, Plate) else NO_PLATE)
+        function(name, found)
+
+    def say_refused(name, refusal):
+        refuse(refusal, name)
+        if refused is not None:
+            refused(name, refusal)
+
+    return each_file(options, work_on, say_refused)
+
+
+def each_file(options, work, refused) -> int:
+    """Calls `work(name)` for each file, `refused(name, refusal)` where that is refused, and gives the exit status.
+
+    One bad file does not stop the others.
     """
     from .library import LibraryMissing, Refused
-    from .pictures import Plate
 
     status = ACCEPTED
     for name in options.operands:
         try:
-            found = read_named(name, options)
-            function = plate if isinstance(found, Plate) else work
-            if function is None:
-                raise WrongUse(NO_PICTURE if isinstance(found, Plate) else NO_PLATE)
-            function(name, found)
+            work(name)
         except Refused as refusal:
-            refuse(refusal, name)
+            refused(name, refusal)
             status = max(status, REFUSED)
-            if refused is not None:
-                refused(name, refusal)
         except (BrokenPipeError, LibraryMissing):
             raise
         except (OSError, WrongUse) as error:
@@ -528,6 +544,37 @@ def give_table(path: str | None, rows: list[tuple]) -> None:
         put(path, data)
 
 
+def records_command(options) -> int:
+    """`records`: the records of packed DEGAS files."""
+    from .library import library
+    from .record_list import COLUMNS, RecordList, hint
+
+    library()  # a missing library is said once, before any line
+    if not options.json:
+        give_table(None, [("name", *COLUMNS)])
+
+    def show(name):
+        found = RecordList(take(name))
+        if options.json:
+            give_json({"name": name, **line} for line in found.objects(options.last))
+        else:
+            give_table(None, [(name, *row) for row in found.rows(options.last)])
+        if found.refusal is not None:
+            raise found.refusal
+
+    def refused(name, refusal):
+        complain(f"{refusal}{hint(refusal)}", name)
+
+    return each_file(options, show, refused)
+
+
+def give_json(objects) -> None:
+    """Objects as lines of JSON to standard output."""
+    import json
+
+    give_text("".join(json.dumps(one) + "\n" for one in objects))
+
+
 def legend_new(options) -> int:
     """`legend new`: a legend with all entries free."""
     from .legend import Legend, legend_file
@@ -647,6 +694,12 @@ COMMANDS = {
     "tally": Command(tally_command, "the pixels of each register", "FILE", TO_TALLY),
     "pond": Command(pond_command, "the sure, unsure and other pixels of a class", "FILE", TO_READ_POND),
     "ponds": Command(ponds_command, "many ponds of many maps, as CSV", "MAP", TO_READ_PONDS),
+    "records": Command(
+        records_command,
+        "the records of packed DEGAS files up to the end or the fault, as CSV with a heading",
+        "FILE",
+        TO_LIST_RECORDS,
+    ),
     "legend new": Command(legend_new, "a new legend: all 16 entries free", None, TO_MAKE_LEGEND),
     "legend show": Command(legend_show, "the entries of a legend, with their owners", "FILE?", ()),
     "legend set": Command(legend_set, "the legend with a free entry, or the party's own, set", "FILE?", TO_SET),

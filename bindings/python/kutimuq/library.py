@@ -141,6 +141,25 @@ class Palette(Structure):
     _fields_ = [("words", c_uint16 * 16)]
 
 
+class RecordCursor(Structure):
+    _fields_ = [("offset", c_size_t), ("plane_row", c_size_t), ("good_bytes", c_size_t)]
+
+
+class CursorAnswer(Structure):
+    _fields_ = [("refusal", Refusal), ("cursor", RecordCursor)]
+
+
+class RecordAnswer(Structure):
+    _fields_ = [
+        ("refusal", Refusal),
+        ("kind", c_uint8),
+        ("offset", c_size_t),
+        ("plane_row", c_size_t),
+        ("length", c_size_t),
+        ("next", RecordCursor),
+    ]
+
+
 INPUT = (c_char_p, c_size_t)  # bytes that the library reads, and their number
 OUTPUT = (c_void_p, c_size_t)  # a buffer that it writes to
 
@@ -163,6 +182,8 @@ FUNCTIONS = {
     "kutimuq_to_plain": (WriteAnswer, (*INPUT, *OUTPUT)),
     "kutimuq_read_plate": (BodyAnswer, (*INPUT, *OUTPUT)),
     "kutimuq_write_plate": (WriteAnswer, (*INPUT, *OUTPUT)),
+    "kutimuq_open_records": (CursorAnswer, INPUT),
+    "kutimuq_next_record": (RecordAnswer, (*INPUT, RecordCursor)),
 }
 
 _library: ctypes.CDLL | None = None
@@ -214,7 +235,7 @@ def word(number: int) -> int:
 
 
 def size(number: int) -> int:
-    """A row width, a line or a side of a rectangle."""
+    """A row width, a line, a side of a rectangle or a number of a cursor."""
     return _fitted(number, SIZE_MAX)
 
 

@@ -200,6 +200,12 @@ def parse_jobs(text: str) -> int:
     return max(1, number_within(text, 1024, "processes"))
 
 
+def parse_last(text: str) -> int:
+    from .legend import number_within
+
+    return number_within(text, 99_999, "records")  # more than any file has
+
+
 # The options.
 
 KIND = Option(
@@ -248,6 +254,12 @@ CSV = Option(("--csv",), "FILE", "a table of the files")
 REPORT = Option(("--report",), "PAGE", "one HTML page with pictures, refusals and duplicates")
 JOBS = Option(("--jobs",), "N", "processes; default: one for each core", parse_jobs)
 RESUME = Option(("--resume",), None, "take up an interrupted run that had the same --json")
+JSON_LINES = Option(
+    ("--json",),
+    None,
+    "in place of CSV a line of JSON for each record and each file's end, to standard output; takes no FILE",
+)
+LAST = Option(("--last",), "N", "only the last N records of each file: those before the fault", parse_last)
 
 # The options of the commands, by what the commands are for.
 SOURCES = (KIND, QUIET)
@@ -266,3 +278,4 @@ TO_MAKE_LEGEND = (NEW_FILE,)
 TO_SET = (NEEDED_PARTY, REGISTER, CLASS, CONFIDENCE, NAME, SAME_OR_NEW_FILE)
 TO_RELEASE = (NEEDED_PARTY, REGISTER, SAME_OR_NEW_FILE)
 TO_LIST_LEVELS = (MACHINE,)
+TO_LIST_RECORDS = (JSON_LINES, LAST)
