@@ -5,6 +5,7 @@ mod conversions;
 mod legends;
 mod plates;
 mod ponds;
+mod records;
 
 pub use colours::{ShowColour, RARELY_WRONG_COLOURS, WRONG_COLOURS};
 pub use conversions::{
@@ -21,6 +22,10 @@ pub use plates::{
 };
 
 pub use ponds::{ReadPond, RARELY_WRONG_PONDS, WRONG_PONDS, WRONG_PONDS_OF_DAMAGED};
+pub use records::{
+    JudgeOpening, NextRecord, OpenRecords, RARELY_WRONG_STEPS, WRONG_CURSORS, WRONG_JUDGEMENTS,
+    WRONG_OPENINGS, WRONG_WALKS,
+};
 
 use crate::operations::{Operations, Reference};
 use crate::reference::{self, Question, Shape, SCREEN_BYTES};
@@ -50,6 +55,10 @@ pub enum Altered {
     Conversions(ConvertBy),
     PlateReading(ReadPlate),
     PlateWriting(WritePlate),
+    OpenRecords(OpenRecords),
+    NextRecord(NextRecord),
+    /// Length and first word of a file whose records are listed.
+    RecordOpening(JudgeOpening),
 }
 
 impl Altered {
@@ -232,6 +241,22 @@ impl Operations for Altered {
         match self {
             Altered::PlateWriting(write_plate) => write_plate(plate, out),
             _ => Reference.write_plate(plate, out),
+        }
+    }
+
+    fn open_records(&self, file: &[u8]) -> CursorAnswer {
+        match self {
+            Altered::OpenRecords(open_records) => open_records(file),
+            Altered::RecordOpening(judge) => records::open_by(*judge, file),
+            _ => Reference.open_records(file),
+        }
+    }
+
+    fn next_record(&self, file: &[u8], cursor: RecordCursor) -> RecordAnswer {
+        match self {
+            Altered::NextRecord(next_record) => next_record(file, cursor),
+            Altered::RecordOpening(judge) => records::step_by(*judge, file, cursor),
+            _ => Reference.next_record(file, cursor),
         }
     }
 }

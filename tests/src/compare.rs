@@ -313,6 +313,27 @@ impl<'a> Comparison<'a> {
         });
         actual
     }
+
+    /// Compares, and gives back what the library answered.
+    pub fn open_records(&mut self, file: &[u8]) -> CursorAnswer {
+        self.prepare(file, 0);
+        let expected = reference::open_records(file);
+        let actual = self.library.open_records(&self.input);
+        self.judge(expected, actual, file, || format!("file {}", shown(file)));
+        actual
+    }
+
+    /// Compares, and gives back what the library answered.
+    pub fn next_record(&mut self, file: &[u8], cursor: RecordCursor) -> RecordAnswer {
+        self.prepare(file, 0);
+        let expected = reference::next_record(file, cursor);
+        let actual = self.library.next_record(&self.input, cursor);
+        self.judge(expected, actual, file, || {
+            let from = cursor.offset.min(file.len());
+            format!("file {}, {cursor:?}, from it {}", shown(file), shown(&file[from..]))
+        });
+        actual
+    }
 }
 
 /// A byte string's length and first bytes.

@@ -1,12 +1,13 @@
 //! Every example of document 01, as a check of its own, on one implementation; then Tiny files,
-//! rows at fault, colours on two machines, legends, DEGAS files made Elite and plain, and MacPaint
-//! plates.
+//! rows at fault, colours on two machines, legends, DEGAS files made Elite and plain, MacPaint
+//! plates, and record lists.
 
 mod colours;
 mod conversion;
 mod legend;
 mod macpaint;
 mod pond;
+mod records;
 mod row_at_fault;
 mod tiny;
 
@@ -61,6 +62,7 @@ pub fn run(operations: &dyn Operations, report: &mut Report) {
     run_legends(operations, report);
     run_conversions(operations, report);
     run_plates(operations, report);
+    run_records(operations, report);
 }
 
 /// Only the examples of colours on two machines.
@@ -87,6 +89,12 @@ pub fn run_conversions(operations: &dyn Operations, report: &mut Report) {
 pub fn run_plates(operations: &dyn Operations, report: &mut Report) {
     report.section(&format!("examples of plates: {}", operations.name()));
     macpaint::run(&mut Examples { operations, report });
+}
+
+/// Only the examples of record lists.
+pub fn run_records(operations: &dyn Operations, report: &mut Report) {
+    report.section(&format!("examples of records: {}", operations.name()));
+    records::run(&mut Examples { operations, report });
 }
 
 impl Examples<'_> {

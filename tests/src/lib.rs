@@ -19,6 +19,7 @@ pub mod rewriting;
 pub mod roundtrip;
 pub mod screens;
 pub mod selfcheck;
+pub mod walks;
 
 #[cfg(test)]
 mod altered;

@@ -148,4 +148,12 @@ impl Operations for Library {
     fn write_plate(&self, plate: &[u8], out: &mut [u8]) -> WriteAnswer {
         unsafe { kutimuq_write_plate(plate.as_ptr(), plate.len(), out.as_mut_ptr(), out.len()) }
     }
+
+    fn open_records(&self, file: &[u8]) -> CursorAnswer {
+        unsafe { kutimuq_open_records(file.as_ptr(), file.len()) }
+    }
+
+    fn next_record(&self, file: &[u8], cursor: RecordCursor) -> RecordAnswer {
+        unsafe { kutimuq_next_record(file.as_ptr(), file.len(), cursor) }
+    }
 }

@@ -46,7 +46,7 @@ fn seed_from(arguments: &[String]) -> Option<u64> {
 fn check_library(report: &mut Report, seed: u64) {
     use kutimuq_tests::{
         cases, compare::Comparison, completion, examples, isolation, library::Library, rewriting,
-        roundtrip, screens,
+        roundtrip, screens, walks,
     };
     examples::run(&Library, report);
     roundtrip::run(&Library, report, seed + 1, 60);
@@ -59,6 +59,7 @@ fn check_library(report: &mut Report, seed: u64) {
     roundtrip::run_conversions(&Library, report, seed + 8, 60);
     rewriting::run_conversions(&Library, report, seed + 9, 60);
     isolation::run(&Library, report, seed + 10, 400);
+    walks::run(&Library, report, seed + 11, 40);
     cases::run_all(&mut Comparison::new(&Library, report), seed);
 }
 

@@ -38,6 +38,8 @@ pub trait Operations {
     fn to_plain(&self, file: &[u8], out: &mut [u8]) -> WriteAnswer;
     fn read_plate(&self, file: &[u8], plate: &mut [u8]) -> BodyAnswer;
     fn write_plate(&self, plate: &[u8], out: &mut [u8]) -> WriteAnswer;
+    fn open_records(&self, file: &[u8]) -> CursorAnswer;
+    fn next_record(&self, file: &[u8], cursor: RecordCursor) -> RecordAnswer;
 }
 
 /// A DEGAS file made Elite, or plain.
@@ -168,5 +170,13 @@ impl Operations for Reference {
 
     fn write_plate(&self, plate: &[u8], out: &mut [u8]) -> WriteAnswer {
         reference::write_plate(plate, out)
+    }
+
+    fn open_records(&self, file: &[u8]) -> CursorAnswer {
+        reference::open_records(file)
+    }
+
+    fn next_record(&self, file: &[u8], cursor: RecordCursor) -> RecordAnswer {
+        reference::next_record(file, cursor)
     }
 }

@@ -6,6 +6,7 @@ use crate::reference::{least_body, least_plate_body, least_row_body, WIDEST_ROW}
 use crate::report::Report;
 use crate::{
     completion, examples, fast, isolation, operations::Reference, rewriting, roundtrip, screens,
+    walks,
 };
 
 pub fn run(report: &mut Report, seed: u64) {
@@ -14,6 +15,7 @@ pub fn run(report: &mut Report, seed: u64) {
     completion::run(&Reference, report, seed, 12);
     screens::run(&Reference, report, seed, 4);
     isolation::run(&Reference, report, seed, 20);
+    walks::run(&Reference, report, seed, 6);
     roundtrip::run_conversions(&Reference, report, seed, 20);
     rewriting::run_conversions(&Reference, report, seed, 12);
     roundtrip::run_plates(&Reference, report, seed, 20);

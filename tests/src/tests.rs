@@ -2,6 +2,7 @@
 
 mod colours;
 mod legends;
+mod records;
 
 use crate::altered::{
     Altered, RARELY_WRONG_PLATE_READINGS, RARELY_WRONG_TO_ELITE, RARELY_WRONG_TO_PLAIN,
@@ -410,7 +411,7 @@ fn sizes_of_the_binding() {
 #[test]
 fn layout_names_every_struct() {
     let table = layout::table();
-    assert_eq!(table.iter().filter(|line| line.contains(" align ")).count(), 14);
+    assert_eq!(table.iter().filter(|line| line.contains(" align ")).count(), 17);
 }
 
 /// The comparison itself, with the reference in the library's place.

@@ -1,6 +1,6 @@
 //! DEGAS files made Elite and plain wrongly.
 
-use crate::generate::{with_first_word, with_zero_tail};
+use crate::generate::{first_word, with_first_word, with_zero_tail};
 use crate::reference::*;
 use kutimuq::ffi::*;
 use kutimuq::refusal::{self, Refusal};
@@ -12,10 +12,6 @@ pub type ConvertBy = fn(Convert, &[u8], &mut [u8]) -> WriteAnswer;
 fn refused(number: u8) -> WriteAnswer {
     let refusal = Refusal { number, ..Refusal::default() };
     WriteAnswer { refusal, ..WriteAnswer::default() }
-}
-
-fn first_word(file: &[u8]) -> u16 {
-    file.first_chunk().map_or(0, |bytes| u16::from_be_bytes(*bytes))
 }
 
 /// The file with these bits of the first word cleared.

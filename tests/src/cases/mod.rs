@@ -10,6 +10,7 @@ mod macpaint;
 mod neochrome;
 mod pond;
 mod reading;
+mod records;
 mod row_at_fault;
 mod rows;
 mod screens;
@@ -52,6 +53,7 @@ pub fn run_all(comparison: &mut Comparison, seed: u64) {
     conversion::run(comparison, &mut random, Conversion::ToPlain);
     macpaint::read(comparison, &mut random);
     macpaint::write(comparison, &mut random);
+    records::run(comparison, &mut random);
 }
 
 /// Only the inputs for colours.
@@ -77,6 +79,11 @@ pub fn run_conversion(comparison: &mut Comparison, seed: u64, conversion: Conver
 /// Only the inputs for reading MacPaint plates.
 pub fn run_plate_reading(comparison: &mut Comparison, seed: u64) {
     macpaint::read(comparison, &mut Random::seeded(seed));
+}
+
+/// Only the inputs for record lists.
+pub fn run_records(comparison: &mut Comparison, seed: u64) {
+    records::run(comparison, &mut Random::seeded(seed));
 }
 
 /// Only the inputs for the registers of a whole screen.

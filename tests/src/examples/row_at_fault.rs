@@ -7,10 +7,10 @@ use kutimuq::ffi::*;
 use kutimuq::refusal::Refusal;
 
 /// The blank file's records, D9 00, start here.
-const BODY: usize = 34;
+pub const BODY: usize = 34;
 
 /// The blank file up to plane row `row`, then `rest`.
-fn blank_up_to(row: usize, rest: &[u8]) -> Vec<u8> {
+pub fn blank_up_to(row: usize, rest: &[u8]) -> Vec<u8> {
     [&blank_file()[..BODY + 2 * row], rest].concat()
 }
 

@@ -1,7 +1,9 @@
 //! DEGAS files.
 
 use super::rows::{put_padded_rows, put_row_body, PackedFile};
+use super::screens::screen;
 use super::shape_of;
+use crate::fast;
 use crate::random::Random;
 use crate::reference::{DEGAS_HEADER_BYTES, PACKED_BIT, SCREEN_BYTES, TAIL_BYTES};
 
@@ -25,6 +27,11 @@ pub fn raw_file(random: &mut Random, first_word: u16, with_tail: bool) -> Vec<u8
 /// The raw file of a screen, without a tail, with a random palette.
 pub fn file_of_screen(random: &mut Random, first_word: u16, screen: &[u8]) -> Vec<u8> {
     [&degas_header(random, first_word), screen].concat()
+}
+
+/// 0 if the file has none.
+pub fn first_word(file: &[u8]) -> u16 {
+    file.first_chunk().map_or(0, |bytes| u16::from_be_bytes(*bytes))
 }
 
 /// The file with another first word, if it has one.
@@ -53,6 +60,15 @@ pub fn packed_file(random: &mut Random, resolution: u16, with_nothing: bool) -> 
     }
     bytes.extend(random.bytes(TAIL_BYTES));
     PackedFile { bytes, starts }
+}
+
+/// The packed file of a screen, with its least body; some are above the allowed length.
+pub fn least_file(random: &mut Random, resolution: u16) -> Vec<u8> {
+    let screen = screen(random, resolution);
+    let mut body = vec![0; 33_000];
+    let (length, _) = fast::pack_screen(&shape_of(resolution), &screen, &mut body);
+    let header = degas_header(random, PACKED_BIT | resolution);
+    [&header, &body[..length], &random.bytes(TAIL_BYTES)].concat()
 }
 
 /// A packed file of one repeat per plane row; the blank file if `byte` is 0.

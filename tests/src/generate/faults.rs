@@ -8,6 +8,7 @@ use crate::random::Random;
 use crate::reference::{
     LONGEST_PACKED_FILE, LONGEST_PLATE_FILE, PACKED_BIT, PLATE_HEIGHT, PLATE_ROW_BYTES, TAIL_BYTES,
 };
+use kutimuq::ffi::RecordCursor;
 use kutimuq::refusal::{self, Refusal};
 
 /// The row bytes of the longest record.
@@ -24,6 +25,14 @@ pub struct Record {
     pub plane_row: usize,
     /// The bytes that the row has before the record.
     pub good_bytes: usize,
+}
+
+impl Record {
+    /// Where a step that gives this record stands.
+    pub fn cursor(&self) -> RecordCursor {
+        let Record { start, plane_row, good_bytes, .. } = *self;
+        RecordCursor { offset: start, plane_row, good_bytes }
+    }
 }
 
 /// A well-formed row or file with its records.

@@ -15,8 +15,8 @@ mod tiny;
 
 pub use costs::CostlyRows;
 pub use degas::{
-    blank_file, degas_header, even_file, file_of_screen, packed_file, padded_file, raw_file,
-    with_first_word, with_zero_tail,
+    blank_file, degas_header, even_file, file_of_screen, first_word, least_file, packed_file,
+    padded_file, raw_file, with_first_word, with_zero_tail,
 };
 pub use faults::{recorded_file, recorded_plate_file, recorded_row, Faulty, RecordedBody};
 pub use legend::{

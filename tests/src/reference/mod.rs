@@ -17,6 +17,7 @@ mod macpaint;
 mod neochrome;
 mod packbits;
 mod pond;
+mod records;
 mod screen;
 mod summary;
 mod tally;
@@ -46,6 +47,10 @@ pub use macpaint::{
 pub use neochrome::NEO_FILE_BYTES;
 pub use packbits::{least_row_body, pack_row, unpack_row, PACK_AREA_BYTES, WIDEST_ROW};
 pub use pond::{pond, Question};
+pub use records::{
+    next_record, open_records, record_list, ListedRecord, FIRST_CURSOR, RECORD_LITERAL,
+    RECORD_NOTHING, RECORD_REPEAT,
+};
 pub use screen::{Shape, SCREEN_BYTES};
 pub use summary::{summary, summary_text};
 pub use tally::{tally, whole_screen};
