@@ -3,7 +3,7 @@
 #
 # Usage: instructions.sh [OPERATION...]
 #
-# OPERATION is an operation of the tables of times, or pack-row alone; seventeen are counted where none is named. The
+# OPERATION is an operation of the tables of times, or pack-row alone; eighteen are counted where none is named. The
 # environment variable SCREEN is a screen of the first table, by default map; 64 screens in turn count as one call.
 # An operation on plates is counted on each plate, one on legends on each legend, colours on each machine.
 set -eu
@@ -146,7 +146,7 @@ legends=
 machines=
 case "$*" in
 "")
-    pictures="packed-read tiny-read form3-write to-elite to-plain"
+    pictures="packed-read records tiny-read form3-write to-elite to-plain"
     pictures="$pictures lines-in lines-out screen-in screen-out tally pond raw-read"
     plates="plate-read plate-write"
     legends="set-entry release-entry"

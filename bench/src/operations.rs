@@ -18,6 +18,7 @@ use crate::plain;
 pub enum Operation {
     RawRead,
     PackedRead,
+    Records,
     TinyRead,
     PackedWrite,
     ToElite,
@@ -44,6 +45,7 @@ pub enum Part {
 pub const OPERATIONS: &[(Operation, &str)] = &[
     (Operation::RawRead, "raw-read"),
     (Operation::PackedRead, "packed-read"),
+    (Operation::Records, "records"),
     (Operation::TinyRead, "tiny-read"),
     (Operation::PackedWrite, "form3-write"),
     (Operation::ToElite, "to-elite"),
@@ -72,6 +74,7 @@ impl Operation {
         let branching = matches!(
             self,
             Operation::PackedRead
+                | Operation::Records
                 | Operation::TinyRead
                 | Operation::PackedWrite
                 | Operation::ToElite
@@ -141,6 +144,7 @@ fn perform(operation: Operation, by: By, subject: &mut Subject, sink: &mut impl 
         match operation {
             Operation::RawRead => read(by, KIND_DEGAS, &input.raw_file, areas, sink),
             Operation::PackedRead => read(by, KIND_DEGAS, &input.packed_file, areas, sink),
+            Operation::Records => records(by, &input.packed_file, sink),
             Operation::TinyRead => read(by, KIND_TINY, &input.tiny_file, areas, sink),
             Operation::PackedWrite => write(by, input, areas, sink),
             Operation::ToElite => to_elite(by, &input.raw_file, areas, sink),
@@ -162,6 +166,31 @@ fn read(by: By, kind: u8, file: &[u8], areas: &mut Areas, sink: &mut impl Sink) 
         By::Plain => plain::read(kind, file, area),
     };
     sink.take(answer, area);
+}
+
+/// A step for each record, and one that ends the list.
+fn records(by: By, file: &[u8], sink: &mut impl Sink) {
+    match by {
+        By::Library => {
+            let mut step = Library.next_record(file, Library.open_records(file).cursor);
+            while step.kind != 0 {
+                sink.take((step.offset, step.plane_row, step.kind, step.length), &[]);
+                step = Library.next_record(file, step.next);
+            }
+            sink.take(step.refusal, &[]);
+        }
+        By::Plain => {
+            let walk = |mut steps: plain::RecordReader| {
+                steps.try_for_each(|step| {
+                    let kutimuq::Record { offset, plane_row, kind, length } = step?;
+                    sink.take((offset, plane_row, kind as u8, length), &[]);
+                    Ok(())
+                })
+            };
+            let ended = plain::records(file).and_then(walk);
+            sink.take(ended.err().unwrap_or_default(), &[]);
+        }
+    }
 }
 
 fn write(by: By, input: &Input, areas: &mut Areas, sink: &mut impl Sink) {

@@ -10,6 +10,7 @@ mod legends;
 mod lines;
 mod packing;
 mod plates;
+mod records;
 mod screens;
 mod tiny;
 mod unpacking;
@@ -21,6 +22,7 @@ pub use legends::{release_entry, set_entry};
 pub use lines::{line_in, line_out};
 pub use packing::{pack_row, write_packed};
 pub use plates::{read_plate, write_plate};
+pub use records::{records, RecordReader};
 pub use screens::{screen_in, screen_out};
 
 use kutimuq::ffi::ReadAnswer;
