@@ -37,9 +37,9 @@ pub enum RecordKind {
 
 // A whole record: the offset of its control byte, its plane row, its kind, and how many bytes of the row it makes.
 pub struct ListedRecord {
+    pub kind: RecordKind,
     pub offset: usize,
     pub plane_row: usize,
-    pub kind: RecordKind,
     pub length: usize,
 }
 
@@ -307,8 +307,15 @@ fn record_answer(e: ListedRecord, next: RecordCursor) -> RecordAnswer
 fn no_record(refusal: Refusal, next: RecordCursor) -> RecordAnswer
     ensures { λ a. ⌜ a ≡ foundAnswer (Refused refusal) next ⌝ }
 {
+    // By its parts: a copy of the whole would move its padding too, in odd pieces.
+    let why = outcome::refuse_in_row(
+        refusal.number,
+        refusal.place,
+        refusal.plane_row,
+        refusal.good_bytes,
+    );
     RecordAnswer {
-        refusal,
+        refusal: why,
         kind: 0,
         offset: 0,
         plane_row: 0,
