@@ -66,6 +66,7 @@ recordsWithin (suc bound) file rows width c =
     [])
     []
 
+-- the same with the bound
 unfoldable pub recordsFrom : List ℕ → ℕ → ℕ → RecordCursor → List ListedRecord
 recordsFrom file rows width c = recordsWithin (suc (length (drop (c .offset) file))) file rows width c
 

@@ -21,11 +21,13 @@ use outcome::WRONG_TAIL;
 use packbits::Record;
 use resolution::Resolution;
 
-// The number of each kind of record in an answer; 0 is no record.
+// The number of a literal in an answer; 0 is no record.
 pub const RECORD_LITERAL: u8 = 1;
 
+// The number of a repeat.
 pub const RECORD_REPEAT: u8 = 2;
 
+// The number of a record that does nothing.
 pub const RECORD_NOTHING: u8 = 3;
 
 // What a record does: takes bytes as they stand, takes one byte several times, or nothing.
@@ -35,7 +37,8 @@ pub enum RecordKind {
     Nothing,
 }
 
-// A whole record: the offset of its control byte, its plane row, its kind, and how many bytes of the row it makes.
+// A whole record: its kind, the offset of its control byte, its plane row, and how many bytes of the row it makes. In
+// this order it lies in memory as a refusal does, so that a step's answer is put together without odd pieces.
 pub struct ListedRecord {
     pub kind: RecordKind,
     pub offset: usize,
