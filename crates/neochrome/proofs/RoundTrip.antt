@@ -22,25 +22,27 @@ use Rattle.neochrome.specs.Accepts.{AcceptsNeochrome}
 use Rattle.neochrome.proofs.FileLayout.{length-file, file-flag, file-resolution, file-palette, file-screen}
 use Rattle.neochrome.proofs.Acceptance.{neochrome-complete}
 
-module _ (p : Picture) (screen : List ℕ) (out : ℕ) where
-  module _ (whole : WholePicture p) (area : ℕ) (room : screenBytes ≤ area) where
+module _ (p : Picture) (screen : List ℕ) where
+  abbrev file : List ℕ
+  file = neochromeFile p screen
+
+  -- what is written fits
+  pub written-accepts : WholePicture p → (r : Resolution) → chosen (p .resolution) ≡ Known r
+      → screenBytes ≤ length screen → AcceptsNeochrome file
+  written-accepts whole r known full = record {
+    resolution = r;
+    flag = file-flag p whole screen;
+    allowed = ap chosen (file-resolution p whole screen) ∙ known;
+    fits = length-file p whole screen full;
+  }
+
+  module _ (out : ℕ) (whole : WholePicture p) (area : ℕ) (room : screenBytes ≤ area) where
     module _ (r : Resolution) (known : chosen (p .resolution) ≡ Known r) (full : screenBytes ≤ length screen) where
-      abbrev file : List ℕ
-      file = neochromeFile p screen
-
-      written-accepts : AcceptsNeochrome file
-      written-accepts = record {
-        resolution = r;
-        flag = file-flag p whole screen;
-        allowed = ap chosen (file-resolution p whole screen) ∙ known;
-        fits = length-file p whole screen full;
-      }
-
       file-back : readNeochrome file area
           ≡ accepted (neochromeBack p screen (record { file = file; body = 0; records = 0 }))
       unfolding written-accepts
       file-back =
-          neochrome-complete file area room written-accepts
+          neochrome-complete file area room (written-accepts whole r known full)
           ∙ rw (
             number-chosen (p .resolution) r known,
             file-palette p whole screen,

@@ -5,7 +5,8 @@ use Prim.Native.Nat.{ℕ}
 abbrev pub areaTooShort : ℕ
 areaTooShort = 1
 
--- unknown kind or form; a file to convert to Elite that is not plain; one whose records are asked for that is not packed
+-- unknown kind, form or list; a file to convert to Elite that is not plain; one whose records are asked for that is not
+-- packed
 abbrev pub unknownKind : ℕ
 unknownKind = 2
 

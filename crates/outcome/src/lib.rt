@@ -5,8 +5,8 @@ ghost use Rattle.outcome.specs.Outcome.{none, refusal, rowRefusal};
 // A lent area is too short.
 pub const AREA_TOO_SHORT: u8 = 1;
 
-// The kind of a file to read, or the form of a file to write, is unknown; a file to convert to Elite is not plain; a
-// file whose records are asked for is not packed.
+// The kind of a file to read, the form of a file to write, or the list to read an animation by is unknown; a file to
+// convert to Elite is not plain; a file whose records are asked for is not packed.
 pub const UNKNOWN_KIND: u8 = 2;
 
 // The file's length is not allowed.

@@ -1,0 +1,9 @@
+pub mod Speed
+pub mod Lists
+pub mod Judging
+pub mod Acceptance
+pub mod Fields
+pub mod BothLists
+pub mod Header
+pub mod Written
+pub mod Examples

@@ -1,0 +1,5 @@
+pub mod Layout
+pub mod Speed
+pub mod Lists
+pub mod Judging
+pub mod Fields
