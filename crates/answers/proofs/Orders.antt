@@ -132,7 +132,7 @@ module _ {A : Type 0} (number : Outcome A → ℕ) (is : (n : ℕ) → number (r
       Is c = number (judgeWith c further) ≡ cond (ltb 2 n) 5 (next n)
 
 -- a number that is none of 1 to most
-outside : (n most : ℕ) → ((n ≡ 0 → ⊥) → most < n) → eqb n 0 || ltb most n ≡ true
+pub outside : (n most : ℕ) → ((n ≡ 0 → ⊥) → most < n) → eqb n 0 || ltb most n ≡ true
 outside n most h = go (eqb n 0) refl
   where
     go : (b : Bool) → eqb n 0 ≡ b → b || ltb most n ≡ true

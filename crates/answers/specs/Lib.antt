@@ -1,3 +1,4 @@
+pub mod Animation
 pub mod Examples
 pub mod IndexRefusals
 pub mod Orders

@@ -1,3 +1,4 @@
+pub mod Animations
 pub mod Blank
 pub mod Conversions
 pub mod Plates

@@ -1,3 +1,4 @@
+pub mod Animations
 pub mod Areas
 pub mod Blank
 pub mod Conversions

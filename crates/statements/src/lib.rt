@@ -1,4 +1,4 @@
-// The demands of document 00, and those of document 02, tickets 7, 9 and 13, said of the operations themselves: each
+// The demands of document 00, and those of document 02, tickets 7, 9, 10 and 13, said of the operations themselves: each
 // function here only calls public operations, and promises the demand. Nothing is assumed of an argument but its type.
 // The clause `refused` is demand 1, "then no byte of any lent area has changed", and `whole` the complete answer of the
 // operations. Definitions: specs/.
@@ -19,6 +19,8 @@ ghost use Rattle.demands.specs.Refusals.{Refuses};
 ghost use Rattle.demands.specs.RoundTrips.{kindOf};
 ghost use Rattle.degas.specs.Layout.{plainLength, eliteLength};
 ghost use Rattle.degas.specs.LeastBody.{NoBodyBelow};
+ghost use Rattle.neochrome.specs.Accepts.{AcceptsNeochrome};
+ghost use Rattle.statements.specs.Animations.{AcceptsBoth, ShowsBoth, RefusesAsRead};
 ghost use Rattle.statements.specs.Areas.{HoldsScreen, HoldsFile, Stated};
 ghost use Rattle.statements.specs.Blank.{zeros, Blank};
 ghost use Rattle.statements.specs.Conversions.{WritesEliteFile, WritesPlainFile, AnswersConversion};
@@ -38,6 +40,9 @@ ghost use Rattle.statements.specs.Writing.{WritesNothing, AnswersWrite};
 use bodies::BodyAnswer;
 use conversion::Conversion;
 use degas_records::Found;
+use neochrome_animation::AnimationAnswer;
+use neochrome_animation::LIST_1989;
+use neochrome_animation::LIST_2008;
 use packbits::RowAnswer;
 use picture::Picture;
 use picture::ReadAnswer;
@@ -51,6 +56,12 @@ use writer::FORM_PACKED;
 pub struct RoundTrip {
     pub written: WriteAnswer,
     pub read: ReadAnswer,
+}
+
+// The answers of both lists.
+pub struct BothLists {
+    pub list_1989: AnimationAnswer,
+    pub list_2008: AnimationAnswer,
 }
 
 // The answers of a plate's writing and of its reading back.
@@ -306,4 +317,19 @@ pub fn nth_step(file: &[u8], k: usize) -> Found
     }
     let last = degas_records::step(file, cursor);
     last.found
+}
+
+// Document 02, ticket 10: "The 1989 (001) and 2008 (000) lists read the header differently; keep both"; "For an accepted
+// file with limits marked valid and word 52 zero, both show the same", and for no other. What both lists show of a file.
+pub fn animation_by_both(file: &[u8]) -> BothLists
+    ensures exactly { λ b. ⌜ AcceptsBoth (now (file .entry)) b ⌝ }
+    ensures accepted { λ b. ⌜ (AcceptsNeochrome (now (file .entry)) → ShowsBoth (now (file .entry)) b) ⌝ }
+    ensures refused { λ b. ⌜ RefusesAsRead (now (file .entry)) b ⌝ }
+{
+    let list_1989 = neochrome_animation::animation(LIST_1989, file);
+    let list_2008 = neochrome_animation::animation(LIST_2008, file);
+    BothLists {
+        list_1989,
+        list_2008,
+    }
 }
