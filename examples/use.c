@@ -2,7 +2,8 @@
  * Shows a picture file: what reading found, the registers it uses with their
  * colours, and the length of its shortest packed file. Of a MacPaint plate it
  * shows what reading found and the length of its shortest file. Of a damaged
- * packed DEGAS file it counts the records before the fault.
+ * packed DEGAS file it counts the records before the fault. Of a NEOchrome file
+ * it shows the colour animation too, as the lists of 1989 and 2008 read it.
  *
  *     cc use.c $(pkg-config --cflags --libs kutimuq) -o use
  *     ./use ponds.pc1
@@ -39,6 +40,19 @@ static void show_reading(const KutimuqReadAnswer *found)
     printf("records %zu\n", found->records);
     printf("body %zu\n", found->body);
     printf("tail %d\n", found->picture.tail_present);
+}
+
+/* The colour animation of a NEOchrome file that was read: no list refuses it. */
+static void show_animation(const char *year, uint8_t list, size_t length)
+{
+    static const char *const directions[] = {"stopped", "left", "right"};
+    KutimuqAnimationAnswer shown = kutimuq_animation(list, file, length);
+    printf("animation by the list of %s: %s, %s, %u vblanks, %u steps", year,
+           shown.on ? "on" : "off", directions[shown.direction], shown.vblanks, shown.step_count);
+    if (shown.limits_valid) {
+        printf(", registers %u to %u", shown.left_limit, shown.right_limit);
+    }
+    putchar('\n');
 }
 
 /* A line for each register that the picture uses: its colour and its pixels. */
@@ -142,5 +156,9 @@ int main(int count, char **words)
     }
     show_reading(&found);
     show_packed(&found.picture);
+    if (kind == KUTIMUQ_KIND_NEO) {
+        show_animation("1989", KUTIMUQ_LIST_1989, length);
+        show_animation("2008", KUTIMUQ_LIST_2008, length);
+    }
     return show_registers(&found.picture);
 }

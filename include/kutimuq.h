@@ -36,9 +36,9 @@ extern "C" {
 #endif
 
 #define KUTIMUQ_VERSION_MAJOR 0
-#define KUTIMUQ_VERSION_MINOR 7
+#define KUTIMUQ_VERSION_MINOR 8
 #define KUTIMUQ_VERSION_PATCH 0
-#define KUTIMUQ_VERSION "0.7.0"
+#define KUTIMUQ_VERSION "0.8.0"
 
 /* The answer must be looked at; no pointer may be null. */
 #ifdef __GNUC__
@@ -53,11 +53,12 @@ extern "C" {
 enum KutimuqNumber {
     KUTIMUQ_ACCEPTED = 0,
     KUTIMUQ_AREA_TOO_SHORT = 1,
-    /* Unknown kind (reading) or form (writing); a DEGAS file that is packed or
-       has a tail, where a plain one is needed; one that is not packed, where
-       its records are asked for. */
+    /* Unknown kind (reading), form (writing) or list (animation); a DEGAS file
+       that is packed or has a tail, where a plain one is needed; one that is not
+       packed, where its records are asked for. */
     KUTIMUQ_UNKNOWN_KIND = 2,
     KUTIMUQ_WRONG_LENGTH = 3,
+    /* Of a NEOchrome file. The list of 1989 has no flag: there it is 5. */
     KUTIMUQ_WRONG_FLAG = 4,
     KUTIMUQ_UNKNOWN_RESOLUTION = 5,
     /* Place: the offset of the control byte at fault, or the input's length if
@@ -157,6 +158,16 @@ enum {
     KUTIMUQ_RECORD_LITERAL = 1, /* takes the bytes after its control byte as they stand */
     KUTIMUQ_RECORD_REPEAT = 2,  /* takes the byte after its control byte several times */
     KUTIMUQ_RECORD_NOTHING = 3  /* a control byte alone, which makes no byte */
+};
+
+/* The list of picture formats by which a NEOchrome header is read. */
+enum { KUTIMUQ_LIST_1989 = 1, KUTIMUQ_LIST_2008 = 2 };
+
+/* Which way the colours cycle. */
+enum {
+    KUTIMUQ_DIRECTION_STOPPED = 0,
+    KUTIMUQ_DIRECTION_LEFT = 1, /* decreasing */
+    KUTIMUQ_DIRECTION_RIGHT = 2 /* ascending */
 };
 
 /* Sizes in bytes. */
@@ -279,6 +290,19 @@ typedef struct KutimuqRecordAnswer {
     size_t length;            /* bytes of the row made: 0 for nothing */
     KutimuqRecordCursor next; /* for the next step */
 } KutimuqRecordAnswer;
+
+/* The colour animation of a NEOchrome picture. Each field is shown by itself: the
+   header may say on and stopped, or on with limits that are not valid. */
+typedef struct KutimuqAnimationAnswer {
+    KutimuqRefusal refusal;
+    bool limits_valid;
+    uint8_t left_limit;  /* 0 to 15; 0 where the limits are not valid */
+    uint8_t right_limit; /* 0 to 15; 0 where the limits are not valid */
+    bool on;
+    uint8_t direction;
+    uint8_t vblanks;     /* between two cycles, 0 to 127; 0 where stopped */
+    uint16_t step_count; /* for which a slide show keeps the picture; 0 by the list of 1989 */
+} KutimuqAnimationAnswer;
 
 /* Left plus columns must not exceed the width, top plus lines not the height,
    as whole numbers. No columns or no lines is an empty rectangle. */
@@ -507,6 +531,25 @@ KutimuqCursorAnswer kutimuq_open_records(const uint8_t *file, size_t file_len);
 KUTIMUQ_MUST_USE KUTIMUQ_NONNULL
 KutimuqRecordAnswer kutimuq_next_record(const uint8_t *file, size_t file_len,
                                         KutimuqRecordCursor cursor);
+
+/*
+ * The colour animation (colour cycling) in a NEOchrome picture's header, as one
+ * of two lists of picture formats reads it; not the format NEOchrome Animation
+ * (*.ANI).
+ * Both lists: the upper four bits of byte 49 are the left limit, the lower four
+ * the right one; the high bit of byte 50 says on; byte 51 is a signed speed x:
+ * below 0 left, above 0 right, and |x| - 1 vblanks between two cycles; 0 stopped.
+ * List 1 (1989): bytes 0 to 3 are the resolution; the limits are always valid.
+ * List 2 (2008): the word at 0 is the flag, the word at 2 the resolution; the high
+ * bit of byte 48 says that the limits are valid; the word at 52 is the step count.
+ * Both accept the same files, and show the same where that bit is set and the word
+ * at 52 is 0. Other bits and bytes are ignored.
+ * Refusals in order: 2 list neither 1 nor 2, 3 (not 32,128 bytes), 4 (list 2
+ * only), 5 (list 1: also where the word at 0 is not 0). A call takes under 1,000
+ * bytes of stack.
+ */
+KUTIMUQ_MUST_USE KUTIMUQ_NONNULL
+KutimuqAnimationAnswer kutimuq_animation(uint8_t list, const uint8_t *file, size_t file_len);
 
 /*
  * Writes a picture in form 1 to 4 to the front of `out`; output past the file

@@ -1,7 +1,8 @@
 """Prints the fields of each struct that C sees, with their types, in the order of declaration: `fields.py rattle CRATES`
 reads the Rattle sources, `fields.py c HEADER` the C header. A struct's layout is fixed by its fields' types in order.
 
-`fields.py constants CRATES` prints Rattle's kinds of a record and sizes as `kutimuq-tests --layout` prints Rust's."""
+`fields.py constants CRATES` prints Rattle's kinds of a record, lists, directions and sizes as `kutimuq-tests --layout`
+prints Rust's."""
 
 import pathlib
 import re
@@ -12,11 +13,16 @@ C_TYPES = {"u8": "uint8_t", "u16": "uint16_t", "u32": "uint32_t", "usize": "size
 GROUP_PIXELS = 16
 GROUP_BYTES = 2
 
-# The header's name: the crate, Rattle's constant there, and what one of its units counts.
+# The header's name: the crate, Rattle's constant or case of an enum there, and what one of its units counts.
 CONSTANTS = {
     "RECORD_LITERAL": ("degas_records", "RECORD_LITERAL", 1),
     "RECORD_REPEAT": ("degas_records", "RECORD_REPEAT", 1),
     "RECORD_NOTHING": ("degas_records", "RECORD_NOTHING", 1),
+    "LIST_1989": ("neochrome_animation", "LIST_1989", 1),
+    "LIST_2008": ("neochrome_animation", "LIST_2008", 1),
+    "DIRECTION_STOPPED": ("neochrome_animation", "Direction::Stopped", 1),
+    "DIRECTION_LEFT": ("neochrome_animation", "Direction::Left", 1),
+    "DIRECTION_RIGHT": ("neochrome_animation", "Direction::Right", 1),
     "SCREEN_BYTES": ("resolution", "SCREEN_BYTES", 1),
     "WRITE_AREA_BYTES": ("picture", "FILE_BYTES", 1),
     "WIDEST_ROW": ("packbits", "MAX_WIDTH", 1),
@@ -32,7 +38,7 @@ CONSTANTS = {
 def rattle_constants(crates):
     for name, (crate, constant, unit) in CONSTANTS.items():
         text = (pathlib.Path(crates) / crate / "src/lib.rt").read_text()
-        (value,) = re.findall(rf"^pub const {constant}: \w+ = (\d+);", text, re.M)
+        (value,) = re.findall(rf"^(?:pub const {constant}: \w+ =| *{constant} =>) (\d+)[;,]", text, re.M)
         yield f"{name} is {unit * int(value)}"
 
 

@@ -1,7 +1,7 @@
 /* Prints what kutimuq.h declares, without its prefix, as `kutimuq-tests --layout`
    does for the Rust side: each struct with its fields, the version, refusal
-   numbers with their meanings, kinds, forms, machines and kinds of a record,
-   sizes and shapes. */
+   numbers with their meanings, kinds, forms, machines, kinds of a record, lists
+   and directions, sizes and shapes. */
 
 #include <stdalign.h>
 #include <stddef.h>
@@ -86,6 +86,19 @@ static void print_records(void)
     FIELD(RecordAnswer, plane_row);
     FIELD(RecordAnswer, length);
     FIELD(RecordAnswer, next);
+}
+
+static void print_animation(void)
+{
+    STRUCT(AnimationAnswer);
+    REFUSAL(AnimationAnswer);
+    FIELD(AnimationAnswer, limits_valid);
+    FIELD(AnimationAnswer, left_limit);
+    FIELD(AnimationAnswer, right_limit);
+    FIELD(AnimationAnswer, on);
+    FIELD(AnimationAnswer, direction);
+    FIELD(AnimationAnswer, vblanks);
+    FIELD(AnimationAnswer, step_count);
 }
 
 static void print_pixels(void)
@@ -176,6 +189,11 @@ static void print_constants(void)
     CONSTANT(RECORD_LITERAL);
     CONSTANT(RECORD_REPEAT);
     CONSTANT(RECORD_NOTHING);
+    CONSTANT(LIST_1989);
+    CONSTANT(LIST_2008);
+    CONSTANT(DIRECTION_STOPPED);
+    CONSTANT(DIRECTION_LEFT);
+    CONSTANT(DIRECTION_RIGHT);
     CONSTANT(SCREEN_BYTES);
     CONSTANT(LONGEST_FILE);
     CONSTANT(LONGEST_TINY_FILE);
@@ -202,6 +220,7 @@ int main(void)
     print_refusals();
     print_files();
     print_records();
+    print_animation();
     print_pixels();
     printf("version %s\n", KUTIMUQ_VERSION);
     print_numbers();

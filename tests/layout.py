@@ -1,4 +1,5 @@
-"""Prints Python's version, refusals, kinds of a record and sizes as `kutimuq-tests --layout` prints Rust's.
+"""Prints Python's version, refusals, kinds of a record, lists, directions and sizes as `kutimuq-tests --layout` prints
+Rust's.
 
 Loads no library."""
 
@@ -22,5 +23,9 @@ for refusal in kutimuq.RefusalNumber:
     print(f"{refusal.name} number {refusal.value}: {refusal.meaning}")
 for kind in kutimuq.RecordKind:
     print(f"RECORD_{kind.name} is {kind.value}")
+for format_list in kutimuq.FormatList:
+    print(f"{format_list.name} is {format_list.value}")
+for direction in kutimuq.Direction:
+    print(f"DIRECTION_{direction.name} is {direction.value}")
 for name, size in SIZES.items():
     print(f"{name} is {size}")

@@ -1,7 +1,8 @@
 #!/bin/sh
 # Compares what the C header declares with the Rust side, the structs' fields, the refusal numbers, kinds of a
-# record and sizes with Rattle's, and the version, those numbers with their meanings, kinds of a record and sizes
-# with Python's. KUTIMUQ_INCLUDE names the header's folder, default include/ of the repository.
+# record, lists, directions and sizes with Rattle's, and the version, those numbers with their meanings, kinds of a
+# record, lists, directions and sizes with Python's. KUTIMUQ_INCLUDE names the header's folder, default include/ of
+# the repository.
 set -eu
 
 here=$(cd "$(dirname "$0")" && pwd)
@@ -29,7 +30,7 @@ equal "C and Rust" "$work/c" "$work/rust"
 sed -n '/^ACCEPTED /d; s/ number \([0-9]*\):.*/ \1/p' "$work/rust" > "$work/numbers"
 sed -n 's/^pub const \([A-Z_0-9]*\): u8 = \([0-9]*\);.*/\1 \2/p' "$root/crates/outcome/src/lib.rt" > "$work/rattle"
 equal "the refusal numbers of Rust and Rattle" "$work/numbers" "$work/rattle"
-constants='\(RECORD\|SCREEN\|WRITE_AREA\|PACK_AREA\|PLATE\|LONGEST_PLATE\)_[A-Z_]*'
+constants='\(RECORD\|LIST\|DIRECTION\|SCREEN\|WRITE_AREA\|PACK_AREA\|PLATE\|LONGEST_PLATE\)_[A-Z_0-9]*'
 grep "^version \| number [0-9]*: \|^$constants is " "$work/rust" > "$work/named"
 PYTHONPATH=$root/bindings/python python3 "$here/layout.py" > "$work/python"
 equal "Rust and Python" "$work/named" "$work/python"

@@ -14,11 +14,11 @@
 enum {
     STACK_BYTES = 1 << 17,
     PAINT = 0xA5,
-    /* Limits: a raw file read, a file refused before its body or runs are unpacked, or a
-       record list opened or stepped; a packed or Tiny file unpacked; a MacPaint file
-       unpacked; a raw DEGAS file made Elite or plain, or refused before its body is
-       unpacked; a packed one unpacked for that; an operation on a legend alone; any other
-       operation. */
+    /* Limits: a raw file read, a file refused before its body or runs are unpacked, a
+       record list opened or stepped, or a colour animation shown; a packed or Tiny file
+       unpacked; a MacPaint file unpacked; a raw DEGAS file made Elite or plain, or refused
+       before its body is unpacked; a packed one unpacked for that; an operation on a legend
+       alone; any other operation. */
     NOT_UNPACKED = 1000,
     UNPACKED = 35000,
     PLATE_UNPACKED = 55000,
@@ -47,6 +47,9 @@ enum {
     UNDEFINED = 128,
     HALF = 8000,
     DATA_BYTES = 2 + 2 * HALF,
+    /* NEOchrome: offsets of the colour animation and of its signed speed. */
+    ANIMATION = 48,
+    SPEED = 51,
     /* MacPaint: the last byte of the version. */
     VERSION = 3,
     /* A register; a confidence that is allowed and one that is not. */
@@ -72,7 +75,7 @@ static KutimuqPicture picture;
 static KutimuqRecordCursor cursor;
 static KutimuqLegend legend;
 static KutimuqRectangle whole;
-static uint8_t kind, form;
+static uint8_t kind, form, list;
 static uint8_t party, confidence;
 static size_t file_len, area_len, converted_len;
 
@@ -106,6 +109,11 @@ static void next_record(void)
     KutimuqRecordAnswer answer = kutimuq_next_record(file, file_len, cursor);
     cursor = answer.next;
     number = answer.refusal.number;
+}
+
+static void animation(void)
+{
+    number = kutimuq_animation(list, file, file_len).refusal.number;
 }
 
 static void to_elite(void)
@@ -319,6 +327,38 @@ static void record_openings(void)
     check_not_listed("records without a header", KUTIMUQ_WRONG_LENGTH);
 }
 
+/* The animation by both lists: WHAT, the number by that of 1989, the number by that of 2008. */
+static void check_animation(const char *what, uint8_t expected_1989, uint8_t expected_2008)
+{
+    list = KUTIMUQ_LIST_1989;
+    check(what, animation, NOT_UNPACKED, expected_1989);
+    list = KUTIMUQ_LIST_2008;
+    check(what, animation, NOT_UNPACKED, expected_2008);
+}
+
+static void animations(void)
+{
+    /* Valid limits, on, stopped, a step count; then to the left and to the right. */
+    static const uint8_t words[] = {0x80, 0x3C, 0x80, 0x00, 0x01, 0x02};
+    static const uint8_t speeds[] = {0x00, 0x80, 0x7F};
+    check_writing("NEOchrome written", KUTIMUQ_FORM_NEO);
+    check_animation("no animation", KUTIMUQ_ACCEPTED, KUTIMUQ_ACCEPTED);
+    memcpy(file + ANIMATION, words, sizeof words);
+    for (size_t i = 0; i < sizeof speeds; i++) {
+        file[SPEED] = speeds[i];
+        check_animation("animation", KUTIMUQ_ACCEPTED, KUTIMUQ_ACCEPTED);
+    }
+    file[3] = RESOLUTIONS;
+    check_animation("animation of no resolution", KUTIMUQ_UNKNOWN_RESOLUTION,
+                    KUTIMUQ_UNKNOWN_RESOLUTION);
+    file[1] = 1;
+    check_animation("animation with a flag", KUTIMUQ_UNKNOWN_RESOLUTION, KUTIMUQ_WRONG_FLAG);
+    file_len--;
+    check_animation("animation of a cut file", KUTIMUQ_WRONG_LENGTH, KUTIMUQ_WRONG_LENGTH);
+    list++;
+    check("animation by no list", animation, NOT_UNPACKED, KUTIMUQ_UNKNOWN_KIND);
+}
+
 /* One word repeated over half of the screen, then the other half's words. */
 static void tiny_files(void)
 {
@@ -447,6 +487,7 @@ int main(int argc, char **argv)
         packed_files();
         record_steps();
         record_openings();
+        animations();
         tiny_files();
         plain_files_converted();
         elite_files_converted();

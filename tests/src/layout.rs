@@ -1,6 +1,6 @@
 //! The C interface as text: each struct with its fields, the version, refusal
-//! numbers with their meanings, kinds, forms, machines and kinds of a record,
-//! sizes and shapes.
+//! numbers with their meanings, kinds, forms, machines, kinds of a record, lists
+//! and directions, sizes and shapes.
 //!
 //! layout.c prints the same text from the header; layout.sh compares the two.
 
@@ -51,6 +51,18 @@ pub fn table() -> Vec<String> {
     describe!(lines, RecordCursor { offset, plane_row, good_bytes });
     describe_answer!(lines, CursorAnswer { cursor });
     describe_answer!(lines, RecordAnswer { kind, offset, plane_row, length, next });
+    describe_answer!(
+        lines,
+        AnimationAnswer {
+            limits_valid,
+            left_limit,
+            right_limit,
+            on,
+            direction,
+            vblanks,
+            step_count
+        }
+    );
     describe!(lines, Rectangle { left, top, columns, lines });
     describe_answer!(lines, TallyAnswer { counts });
     describe_answer!(lines, ColourAnswer { red, green, blue });
@@ -82,6 +94,11 @@ fn constants() -> Vec<String> {
         ("RECORD_LITERAL", usize::from(RECORD_LITERAL)),
         ("RECORD_REPEAT", usize::from(RECORD_REPEAT)),
         ("RECORD_NOTHING", usize::from(RECORD_NOTHING)),
+        ("LIST_1989", usize::from(LIST_1989)),
+        ("LIST_2008", usize::from(LIST_2008)),
+        ("DIRECTION_STOPPED", usize::from(DIRECTION_STOPPED)),
+        ("DIRECTION_LEFT", usize::from(DIRECTION_LEFT)),
+        ("DIRECTION_RIGHT", usize::from(DIRECTION_RIGHT)),
         ("SCREEN_BYTES", SCREEN_BYTES),
         ("LONGEST_FILE", NEO_FILE_BYTES.max(ELITE_RAW_FILE_BYTES)),
         ("LONGEST_TINY_FILE", LONGEST_TINY_FILE),

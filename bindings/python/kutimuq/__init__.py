@@ -8,16 +8,19 @@
 Each name is imported at its first use.
 """
 
-__version__ = "0.7.0"
+__version__ = "0.8.0"
 
 # Public name: the module that has it.
 _PUBLIC = {
+    "Animation": "neochrome_animation",
     "BadImage": "images",
     "BadText": "legend",
     "Colour": "index",
+    "Direction": "neochrome_animation",
     "Entry": "legend",
     "File": "pictures",
     "Form": "files",
+    "FormatList": "files",
     "Kind": "files",
     "Legend": "legend",
     "LibraryMissing": "library",
@@ -34,6 +37,7 @@ _PUBLIC = {
     "Refused": "library",
     "Row": "pictures",
     "Tail": "pictures",
+    "animation": "neochrome_animation",
     "change_legend": "legend",
     "colour": "index",
     "find_kind": "files",

@@ -84,6 +84,20 @@ pub struct RecordAnswer {
     pub next: RecordCursor,
 }
 
+/// The direction by its number: 0 stopped, 1 left, 2 right.
+#[repr(C)]
+#[derive(Clone, Copy, Debug, Default, PartialEq, Eq)]
+pub struct AnimationAnswer {
+    pub refusal: Refusal,
+    pub limits_valid: bool,
+    pub left_limit: u8,
+    pub right_limit: u8,
+    pub on: bool,
+    pub direction: u8,
+    pub vblanks: u8,
+    pub step_count: u16,
+}
+
 #[repr(C)]
 #[derive(Clone, Copy, Debug, Default, PartialEq, Eq)]
 pub struct Rectangle {
@@ -232,6 +246,7 @@ extern "C" {
         file_len: usize,
         cursor: RecordCursor,
     ) -> RecordAnswer;
+    pub fn kutimuq_animation(list: u8, file: *const u8, file_len: usize) -> AnimationAnswer;
     pub fn kutimuq_write(
         form: u8,
         picture: Picture,

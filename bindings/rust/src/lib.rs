@@ -26,6 +26,7 @@
 //! # Ok::<(), kutimuq::Refusal>(())
 //! ```
 
+mod animation;
 mod conversion;
 pub mod ffi;
 mod files;
@@ -37,6 +38,7 @@ pub mod refusal;
 mod resolution;
 mod rows;
 
+pub use animation::{animation, Animation, Direction, FormatList};
 pub use conversion::{to_elite, to_plain};
 pub use ffi::{Legend, RecordCursor, Rectangle};
 pub use files::{read, write, Form, Kind, Picture, Reading, Tail, Written};

@@ -26,6 +26,7 @@ ghost use Rattle.conversion.specs.Converting.{convert};
 ghost use Rattle.degas_records.specs.Answers.{cursorAnswer, recordAnswer};
 ghost use Rattle.degas_records.specs.Opening.{packedOpening};
 ghost use Rattle.degas_records.specs.Steps.{stepped};
+ghost use Rattle.neochrome_animation.specs.Judging.{animation, animationAnswer};
 use bodies::BodyAnswer;
 use colour::ColourAnswer;
 use conversion::Conversion;
@@ -34,6 +35,7 @@ use degas_records::RecordAnswer;
 use degas_records::RecordCursor;
 use legend::Legend;
 use legend::LegendAnswer;
+use neochrome_animation::AnimationAnswer;
 use outcome::Refusal;
 use packbits::RowAnswer;
 use picture::Picture;
@@ -274,4 +276,12 @@ pub extern "C" fn kutimuq_next_record(file: &[u8], cursor: RecordCursor) -> Reco
     ensures { λ a. ⌜ a ≡ recordAnswer (stepped (now (file .entry)) cursor) ⌝ }
 {
     degas_records::next_record(file, cursor)
+}
+
+// The colour animation of a NEOchrome file, by one of two lists of formats.
+#[no_mangle]
+pub extern "C" fn kutimuq_animation(list: u8, file: &[u8]) -> AnimationAnswer
+    ensures { λ a. ⌜ a ≡ animationAnswer (animation list (now (file .entry))) ⌝ }
+{
+    neochrome_animation::animation(list, file)
 }
