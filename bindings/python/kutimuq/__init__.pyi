@@ -6,6 +6,7 @@ from .degas_records import RecordKind as RecordKind
 from .degas_records import RecordReader as RecordReader
 from .degas_records import records as records
 from .files import Form as Form
+from .files import FormatList as FormatList
 from .files import Kind as Kind
 from .files import Machine as Machine
 from .files import find_kind as find_kind
@@ -23,6 +24,9 @@ from .legend import read_legend as read_legend
 from .library import LibraryMissing as LibraryMissing
 from .library import RefusalNumber as RefusalNumber
 from .library import Refused as Refused
+from .neochrome_animation import Animation as Animation
+from .neochrome_animation import Direction as Direction
+from .neochrome_animation import animation as animation
 from .pictures import File as File
 from .pictures import Picture as Picture
 from .pictures import Plate as Plate

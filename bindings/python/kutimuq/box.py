@@ -19,6 +19,7 @@ from .files import (
     ERROR,
     FORMS,
     KINDS,
+    LIST_NAMES,
     UNKNOWN,
     Form,
     Found,
@@ -28,6 +29,7 @@ from .files import (
     decision,
     degas_form,
     degas_resolution,
+    files_in,
     find_kind,
     give_text,
     is_stream,
@@ -38,6 +40,7 @@ from .files import (
     title_of,
 )
 from .library import RefusalNumber, Refused, good_part, library, meaning_of
+from .neochrome_animation import animation
 from .pictures import Picture, Plate, read_any, write, write_plate
 
 # What a record holds, in the order of the CSV file. A record is a dict, so that it can be a line of JSON.
@@ -59,6 +62,7 @@ COLUMNS = (
     "sha256",
     "same_as",
     "error",
+    "colours_cycle",
 )
 # The same for a file to convert: result, form, length, records and body are of the file that was written.
 CONVERTED_COLUMNS = (
@@ -87,22 +91,6 @@ ACCEPTED_FIELDS = {"number": 0, "place": 0, "meaning": meaning_of(RefusalNumber.
 ONE_EXTENSION = "plain and raw Elite files have the same extension: -o puts them apart"
 
 
-def files_in(paths, complaint=complain) -> tuple[list[str], bool]:
-    """All files in folders and below, in order of name, each once; and whether everything could be listed."""
-    found: dict[str, None] = {}
-    problems: list[OSError] = []
-    for path in paths:
-        if not os.path.isdir(path):
-            found[path] = None
-            continue
-        for folder, folders, names in os.walk(path, onerror=problems.append):
-            folders.sort()
-            found.update((os.path.join(folder, name), None) for name in sorted(names))
-    for problem in problems:
-        complaint(problem)
-    return list(found), not problems
-
-
 def judge(name: str, kind: int | None = None) -> dict:
     """The record of one file."""
     record, data, kind = opened(name, kind, COLUMNS)
@@ -114,6 +102,8 @@ def judge(name: str, kind: int | None = None) -> dict:
         record.update(refused_fields(refusal, data, kind))
         return record
     record.update(accepted_fields(picture))
+    if kind == Kind.NEO:
+        record["colours_cycle"] = cycling_lists(data)
     return record
 
 
@@ -164,6 +154,19 @@ def accepted_fields(picture: Picture | Plate) -> dict:
         fields["palette"] = list(picture.palette)
     fields["tally"] = list(picture.tally())
     return fields
+
+
+def cycling_lists(data: bytes) -> str:
+    """The years of the lists by which an accepted NEOchrome file's colours cycle."""
+    return " ".join(year for year in LIST_NAMES if animation(data, year).colours_cycle)
+
+
+def cycling_mark(record: dict) -> str:
+    """What is said of a file whose colours cycle, with the list where only one says so."""
+    years = (record["colours_cycle"] or "").split()
+    if not years:
+        return ""
+    return ", colours cycle" + (f" by the list of {years[0]}" if len(years) < len(LIST_NAMES) else "")
 
 
 def least_rewriting(picture: Picture | Plate) -> tuple[Form | None, bytes]:
@@ -325,6 +328,7 @@ def line_of(record: dict) -> str:
         line += f", resolution {record['resolution']}"
     if record["records"]:
         line += f", {record['records']} records, body {record['body']}"
+    line += cycling_mark(record)
     if record["same_as"] is not None:
         line += f", same picture as {shown(record['same_as'])}"
     return line

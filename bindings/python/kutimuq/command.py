@@ -12,6 +12,7 @@ from .files import (
     FORM_NAMES,
     FORMS,
     KIND_NAMES,
+    LIST_NAMES,
     MACHINE_NAMES,
     OUTPUT,
     PLATE_EXTENSIONS,
@@ -19,6 +20,7 @@ from .files import (
     Machine,
     Output,
     complain,
+    files_in,
     find_kind,
     give,
     give_text,
@@ -29,6 +31,7 @@ from .files import (
     take,
 )
 from .options import (
+    ON_LISTS,
     SOURCES,
     TO_CHECK,
     TO_CONVERT,
@@ -36,6 +39,7 @@ from .options import (
     TO_ENVI,
     TO_FILES,
     TO_FORM,
+    TO_LIST_ANIMATIONS,
     TO_LIST_COLOURS,
     TO_LIST_LEVELS,
     TO_LIST_RECORDS,
@@ -568,6 +572,35 @@ def records_command(options) -> int:
     return each_file(options, show, refused)
 
 
+def animation_command(options) -> int:
+    """`animation`: the colour animations of NEOchrome files, also of those in folders."""
+    from .animation_table import COLUMNS, ListedAnimation
+    from .library import library
+
+    library()  # a missing library is said once, before any line
+    named = set(options.operands)
+    options.operands, listed = files_in(options.operands)
+    years = list(LIST_NAMES) if options.list is None else [options.list]
+    if not options.json:
+        give_table(None, [("name", *COLUMNS)])
+
+    def show(name):
+        if name not in named and is_stream(name):
+            raise OSError("not a file")
+        data = take(name)
+        found = [ListedAnimation(data, year) for year in years]
+        if options.json:
+            give_json({"name": name, **one.json_object()} for one in found)
+        else:
+            give_table(None, [(name, *one.row()) for one in found])
+        # One refusal is said of a file: where both lists are shown, that of 2008, which is also the one of reading it.
+        if found[-1].refusal is not None:
+            raise found[-1].refusal
+
+    status = each_file(options, show, lambda name, refusal: complain(refusal, name))
+    return status if listed else WRONG
+
+
 def give_json(objects) -> None:
     """Objects as lines of JSON to standard output."""
     import json
@@ -699,6 +732,13 @@ COMMANDS = {
         "the records of packed DEGAS files up to the end or the fault, as CSV with a heading",
         "FILE",
         TO_LIST_RECORDS,
+    ),
+    "animation": Command(
+        animation_command,
+        "the colour animation of NEOchrome files by the lists of 1989 and 2008, as CSV with a heading",
+        "FILE",
+        TO_LIST_ANIMATIONS,
+        ON_LISTS,
     ),
     "legend new": Command(legend_new, "a new legend: all 16 entries free", None, TO_MAKE_LEGEND),
     "legend show": Command(legend_show, "the entries of a legend, with their owners", "FILE?", ()),

@@ -34,12 +34,20 @@ class Machine(IntEnum):
     STE = 2
 
 
+class FormatList(IntEnum):
+    """A list of picture formats by which a NEOchrome header is read, by its number in the library."""
+
+    LIST_1989 = 1
+    LIST_2008 = 2
+
+
 UNKNOWN = 0  # no kind has this number: the library refuses it
 
 # Their names at the command line.
 KIND_NAMES = {"mac": Kind.MAC, "degas": Kind.DEGAS, "neo": Kind.NEO, "tiny": Kind.TINY}
 FORM_NAMES = {"plain": Form.PLAIN, "elite": Form.ELITE, "packed": Form.PACKED, "neo": Form.NEO}
 MACHINE_NAMES = {"st": Machine.ST, "ste": Machine.STE}
+LIST_NAMES = {"1989": FormatList.LIST_1989, "2008": FormatList.LIST_2008}
 PLATE_FORM = "mac"  # the one form of a plate
 
 RAW_EXTENSIONS = (".pi1", ".pi2", ".pi3")
@@ -200,7 +208,7 @@ def find_kind(data: bytes, name: str = "") -> Found:
 
 
 def number_of(choice, names: dict[str, int]) -> int:
-    """The number of a kind, form, machine, party or owner that is given as a member, as a number or by its name."""
+    """The number of a kind, form, machine, list, party or owner given as a member, as a number or by its name."""
     if not isinstance(choice, str):
         return choice
     try:
@@ -311,6 +319,22 @@ def printable(text: str) -> str:
     if text.isprintable():
         return text
     return "".join(c if c.isprintable() else c.encode("unicode_escape").decode("ascii") for c in text)
+
+
+def files_in(paths, complaint=complain) -> tuple[list[str], bool]:
+    """All files in folders and below, in order of name, each once; and whether everything could be listed."""
+    found: dict[str, None] = {}
+    problems: list[OSError] = []
+    for path in paths:
+        if not os.path.isdir(path):
+            found[path] = None
+            continue
+        for folder, folders, names in os.walk(path, onerror=problems.append):
+            folders.sort()
+            found.update((os.path.join(folder, name), None) for name in sorted(names))
+    for problem in problems:
+        complaint(problem)
+    return list(found), not problems
 
 
 def is_stream(path) -> bool:

@@ -160,6 +160,19 @@ class RecordAnswer(Structure):
     ]
 
 
+class AnimationAnswer(Structure):
+    _fields_ = [
+        ("refusal", Refusal),
+        ("limits_valid", c_bool),
+        ("left_limit", c_uint8),
+        ("right_limit", c_uint8),
+        ("on", c_bool),
+        ("direction", c_uint8),
+        ("vblanks", c_uint8),
+        ("step_count", c_uint16),
+    ]
+
+
 INPUT = (c_char_p, c_size_t)  # bytes that the library reads, and their number
 OUTPUT = (c_void_p, c_size_t)  # a buffer that it writes to
 
@@ -184,6 +197,7 @@ FUNCTIONS = {
     "kutimuq_write_plate": (WriteAnswer, (*INPUT, *OUTPUT)),
     "kutimuq_open_records": (CursorAnswer, INPUT),
     "kutimuq_next_record": (RecordAnswer, (*INPUT, RecordCursor)),
+    "kutimuq_animation": (AnimationAnswer, (c_uint8, *INPUT)),
 }
 
 _library: ctypes.CDLL | None = None
@@ -225,7 +239,7 @@ def _fitted(number: int, largest: int) -> int:
 
 
 def byte(number: int) -> int:
-    """A kind, form, machine, register, party, owner, floor or confidence."""
+    """A kind, form, machine, list, register, party, owner, floor or confidence."""
     return _fitted(number, BYTE_MAX)
 
 

@@ -6,7 +6,7 @@ from collections import namedtuple
 from keyword import iskeyword
 from types import SimpleNamespace
 
-from .files import FORM_NAMES, KIND_NAMES, MACHINE_NAMES, PLATE_FORM
+from .files import FORM_NAMES, KIND_NAMES, LIST_NAMES, MACHINE_NAMES, PLATE_FORM
 
 
 class WrongUse(Exception):
@@ -32,8 +32,8 @@ class Option(namedtuple("Option", "names metavar about parse required", defaults
         return ", ".join(self.names) + (f" {self.metavar}" if self.metavar else "")
 
 
-class Command(namedtuple("Command", "run about operands options")):
-    """A command: its function, help, the name of its operands (None if it has none), options.
+class Command(namedtuple("Command", "run about operands options notes", defaults=((),))):
+    """A command: its function, help, the name of its operands (None if it has none), options, more lines of help.
 
     Operands default to standard input, unless their name is marked with a `+`: then one is needed. With a `?` there is
     one at most.
@@ -136,6 +136,8 @@ def command_help(program: str, name: str, command: Command) -> str:
     lines = [f"usage: {program} {name}{needed} [OPTION]...{operands}", "", command.about, ""]
     if command.operands is not None and not command.operands.endswith("+"):
         lines += [f"Without {command.operand} standard input is read.", ""]
+    if command.notes:
+        lines += [*command.notes, ""]
     rows = [(option.shown, option.about or "") for option in command.options] + [("-h, --help", "this help")]
     return "\n".join(lines + columns(rows)) + "\n"
 
@@ -260,6 +262,13 @@ JSON_LINES = Option(
     "in place of CSV a line of JSON for each record and each file's end, to standard output; takes no FILE",
 )
 LAST = Option(("--last",), "N", "only the last N records of each file: those before the fault", parse_last)
+JSON_ROWS = JSON_LINES._replace(about="in place of CSV a line of JSON for each row, to standard output; takes no FILE")
+FORMAT_LIST = Option(
+    ("--list",),
+    "LIST",
+    "the list of picture formats to read by: 1989 (1) or 2008 (2); default: both, a row each",
+    name_or_number(LIST_NAMES),
+)
 
 # The options of the commands, by what the commands are for.
 SOURCES = (KIND, QUIET)
@@ -279,3 +288,15 @@ TO_SET = (NEEDED_PARTY, REGISTER, CLASS, CONFIDENCE, NAME, SAME_OR_NEW_FILE)
 TO_RELEASE = (NEEDED_PARTY, REGISTER, SAME_OR_NEW_FILE)
 TO_LIST_LEVELS = (MACHINE,)
 TO_LIST_RECORDS = (JSON_LINES, LAST)
+TO_LIST_ANIMATIONS = (FORMAT_LIST, JSON_ROWS)
+
+# More lines of help.
+ON_LISTS = (
+    "Both lists have left and right limit in byte 49, on in the high bit of byte 50, a signed speed in byte 51.",
+    "  1989: limits are always valid, and there is no step count; bytes 0 to 3 are the resolution, so that a flag",
+    "        word that is not 0 is refused with 5.",
+    "  2008: limits are valid where the high bit of byte 48 is set, and else shown as 0 and 0; word 52 is the step",
+    "        count; a flag word that is not 0 is refused with 4.",
+    "colours_cycle is 1 where the animation is on, its direction is not stopped and its limits are valid.",
+    "No form that is written has this animation: convert --form neo leaves it out.",
+)

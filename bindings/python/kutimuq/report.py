@@ -11,7 +11,7 @@ from html import escape
 from importlib.resources import files as package_files
 
 from . import __version__
-from .box import Check, least_rewriting, spread_over
+from .box import Check, cycling_mark, least_rewriting, spread_over
 from .files import Kind, Machine, kind_titled, shown, take
 from .images import PLATE_COLOURS
 from .index import STE_HINT, colours, has_ste_bits
@@ -149,7 +149,8 @@ def figures(records: list[dict], copies: dict[str, list[str]], machine: Machine,
     for record, image in zip(records, images):
         name = text(record["name"])
         more = f" and {len(copies[record['name']])} more" if record["name"] in copies else ""
-        about = f"{escape(record['kind'])}, {size_of(record)}{more}{ste_mark(record, machine)}"
+        marks = f"{cycling_mark(record)}{ste_mark(record, machine)}"
+        about = f"{escape(record['kind'])}, {size_of(record)}{more}{marks}"
         source = f"data:image/png;base64,{image}"
         picture = f'<img loading="lazy" alt="" src="{source}">' if image else "<p>changed since it was judged</p>"
         caption = f"<figcaption><b>{text(os.path.basename(record['name']))}</b> {about}</figcaption>"

@@ -36,7 +36,7 @@ PROGRAM = shlex.join(support.PROGRAM)
 
 COMMANDS = (
     *"check summary palette tail png pbm envi registers colours convert elite plain encode tally pond ponds".split(),
-    *("records", "legend new", "legend show", "legend set", "legend release", "levels"),
+    *("records", "animation", "legend new", "legend show", "legend set", "legend release", "levels"),
 )
 # Those that show colours, and what else they need.
 WITH_MACHINE = (
