@@ -1,5 +1,6 @@
 //! The reference altered: wrong versions that the checks must find.
 
+mod animations;
 mod colours;
 mod conversions;
 mod legends;
@@ -7,6 +8,9 @@ mod plates;
 mod ponds;
 mod records;
 
+pub use animations::{
+    ShowAnimation, RARELY_WRONG_ANIMATIONS, WRONG_CYCLES, WRONG_HEADERS, WRONG_LISTS, WRONG_MARKS,
+};
 pub use colours::{ShowColour, RARELY_WRONG_COLOURS, WRONG_COLOURS};
 pub use conversions::{
     Convert, ConvertBy, RARELY_WRONG_TO_ELITE, RARELY_WRONG_TO_PLAIN, WRONG_BOTH_WAYS,
@@ -59,6 +63,7 @@ pub enum Altered {
     NextRecord(NextRecord),
     /// Length and first word of a file whose records are listed.
     RecordOpening(JudgeOpening),
+    Animation(ShowAnimation),
 }
 
 impl Altered {
@@ -257,6 +262,13 @@ impl Operations for Altered {
             Altered::NextRecord(next_record) => next_record(file, cursor),
             Altered::RecordOpening(judge) => records::step_by(*judge, file, cursor),
             _ => Reference.next_record(file, cursor),
+        }
+    }
+
+    fn animation(&self, list: u8, file: &[u8]) -> AnimationAnswer {
+        match self {
+            Altered::Animation(animation) => animation(list, file),
+            _ => Reference.animation(list, file),
         }
     }
 }

@@ -5,7 +5,7 @@
 //! and the library must leave its inputs as they were.
 
 use crate::operations::{Conversion, Operations, Reference};
-use crate::reference::{self, Question, PLATE_HEADER_BYTES};
+use crate::reference::{self, Question, ANIMATION_OFFSET, PLATE_HEADER_BYTES};
 use crate::report::Report;
 use kutimuq::ffi::*;
 use std::fmt::Debug;
@@ -331,6 +331,18 @@ impl<'a> Comparison<'a> {
         self.judge(expected, actual, file, || {
             let from = cursor.offset.min(file.len());
             format!("file {}, {cursor:?}, from it {}", shown(file), shown(&file[from..]))
+        });
+        actual
+    }
+
+    /// Compares, and gives back what the library answered.
+    pub fn animation(&mut self, list: u8, file: &[u8]) -> AnimationAnswer {
+        self.prepare(file, 0);
+        let expected = reference::animation(list, file);
+        let actual = self.library.animation(list, &self.input);
+        self.judge(expected, actual, file, || {
+            let from = file.len().min(ANIMATION_OFFSET);
+            format!("list {list}, file {}, from {from} on {}", shown(file), shown(&file[from..]))
         });
         actual
     }

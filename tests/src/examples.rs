@@ -1,7 +1,8 @@
 //! Every example of document 01, as a check of its own, on one implementation; then Tiny files,
 //! rows at fault, colours on two machines, legends, DEGAS files made Elite and plain, MacPaint
-//! plates, and record lists.
+//! plates, record lists, and colour animations.
 
+mod animation;
 mod colours;
 mod conversion;
 mod legend;
@@ -63,6 +64,7 @@ pub fn run(operations: &dyn Operations, report: &mut Report) {
     run_conversions(operations, report);
     run_plates(operations, report);
     run_records(operations, report);
+    run_animations(operations, report);
 }
 
 /// Only the examples of colours on two machines.
@@ -95,6 +97,12 @@ pub fn run_plates(operations: &dyn Operations, report: &mut Report) {
 pub fn run_records(operations: &dyn Operations, report: &mut Report) {
     report.section(&format!("examples of records: {}", operations.name()));
     records::run(&mut Examples { operations, report });
+}
+
+/// Only the examples of colour animations.
+pub fn run_animations(operations: &dyn Operations, report: &mut Report) {
+    report.section(&format!("examples of animations: {}", operations.name()));
+    animation::run(&mut Examples { operations, report });
 }
 
 impl Examples<'_> {

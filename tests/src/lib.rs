@@ -7,9 +7,11 @@ pub mod examples;
 pub mod fast;
 pub mod generate;
 pub mod isolation;
+pub mod jobs;
 pub mod layout;
 #[cfg(feature = "library")]
 pub mod library;
+pub mod lists;
 pub mod operations;
 pub mod program;
 pub mod random;

@@ -156,4 +156,8 @@ impl Operations for Library {
     fn next_record(&self, file: &[u8], cursor: RecordCursor) -> RecordAnswer {
         unsafe { kutimuq_next_record(file.as_ptr(), file.len(), cursor) }
     }
+
+    fn animation(&self, list: u8, file: &[u8]) -> AnimationAnswer {
+        unsafe { kutimuq_animation(list, file.as_ptr(), file.len()) }
+    }
 }

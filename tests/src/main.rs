@@ -3,6 +3,7 @@
 //! Usage: kutimuq-tests [--layout] [--seed N]
 //! With KUTIMUQ_SUMMARY set, the summary program it names is run as well.
 
+use kutimuq_tests::jobs::{self, Job};
 use kutimuq_tests::report::Report;
 use kutimuq_tests::{layout, program, selfcheck};
 use std::process::ExitCode;
@@ -19,13 +20,14 @@ fn main() -> ExitCode {
         eprintln!("usage: kutimuq-tests [--layout] [--seed N]");
         return ExitCode::from(2);
     };
-    let mut report = Report::default();
     println!("seed {seed}");
-    selfcheck::run(&mut report, seed);
-    check_library(&mut report, seed);
+    let mut checks = selfcheck::jobs(seed);
+    checks.extend(library_jobs(seed));
     if let Ok(path) = std::env::var("KUTIMUQ_SUMMARY") {
-        program::run(&path, &mut report, seed);
+        checks.push(Box::new(move |report| program::run(&path, report, seed)));
     }
+    let mut report = Report::default();
+    jobs::run(checks, &mut report);
     if report.finish() {
         ExitCode::SUCCESS
     } else {
@@ -43,27 +45,36 @@ fn seed_from(arguments: &[String]) -> Option<u64> {
 }
 
 #[cfg(feature = "library")]
-fn check_library(report: &mut Report, seed: u64) {
+fn library_jobs(seed: u64) -> Vec<Job> {
     use kutimuq_tests::{
-        cases, compare::Comparison, completion, examples, isolation, library::Library, rewriting,
-        roundtrip, screens, walks,
+        cases, compare::Comparison, completion, examples, isolation, library::Library, lists,
+        rewriting, roundtrip, screens, walks,
     };
-    examples::run(&Library, report);
-    roundtrip::run(&Library, report, seed + 1, 60);
-    rewriting::run(&Library, report, seed + 2, 60);
-    completion::run(&Library, report, seed + 3, 30);
-    screens::run(&Library, report, seed + 4, 20);
-    roundtrip::run_plates(&Library, report, seed + 5, 300);
-    rewriting::run_plates(&Library, report, seed + 6, 60);
-    completion::run_plates(&Library, report, seed + 7, 6);
-    roundtrip::run_conversions(&Library, report, seed + 8, 60);
-    rewriting::run_conversions(&Library, report, seed + 9, 60);
-    isolation::run(&Library, report, seed + 10, 400);
-    walks::run(&Library, report, seed + 11, 40);
-    cases::run_all(&mut Comparison::new(&Library, report), seed);
+    let mut jobs: Vec<Job> = vec![
+        Box::new(|report| examples::run(&Library, report)),
+        Box::new(move |report| roundtrip::run(&Library, report, seed + 1, 60)),
+        Box::new(move |report| rewriting::run(&Library, report, seed + 2, 60)),
+        Box::new(move |report| completion::run(&Library, report, seed + 3, 30)),
+        Box::new(move |report| screens::run(&Library, report, seed + 4, 20)),
+        Box::new(move |report| roundtrip::run_plates(&Library, report, seed + 5, 300)),
+        Box::new(move |report| rewriting::run_plates(&Library, report, seed + 6, 60)),
+        Box::new(move |report| completion::run_plates(&Library, report, seed + 7, 6)),
+        Box::new(move |report| roundtrip::run_conversions(&Library, report, seed + 8, 60)),
+        Box::new(move |report| rewriting::run_conversions(&Library, report, seed + 9, 60)),
+        Box::new(move |report| isolation::run(&Library, report, seed + 10, 400)),
+        Box::new(move |report| walks::run(&Library, report, seed + 11, 40)),
+        Box::new(move |report| lists::run(&Library, report, seed + 12, 20)),
+    ];
+    for group in cases::GROUPS {
+        jobs.push(Box::new(move |report| {
+            cases::run_group(group, &mut Comparison::new(&Library, report), seed);
+        }));
+    }
+    jobs
 }
 
 #[cfg(not(feature = "library"))]
-fn check_library(_report: &mut Report, _seed: u64) {
+fn library_jobs(_seed: u64) -> Vec<Job> {
     println!("built without the library: nothing was compared with it");
+    Vec::new()
 }

@@ -40,6 +40,7 @@ pub trait Operations {
     fn write_plate(&self, plate: &[u8], out: &mut [u8]) -> WriteAnswer;
     fn open_records(&self, file: &[u8]) -> CursorAnswer;
     fn next_record(&self, file: &[u8], cursor: RecordCursor) -> RecordAnswer;
+    fn animation(&self, list: u8, file: &[u8]) -> AnimationAnswer;
 }
 
 /// A DEGAS file made Elite, or plain.
@@ -178,5 +179,9 @@ impl Operations for Reference {
 
     fn next_record(&self, file: &[u8], cursor: RecordCursor) -> RecordAnswer {
         reference::next_record(file, cursor)
+    }
+
+    fn animation(&self, list: u8, file: &[u8]) -> AnimationAnswer {
+        reference::animation(list, file)
     }
 }

@@ -1,27 +1,31 @@
 //! Checks that need no library: the reference against itself and the fast packer.
 
 use crate::generate::{plate, row, screen, shape_of, RESOLUTIONS};
+use crate::jobs::Job;
 use crate::random::Random;
 use crate::reference::{least_body, least_plate_body, least_row_body, WIDEST_ROW};
 use crate::report::Report;
 use crate::{
-    completion, examples, fast, isolation, operations::Reference, rewriting, roundtrip, screens,
-    walks,
+    completion, examples, fast, isolation, lists, operations::Reference, rewriting, roundtrip,
+    screens, walks,
 };
 
-pub fn run(report: &mut Report, seed: u64) {
-    examples::run(&Reference, report);
-    roundtrip::run(&Reference, report, seed, 30);
-    completion::run(&Reference, report, seed, 12);
-    screens::run(&Reference, report, seed, 4);
-    isolation::run(&Reference, report, seed, 20);
-    walks::run(&Reference, report, seed, 6);
-    roundtrip::run_conversions(&Reference, report, seed, 20);
-    rewriting::run_conversions(&Reference, report, seed, 12);
-    roundtrip::run_plates(&Reference, report, seed, 20);
-    rewriting::run_plates(&Reference, report, seed, 12);
-    completion::run_plates(&Reference, report, seed, 2);
-    fast_packer(report, seed);
+pub fn jobs(seed: u64) -> Vec<Job> {
+    vec![
+        Box::new(|report| examples::run(&Reference, report)),
+        Box::new(move |report| roundtrip::run(&Reference, report, seed, 30)),
+        Box::new(move |report| completion::run(&Reference, report, seed, 12)),
+        Box::new(move |report| screens::run(&Reference, report, seed, 4)),
+        Box::new(move |report| isolation::run(&Reference, report, seed, 20)),
+        Box::new(move |report| walks::run(&Reference, report, seed, 6)),
+        Box::new(move |report| lists::run(&Reference, report, seed, 3)),
+        Box::new(move |report| roundtrip::run_conversions(&Reference, report, seed, 20)),
+        Box::new(move |report| rewriting::run_conversions(&Reference, report, seed, 12)),
+        Box::new(move |report| roundtrip::run_plates(&Reference, report, seed, 20)),
+        Box::new(move |report| rewriting::run_plates(&Reference, report, seed, 12)),
+        Box::new(move |report| completion::run_plates(&Reference, report, seed, 2)),
+        Box::new(move |report| fast_packer(report, seed)),
+    ]
 }
 
 /// The fast packer writes the same bodies as the reference.

@@ -1,6 +1,8 @@
 //! The reference's own tests.
 
+mod animations;
 mod colours;
+mod jobs;
 mod legends;
 mod records;
 
@@ -37,7 +39,7 @@ fn write_then_read() {
 
 #[test]
 fn fast_packer_and_self_checks() {
-    assert_all_pass(|report| selfcheck::run(report, 8));
+    assert_all_pass(|report| selfcheck::jobs(8).into_iter().for_each(|job| job(report)));
 }
 
 /// Collects every byte string without do-nothing records that unpacks to `row`,
@@ -411,13 +413,37 @@ fn sizes_of_the_binding() {
 #[test]
 fn layout_names_every_struct() {
     let table = layout::table();
-    assert_eq!(table.iter().filter(|line| line.contains(" align ")).count(), 17);
+    assert_eq!(table.iter().filter(|line| line.contains(" align ")).count(), 18);
 }
 
-/// The comparison itself, with the reference in the library's place.
+/// The comparison itself, with the reference in the library's place; every fourth group.
+fn assert_every_fourth_group_accepts(first: usize) {
+    for group in cases::GROUPS.into_iter().skip(first).step_by(4) {
+        let compare = |report: &mut Report| {
+            cases::run_group(group, &mut Comparison::new(&Reference, report), 6);
+        };
+        assert_all_pass(compare);
+    }
+}
+
 #[test]
-fn comparison_accepts_the_reference() {
-    assert_all_pass(|report| cases::run_all(&mut Comparison::new(&Reference, report), 6));
+fn comparison_accepts_the_reference_from_group_0() {
+    assert_every_fourth_group_accepts(0);
+}
+
+#[test]
+fn comparison_accepts_the_reference_from_group_1() {
+    assert_every_fourth_group_accepts(1);
+}
+
+#[test]
+fn comparison_accepts_the_reference_from_group_2() {
+    assert_every_fourth_group_accepts(2);
+}
+
+#[test]
+fn comparison_accepts_the_reference_from_group_3() {
+    assert_every_fourth_group_accepts(3);
 }
 
 /// Wrong plane rows and good bytes.

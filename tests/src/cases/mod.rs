@@ -1,5 +1,6 @@
 //! The inputs on which library and reference are compared.
 
+mod animation;
 mod colours;
 mod conversion;
 mod counts;
@@ -33,27 +34,40 @@ fn every_resolution() -> impl Iterator<Item = u16> {
     RESOLUTIONS.into_iter().chain(ODD_RESOLUTIONS)
 }
 
-/// Compares every operation over all its inputs.
-pub fn run_all(comparison: &mut Comparison, seed: u64) {
-    let mut random = Random::seeded(seed);
-    rows::unpack(comparison, &mut random);
-    rows::pack(comparison, &mut random);
-    lines::out(comparison, &mut random);
-    lines::into(comparison, &mut random);
-    screens::out(comparison, &mut random);
-    screens::into(comparison, &mut random);
-    colours::colour(comparison, &mut random);
-    counts::tally(comparison, &mut random);
-    legend::run(comparison, &mut random);
-    pond::pond(comparison, &mut random);
-    reading::read(comparison, &mut random);
-    writing::write(comparison, &mut random);
-    row_at_fault::run(comparison, &mut random);
-    conversion::run(comparison, &mut random, Conversion::ToElite);
-    conversion::run(comparison, &mut random, Conversion::ToPlain);
-    macpaint::read(comparison, &mut random);
-    macpaint::write(comparison, &mut random);
-    records::run(comparison, &mut random);
+/// Compares some operations over all their inputs.
+pub type Group = fn(&mut Comparison, &mut Random);
+
+/// Every operation; no group needs another.
+pub const GROUPS: [Group; 19] = [
+    rows::unpack,
+    rows::pack,
+    lines::out,
+    lines::into,
+    screens::out,
+    screens::into,
+    colours::colour,
+    counts::tally,
+    legend::run,
+    pond::pond,
+    reading::read,
+    writing::write,
+    row_at_fault::run,
+    |comparison, random| conversion::run(comparison, random, Conversion::ToElite),
+    |comparison, random| conversion::run(comparison, random, Conversion::ToPlain),
+    macpaint::read,
+    macpaint::write,
+    records::run,
+    animation::run,
+];
+
+/// Compares over one group's inputs.
+pub fn run_group(group: Group, comparison: &mut Comparison, seed: u64) {
+    group(comparison, &mut Random::seeded(seed));
+}
+
+/// Only the inputs for colour animations.
+pub fn run_animations(comparison: &mut Comparison, seed: u64) {
+    animation::run(comparison, &mut Random::seeded(seed));
 }
 
 /// Only the inputs for colours.

@@ -27,7 +27,10 @@ pub use macpaint::{
     even_plate_file, padded_plate_file, page_of_text, plate, plate_file, plate_header,
     plate_of_costly_rows, plate_of_rows, plate_with_body, version, worst_plate,
 };
-pub use neochrome::neo_file;
+pub use neochrome::{
+    animated_file, animation_bytes, neo_file, put_animation, put_flag_and_resolution,
+    AnimationBytes,
+};
 pub use pictures::picture;
 pub use rows::{put_row_body, row, PackedFile, DO_NOTHING};
 pub use screens::{registers, screen, screen_of_costly_rows, screen_of_rows, screen_with_body};

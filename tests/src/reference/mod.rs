@@ -5,6 +5,7 @@
 //! can be refused any more. A file format has a file of its own; `files` chooses
 //! among them.
 
+mod animation;
 mod body;
 mod colour;
 mod conversion;
@@ -24,6 +25,10 @@ mod tally;
 mod tiny;
 mod words;
 
+pub use animation::{
+    animation, ANIMATION_OFFSET, DIRECTION_LEFT, DIRECTION_RIGHT, DIRECTION_STOPPED, LISTS,
+    LIST_1989, LIST_2008,
+};
 pub use body::least_body;
 pub use colour::{colour, MACHINES, MACHINE_ST, MACHINE_STE};
 pub use conversion::{to_elite, to_plain, IGNORED_BITS};
