@@ -3,9 +3,10 @@
 #
 # Usage: instructions.sh [OPERATION...]
 #
-# OPERATION is an operation of the tables of times, or pack-row alone; eighteen are counted where none is named. The
+# OPERATION is an operation of the tables of times, or pack-row alone; nineteen are counted where none is named. The
 # environment variable SCREEN is a screen of the first table, by default map; 64 screens in turn count as one call.
-# An operation on plates is counted on each plate, one on legends on each legend, colours on each machine.
+# An operation on plates is counted on each plate, one on legends on each legend, colours on each machine,
+# animation by each list.
 set -eu
 
 # Valgrind counts each byte of a rep movsb as one instruction: here no copy is long enough for one.
@@ -130,6 +131,20 @@ machine_lines() {
     columns colours $counts
 }
 
+list_lines() {
+    echo "| operation | 1989 | 2008 | Rust 1989 | Rust 2008 | ratio |"
+    echo "|---|---|---|---|---|---|"
+    counts=
+    for by in "" rust-; do
+        for list in 1989 2008; do
+            count=$(instructions "${by}animation" $list list)
+            counts="$counts $count"
+        done
+    done
+    # shellcheck disable=SC2086 # one word a count
+    columns animation $counts
+}
+
 row_lines() {
     echo "| width of a row packed | library | Rust | ratio |"
     echo "|---|---|---|---|"
@@ -144,6 +159,7 @@ pictures=
 plates=
 legends=
 machines=
+lists=
 case "$*" in
 "")
     pictures="packed-read records tiny-read form3-write to-elite to-plain"
@@ -151,6 +167,7 @@ case "$*" in
     plates="plate-read plate-write"
     legends="set-entry release-entry"
     machines=colours
+    lists=animation
     ;;
 pack-row) ;;
 *)
@@ -159,6 +176,7 @@ pack-row) ;;
         plate-*) plates="$plates $operation" ;;
         *-entry) legends="$legends $operation" ;;
         colours) machines=colours ;;
+        animation) lists=animation ;;
         *) pictures="$pictures $operation" ;;
         esac
     done
@@ -188,4 +206,8 @@ fi
 if [ -n "$machines" ]; then
     echo
     machine_lines
+fi
+if [ -n "$lists" ]; then
+    echo
+    list_lines
 fi

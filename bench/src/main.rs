@@ -8,8 +8,9 @@
 //! `memcpy`; or `pack-row` or `rust-pack-row`, with a row width in place of the resolution. With
 //! `plate` in place of the resolution OPERATION is one on plates or `memcpy`, and SCREEN a plate;
 //! with `legend` it is one on legends, and SCREEN a legend; with `machine` it is `colours`, and
-//! SCREEN a machine.
+//! SCREEN a machine; with `list` it is `animation`, and SCREEN a list.
 
+mod animations;
 mod colours;
 mod legends;
 mod operations;
@@ -20,6 +21,7 @@ mod times;
 
 use std::process::ExitCode;
 
+use animations::{ANIMATION, LISTS};
 use colours::{COLOURS, MACHINES};
 use kutimuq_tests::reference::PACK_AREA_BYTES;
 use legends::{LEGENDS, LEGEND_OPERATIONS};
@@ -55,6 +57,7 @@ fn once(operation: &str, screen: &str, size: &str, times: &str) -> Option<()> {
         "plate" => return once_a_plate(name, by, screen, times),
         "legend" => return once_a_legend(name, by, screen, times),
         "machine" => return once_a_machine(name, by, screen, times),
+        "list" => return once_a_list(name, by, screen, times),
         _ => {}
     }
     let series = named(&SERIES, screen)?;
@@ -95,6 +98,12 @@ fn once_a_legend(name: &str, by: By, legend: &str, times: usize) -> Option<()> {
 fn once_a_machine(name: &str, by: By, machine: &str, times: usize) -> Option<()> {
     let machine = named(&MACHINES, machine)?;
     (name == COLOURS).then(|| (0..times).for_each(|_| colours::run(by, machine)))
+}
+
+fn once_a_list(name: &str, by: By, list: &str, times: usize) -> Option<()> {
+    let list = named(&LISTS, list)?;
+    let file = animations::file();
+    (name == ANIMATION).then(|| (0..times).for_each(|_| animations::run(by, list, &file)))
 }
 
 fn named<T: Copy>(table: &[(T, &str)], name: &str) -> Option<T> {

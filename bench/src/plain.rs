@@ -2,6 +2,7 @@
 //!
 //! Each judges before it writes, as the library does.
 
+mod animations;
 mod colours;
 mod conversion;
 mod counts;
@@ -15,6 +16,7 @@ mod screens;
 mod tiny;
 mod unpacking;
 
+pub use animations::animation;
 pub use colours::colour;
 pub use conversion::{to_elite, to_plain};
 pub use counts::{pond, tally};

@@ -4,6 +4,7 @@ use std::time::Instant;
 
 use kutimuq_tests::reference::PACK_AREA_BYTES;
 
+use crate::animations::{self, ANIMATION, LISTS};
 use crate::colours::{self, COLOURS, MACHINES};
 use crate::legends::{self, LEGENDS, LEGEND_OPERATIONS};
 use crate::operations::{self, By, Operation, OPERATIONS};
@@ -39,7 +40,7 @@ fn least_times<const JOBS: usize>(rounds: usize, mut job: impl FnMut(usize)) -> 
 struct Measured {
     operation: &'static str,
     screen: &'static str,
-    /// A resolution, a row's width, "plate", "legend" or "machine".
+    /// A resolution, a row's width, "plate", "legend", "machine" or "list".
     size: String,
     ratio: f64,
 }
@@ -54,6 +55,8 @@ pub fn print_tables() {
     all.extend(print_legends());
     println!();
     all.extend(print_colours());
+    println!();
+    all.extend(print_animations());
     println!();
     print_worst(&all);
 }
@@ -192,6 +195,26 @@ fn print_colours() -> Vec<Measured> {
         Measured { operation: COLOURS, screen: name, size: "machine".to_string(), ratio }
     };
     MACHINES.map(measure).into()
+}
+
+/// The colour animation by each list.
+fn print_animations() -> Vec<Measured> {
+    println!("nanoseconds per animation; ratio: library / Rust");
+    println!();
+    println!("| operation | list | library | Rust | ratio |");
+    println!("|---|---|---|---|---|");
+    assert!(animations::agree(), "{ANIMATION}: library and plain Rust differ");
+    let file = animations::file();
+    let measure = |(list, name)| {
+        let [library, plain] = least_times(ROUNDS, |number| {
+            let by = if number == 0 { By::Library } else { By::Plain };
+            animations::run(by, list, &file);
+        });
+        let ratio = library / plain;
+        println!("| {ANIMATION} | {name} | {library:.1} | {plain:.1} | {ratio:.2} |");
+        Measured { operation: ANIMATION, screen: name, size: "list".to_string(), ratio }
+    };
+    LISTS.map(measure).into()
 }
 
 /// The worst ratio of each operation over all screens and resolutions.
