@@ -77,8 +77,9 @@ use Rattle.neochrome.specs.Writing.{writeNeochrome}
 use Rattle.tiny.specs.Layout.{shortestLength, highestByte, plainPalette, rotatedPalette, controlCountOffset}
 use Rattle.tiny.specs.Layout.{dataCountOffset, controlOffset, resolutionByte, paletteStart, controlCount, dataCount}
 use Rattle.tiny.specs.Layout.{controlStart, bodyLength, controlSection, dataSection}
-use Rattle.tiny.specs.Runs.{defined, faulty, longRun, runOf, fitted, runAt}
-use Rattle.tiny.specs.Expansion.{screenWords, Expansion, runStep, expandWithin, expand}
+use Rattle.tiny_runs.specs.Runs.{defined, faulty, longRun, runOf, fitted, runAt}
+use Rattle.tiny_runs.specs.Expansion.{Expansion, runStep, expandWithin, expand}
+use Rattle.tiny.specs.ScreenWords.{screenWords}
 use Rattle.tiny.specs.Reading.{expanded, readRuns, readSections, readTiny}
 use Rattle.macpaint.specs.Layout as macpaint
 use Rattle.macpaint.specs.Plate.{plateRaster, plateBytes}

@@ -59,8 +59,9 @@ use Rattle.neochrome.specs.Layout.{fileLength, resolutionStart}
 use Rattle.neochrome.specs.Opening.{opening}
 use Rattle.neochrome.specs.Reading.{neochromeReading, readNeochrome}
 use Rattle.neochrome.specs.Writing.{writeNeochrome}
-use Rattle.tiny.specs.Expansion.{Expansion, screenWords}
+use Rattle.tiny_runs.specs.Expansion.{Expansion}
 use Rattle.tiny.specs.Layout.{shortestLength, highestByte, resolutionByte, controlStart, dataCount, bodyLength}
+use Rattle.tiny.specs.ScreenWords.{screenWords}
 use Rattle.tiny.specs.Reading.{expanded, readRuns, readSections, readTiny}
 use Rattle.macpaint.specs.Layout as macpaint
 use Rattle.macpaint.specs.Plate.{plateRaster, plateBytes}

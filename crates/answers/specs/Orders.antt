@@ -16,7 +16,7 @@ use Rattle.tally.specs.declared.Rectangle.{Rectangle}
 use Rattle.legend.specs.declared.Legend.{Legend}
 use Rattle.picture.specs.declared.Picture.{Picture}
 use Rattle.picture.specs.Tables.{tailAt, tailBytes}
-use Rattle.tiny.specs.Expansion.{Expansion, expand}
+use Rattle.tiny_runs.specs.Expansion.{Expansion, expand}
 
 -- a test, and the number of the refusal where it is the first that holds
 abbrev pub Test : Type 0

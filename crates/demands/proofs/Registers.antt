@@ -31,8 +31,7 @@ use Rattle.degas.specs.Accepts.{PackedFits, Fits, plain, elite, packed, Accepts
 use Rattle.neochrome.specs.Layout.{screenStart}
 use Rattle.neochrome.specs.Accepts.{AcceptsNeochrome}
 use Rattle.tiny.specs.Accepts.{AcceptsTiny, tinyGiven}
-use Rattle.tiny.specs.Expansion.{screenWords}
-use Rattle.tiny.specs.ScreenWords.{expandedWord}
+use Rattle.tiny.specs.ScreenWords.{screenWords, expandedWord}
 use Rattle.tiny.proofs.Acceptance.{tiny-word-back}
 use Rattle.reader.specs.Reading.{kindDegas, kindNeochrome, kindTiny, readFile}
 use Rattle.demands.specs.Accepted.{Accepts, degas, neochrome, tiny, given}

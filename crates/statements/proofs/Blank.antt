@@ -20,7 +20,7 @@ use Rattle.bodies.specs.Unpacks.{UnpacksImage}
 use Rattle.degas.specs.Layout.{bodyLimit, plainLength, eliteLength}
 use Rattle.degas.specs.Accepts.{PackedFits, plain, elite, packed}
 use Rattle.neochrome.specs.Layout.{fileLength}
-use Rattle.tiny.specs.Expands.{empty, longRepeat}
+use Rattle.tiny_runs.specs.Expands.{empty, longRepeat}
 use Rattle.tiny.specs.Layout.{paletteStart}
 use Rattle.demands.specs.Accepted.{Accepts, degas, neochrome, tiny}
 use Rattle.statements.specs.Blank as blank

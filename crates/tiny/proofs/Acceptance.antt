@@ -5,7 +5,7 @@ use mathlib.Core.Bool.{not, _||_}
 use mathlib.Core.List.{List}
 use Prim.Native.Nat.{ℕ, zero, suc, _+_, _*_, _≤_, _<_}
 use native.Mathlib.Omega.{arith}
-use lib.ListN.{length, getD, take, drop}
+use lib.ListN.{length, getD}
 use lib.Dec.{ltb, eqb}
 use borrow.Author.Tests.{ltb-false, eqb-true, eqb-false, not-true, not-false}
 use Rattle.lists.specs.Bytes.{Bytes}
@@ -25,13 +25,13 @@ use Rattle.picture.proofs.Whole.{whole-without-tail}
 use Rattle.tiny.specs.Layout.{shortestLength, highestByte, highestPlain, controlOffset, resolutions}
 use Rattle.tiny.specs.Layout.{resolutionByte, resolutionNumber, paletteStart, controlStart, controlCount}
 use Rattle.tiny.specs.Layout.{dataCount, bodyLength, controlSection, dataSection}
-use Rattle.tiny.specs.Expansion.{Expansion, screenWords}
-use Rattle.tiny.specs.ScreenWords.{screenWord, expandedWord}
+use Rattle.tiny_runs.specs.Expansion.{Expansion}
+use Rattle.tiny.specs.ScreenWords.{screenWords, screenWord, expandedWord}
 use Rattle.tiny.specs.Reading.{expanded, tinyReading, readRuns, readSections, readTiny}
 use Rattle.tiny.specs.Accepts.{AcceptsTiny, tinyGiven}
-use Rattle.tiny.proofs.Expansion.{bounded}
-use Rattle.tiny.proofs.Expanding.{length-wordsAt}
-use Rattle.tiny.proofs.Exact.{filled, complete, used-up}
+use Rattle.tiny_runs.proofs.Expansion.{bounded}
+use Rattle.tiny_runs.proofs.Expanding.{length-wordsAt}
+use Rattle.tiny_runs.proofs.Exact.{filled, complete, used-up}
 use Rattle.tiny.proofs.Screens.{length-screenBytesOf, screen-word, screen-word-back}
 use Rattle.tiny.proofs.Reading.{tiny-sections, sections-fit, runs-done, length-controls}
 

@@ -9,9 +9,9 @@ use Rattle.outcome.specs.Outcome.{accepted, refused, refusal, refuse}
 use Rattle.words.specs.Word.{wordAt, wordsAt}
 use Rattle.resolution.specs.Shapes.{screenBytes}
 use Rattle.tiny.specs.Layout.{paletteStart}
-use Rattle.tiny.specs.Runs.{longRun, runOf, runAt, wordsMade}
-use Rattle.tiny.specs.Expansion.{runStep, expandWithin, expand}
-use Rattle.tiny.specs.Expands.{empty, longRepeat}
+use Rattle.tiny_runs.specs.Runs.{longRun, runOf, runAt}
+use Rattle.tiny_runs.specs.Expansion.{runStep, expandWithin, expand}
+use Rattle.tiny_runs.specs.Expands.{empty, longRepeat}
 use Rattle.tiny.specs.ScreenWords.{screenWord}
 use Rattle.tiny.specs.Reading.{tinyReading, readRuns, readSections, readTiny}
 use Rattle.tiny.specs.Accepts.{AcceptsTiny}
@@ -76,16 +76,6 @@ unfolding readTiny readSections readRuns paletteStart expand expandWithin runSte
     tabulate
 faulty-runs =
     record { undefined = refl; rotated = refl; low = refl; high = refl; past = refl; cut = refl; second = refl }
-
--- where no room is left a control byte is judged as any other
-pub no-room : (expand (2 ∷ 2 ∷ []) (7 ∷ 8 ∷ []) 2 .fault ≡ 12) × (expand (2 ∷ 128 ∷ []) (7 ∷ 8 ∷ []) 2 .fault ≡ 11)
-unfolding expand expandWithin runStep runAt runOf longRun wordsMade wordAt
-no-room = (refl, refl)
-
--- repeat, literal
-pub runs : expand (3 ∷ 254 ∷ []) (7 ∷ 8 ∷ 9 ∷ []) 10 .made ≡ 7 ∷ 7 ∷ 7 ∷ 8 ∷ 9 ∷ []
-unfolding expand expandWithin runStep runAt runOf longRun wordsMade wordAt
-runs = refl
 
 -- ---- places
 

@@ -1,10 +1,5 @@
 pub mod Acceptance
-pub mod Exact
 pub mod Examples
-pub mod Expanding
-pub mod Expansion
 pub mod Reading
-pub mod Runs
 pub mod ScreenWords
 pub mod Screens
-pub mod WordBytes

@@ -1,6 +1,6 @@
 -- Laws of reading a Tiny file: each case of its judgement.
 use mathlib.Core.Path.{_≡_, sym, ap, _∙_}
-use Prim.Native.Nat.{ℕ, _+_, _-_, _*_, _≤_, _<_}
+use Prim.Native.Nat.{ℕ, _+_, _-_, _*_, _/_, _≤_, _<_}
 use native.Mathlib.Omega.{arith}
 use mathlib.Core.List.{List}
 use lib.ListN.{length, take, drop, replicate, length-drop, length-replicate}
@@ -12,19 +12,19 @@ use Rattle.lists.proofs.Over.{over-whole}
 use Rattle.lists.proofs.Parts.{tail-part}
 use Rattle.outcome.specs.Outcome.{accepted, refused, refusal, refuse, none}
 use Rattle.outcome.specs.Refusal.{areaTooShort, wrongLength, unknownResolution, sizeMismatch}
-use Rattle.words.specs.Word.{wordAt, wordsAt, wordsBytes}
+use Rattle.words.specs.Word.{wordAt, wordsBytes}
 use Rattle.words.proofs.Word.{length-wordsBytes}
 use Rattle.resolution.specs.Shapes.{screenBytes}
 use Rattle.picture.specs.declared.Picture.{Picture}
 use Rattle.picture.specs.Reading.{readAnswer}
 use Rattle.picture.proofs.Reading.{area-short, area-fits}
-use Rattle.tiny.specs.declared.Expanded.{Expanded}
+use Rattle.tiny_runs.specs.declared.Expanded.{Expanded}
 use Rattle.tiny.specs.Layout.{shortestLength, highestByte, resolutionByte, controlStart, controlCount, dataCount}
 use Rattle.tiny.specs.Layout.{bodyLength, controlSection, dataSection}
-use Rattle.tiny.specs.Expansion.{Expansion, screenWords, expand, counted}
-use Rattle.tiny.specs.ScreenWords.{expandedWord, screenBytesOf}
+use Rattle.tiny_runs.specs.Expansion.{Expansion, expandSection, counted}
+use Rattle.tiny.specs.ScreenWords.{screenWords, expandedWord, screenBytesOf}
 use Rattle.tiny.specs.Reading.{expanded, tinyPicture, tinyReading, readRuns, readSections, readTiny}
-use Rattle.tiny.proofs.Expansion.{bounded}
+use Rattle.tiny_runs.proofs.Expansion.{bounded}
 use Rattle.tiny.proofs.Screens.{ordered-words}
 
 -- ---- the whole file
@@ -148,14 +148,16 @@ module _ (file : List ℕ) where
         (omega (arith, length-drop (controlStart file) file))
 
     -- the sections as they are lent
-    pub sections-lent : (start controls datas : ℕ) → start ≡ controlStart file → controls ≡ controlCount file
-        → datas ≡ dataCount file
-        → expand (take (start + controls - start) (drop start file))
-        (wordsAt datas (take (length file - (start + controls)) (drop (start + controls) file)) 0) screenWords
+    pub sections-lent : (start controls room : ℕ) → start ≡ controlStart file → controls ≡ controlCount file
+        → room ≡ screenBytes
+        → expandSection (take (start + controls - start) (drop start file))
+        (take (length file - (start + controls)) (drop (start + controls) file)) (room / 2)
         ≡ expanded file
-    sections-lent start controls datas es ec ed =
+    sections-lent start controls room es ec er =
         let n : start + controls - start ≡ controls = omega arith in
-        rw (n, tail-part file (start + controls), es, ec, ed)
+        let datas : length (drop (controlStart file + controlCount file) file) / 2 ≡ dataCount file =
+        omega (arith, length-drop (controlStart file + controlCount file) file) in
+        rw (n, tail-part file (start + controls), es, ec, er, datas)
 
     -- no more control bytes are used than there are
     pub controls-used : expanded file .controls ≤ controlCount file

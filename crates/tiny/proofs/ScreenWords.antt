@@ -3,8 +3,7 @@ use mathlib.Core.Path.{_≡_, sym, ap, _∙_}
 use Prim.Native.Nat.{ℕ, _+_, _*_, _/_, _%_, _<_}
 use native.Mathlib.Omega.{arith}
 use lib.Arith.{digits-div, digits-mod}
-use Rattle.tiny.specs.Expansion.{screenWords}
-use Rattle.tiny.specs.ScreenWords.{lineWords, columnWords, sets, setWords, groups}
+use Rattle.tiny.specs.ScreenWords.{screenWords, lineWords, columnWords, sets, setWords, groups}
 use Rattle.tiny.specs.ScreenWords.{screenWord, expandedWord}
 
 -- set s, group g and line y: expanded word 4000 s + 200 g + y is screen word 80 y + 4 g + s

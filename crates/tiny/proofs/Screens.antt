@@ -10,8 +10,7 @@ use Rattle.lists.proofs.Tabulate.{getD-tabulate, tabulate-ext, tabulate-getD}
 use Rattle.words.specs.Word.{wordAt, wordsAt, wordsBytes}
 use Rattle.words.proofs.Word.{length-wordsBytes, words-back}
 use Rattle.resolution.specs.Shapes.{screenBytes}
-use Rattle.tiny.specs.Expansion.{screenWords}
-use Rattle.tiny.specs.ScreenWords.{screenWord, expandedWord, screenWordsOf, screenBytesOf}
+use Rattle.tiny.specs.ScreenWords.{screenWords, screenWord, expandedWord, screenWordsOf, screenBytesOf}
 use Rattle.tiny.proofs.ScreenWords.{screenWord-lt, expandedWord-screenWord}
 use Rattle.tiny.proofs.ScreenWords.{expandedWord-lt, screenWord-expandedWord}
 

@@ -5,8 +5,8 @@ use mathlib.Core.List.{List}
 use lib.ListN.{length}
 use Rattle.picture.specs.Reading.{Reading}
 use Rattle.tiny.specs.Layout.{highestByte, resolutionByte, controlStart, bodyLength, controlSection, dataSection}
-use Rattle.tiny.specs.Expansion.{screenWords}
-use Rattle.tiny.specs.Expands.{Expands}
+use Rattle.tiny_runs.specs.Expands.{Expands}
+use Rattle.tiny.specs.ScreenWords.{screenWords}
 use Rattle.tiny.specs.Reading.{tinyReading}
 
 -- its resolution byte is allowed, its parts fit, and its runs fill 16,000 words exactly from all the data

@@ -12,8 +12,8 @@ use Rattle.picture.specs.Tables.{withoutTail}
 use Rattle.picture.specs.Reading.{Reading, judgeArea}
 use Rattle.tiny.specs.Layout.{shortestLength, highestByte, resolutionByte, resolutionNumber, paletteStart}
 use Rattle.tiny.specs.Layout.{controlStart, dataCount, bodyLength, controlSection, dataSection}
-use Rattle.tiny.specs.Expansion.{Expansion, expand, screenWords}
-use Rattle.tiny.specs.ScreenWords.{screenBytesOf}
+use Rattle.tiny_runs.specs.Expansion.{Expansion, expand}
+use Rattle.tiny.specs.ScreenWords.{screenWords, screenBytesOf}
 
 -- how far expanding a file's sections comes
 abbrev pub expanded : List ℕ → Expansion

@@ -4,7 +4,10 @@ use mathlib.Core.List.{List}
 use lib.ListN.{getD, replicate}
 use Rattle.lists.specs.Stores.{stores}
 use Rattle.words.specs.Word.{wordsBytes}
-use Rattle.tiny.specs.Expansion.{screenWords}
+
+-- the words of a screen
+abbrev pub screenWords : ℕ
+screenWords = 16000
 
 -- words of a line, and of a column, which has one word of each line; each set has every fourth column
 abbrev pub lineWords : ℕ

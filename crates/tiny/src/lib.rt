@@ -1,28 +1,27 @@
-// Tiny files, read (document 02, ticket 1; source 001, <Tiny>). Definitions: specs/.
+// Tiny files, read (document 02, ticket 1; source 001, <Tiny>). Definitions: specs/ here and of tiny_runs.
 ghost use mathlib.Core.Path.{_≡_};
-ghost use mathlib.Core.Bool.{cond};
-ghost use Prim.Native.Nat.{_+_, _-_, _*_, _≤_, _<_};
-ghost use lib.ListN.{length, drop};
+ghost use Prim.Native.Nat.{_+_, _*_, _≤_, _<_};
+ghost use lib.ListN.{length};
 ghost use Rattle.lists.specs.Over.{over};
 ghost use Rattle.lists.specs.Tabulate.{tabulate};
 ghost use Rattle.words.specs.Word.{wordAt, wordBytes, wordsBytes};
+ghost use Rattle.tiny_runs.specs.Expansion.{counted};
 ghost use Rattle.resolution.specs.Shapes.{screenBytes};
 ghost use Rattle.picture.specs.Reading.{readAnswer, readArea};
 ghost use Rattle.tiny.specs.Layout.{resolutionByte, paletteStart, controlCount, dataCount, controlStart};
 ghost use Rattle.tiny.specs.Layout.{bodyLength};
-ghost use Rattle.tiny.specs.Runs.{defined, faulty, longRun, runOf, fitted, runAt, sourceOf};
-ghost use Rattle.tiny.specs.Expansion.{expandSection, screenWords, counted};
-ghost use Rattle.tiny.specs.ScreenWords.{lineWords, columnWords, sets, groups, expandedWord};
+ghost use Rattle.tiny.specs.ScreenWords.{screenWords, lineWords, columnWords, sets, groups, expandedWord};
 ghost use Rattle.tiny.specs.Reading.{expanded, tinyPicture, readRuns, readSections, readTiny};
 use outcome::AREA_TOO_SHORT;
-use outcome::RUN_TOO_LONG;
 use outcome::SIZE_MISMATCH;
-use outcome::UNDEFINED_CONTROL;
 use outcome::UNKNOWN_RESOLUTION;
 use outcome::WRONG_LENGTH;
 use picture::Picture;
 use picture::ReadAnswer;
 use resolution::SCREEN_BYTES;
+use tiny_runs::ControlBytes;
+use tiny_runs::DataWords;
+use tiny_runs::Expanded;
 
 // The shortest header: the resolution byte, the palette and the two counts.
 pub const SHORTEST_LENGTH: usize = 37;
@@ -47,11 +46,6 @@ const DATA_COUNT_OFFSET: usize = 34;
 
 const CONTROL_OFFSET: usize = 36;
 
-// The long counts.
-const LEAST_COUNT: u16 = 128;
-
-const MOST_COUNT: u16 = 32767;
-
 // Words of a screen.
 const SCREEN_WORDS: usize = 16000;
 
@@ -71,32 +65,6 @@ const GROUPS: usize = 20;
 const LINE_BYTES: usize = 160;
 
 const GROUP_BYTES: usize = 8;
-
-// A count of control bytes.
-struct ControlBytes(usize);
-
-// A count of data words.
-struct DataWords(usize);
-
-// What stands at a control byte: its fault, or 0; whether it repeats one data word; the words it makes; and what it
-// takes of each section.
-struct Run {
-    fault: u8,
-    repeats: bool,
-    count: usize,
-    controls: ControlBytes,
-    datas: DataWords,
-}
-
-// How far expanding came: the fault of the run at which it ended, or 0; what was used of each section; the runs, and
-// the words they make.
-struct Expanded {
-    fault: u8,
-    controls: ControlBytes,
-    datas: DataWords,
-    runs: usize,
-    words: usize,
-}
 
 // ---- the header
 
@@ -161,215 +129,7 @@ fn picture_of(file: &[u8]) -> Picture
     picture::without_tail(number as u16, palette)
 }
 
-// ---- a run
-
-// A run that is defined, of `count` words from `controls` control bytes.
-fn defined(repeats: bool, count: usize, controls: usize) -> Run
-    ensures { λ r. ⌜ r ≡ defined repeats count controls ⌝ }
-{
-    if repeats {
-        return Run {
-            fault: 0,
-            repeats: true,
-            count,
-            controls: ControlBytes(controls),
-            datas: DataWords(1),
-        };
-    }
-    Run {
-        fault: 0,
-        repeats: false,
-        count,
-        controls: ControlBytes(controls),
-        datas: DataWords(count),
-    }
-}
-
-// A run at fault.
-fn faulty(number: u8) -> Run
-    ensures { λ r. ⌜ r ≡ faulty number ⌝ }
-{
-    Run {
-        fault: number,
-        repeats: false,
-        count: 0,
-        controls: ControlBytes(0),
-        datas: DataWords(0),
-    }
-}
-
-// A long run: its count is the control word at `from`.
-fn long_run(repeats: bool, controls: &[u8], from: usize) -> Run
-    requires { ⌜ from ≤ length (now controls) ⌝ }
-    ensures { λ r. ⌜ r ≡ longRun repeats (drop from (now (controls .entry))) ⌝ }
-{
-    if controls.len() - from < 2 {
-        return faulty(RUN_TOO_LONG);
-    }
-    let count = words::word_at(controls, from);
-    if count < LEAST_COUNT {
-        return faulty(UNDEFINED_CONTROL);
-    }
-    if MOST_COUNT < count {
-        return faulty(UNDEFINED_CONTROL);
-    }
-    defined(repeats, count as usize, 3)
-}
-
-// The run that control byte x begins; the control bytes behind it start at `from`.
-fn run_of(x: u8, controls: &[u8], from: usize) -> Run
-    requires { ⌜ from ≤ length (now controls) ⌝ }
-    ensures { λ r. ⌜ r ≡ runOf x (drop from (now (controls .entry))) ⌝ }
-{
-    if x < 2 {
-        return long_run(x == 0, controls, from);
-    }
-    if x < 128 {
-        return defined(true, x as usize, 1);
-    }
-    if x == 128 {
-        return faulty(UNDEFINED_CONTROL);
-    }
-    defined(false, 256 - x as usize, 1)
-}
-
-// A run judged against the data words that are left and the room for words.
-fn fitted(r: Run, left: DataWords, room: usize) -> Run
-    ensures { λ s. ⌜ s ≡ fitted r (left .0) room ⌝ }
-{
-    if room < r.count {
-        return faulty(RUN_TOO_LONG);
-    }
-    if left.0 < r.datas.0 {
-        return faulty(RUN_TOO_LONG);
-    }
-    r
-}
-
-// The run at a control byte, judged, once `taken` of the data words are taken and `to` words are made.
-fn run_at(controls: &[u8], used: ControlBytes, datas: DataWords, taken: DataWords, to: usize) -> Run
-    requires { ⌜ (used .0 < length (now controls)) × (taken .0 ≤ datas .0) × (to ≤ screenWords) ⌝ }
-    ensures { λ r. ⌜ r ≡ runAt (drop (used .0) (now (controls .entry))) (datas .0 - taken .0) (screenWords - to) ⌝ }
-{
-    let at = used.0;
-    let r = run_of(controls[at], controls, at + 1);
-    let left = DataWords(datas.0 - taken.0);
-    fitted(r, left, SCREEN_WORDS - to)
-}
-
-// The control bytes used once a run is.
-fn controls_after(used: ControlBytes, run: Run) -> ControlBytes
-    requires { ⌜ used .0 + run .controls .0 < 65536 ⌝ }
-    ensures { λ r. ⌜ r ≡ record { 0 = used .0 + run .controls .0 } ⌝ }
-{
-    ControlBytes(used.0 + run.controls.0)
-}
-
-// The data words taken once a run is.
-fn datas_after(taken: DataWords, run: Run) -> DataWords
-    requires { ⌜ taken .0 + run .datas .0 < 65536 ⌝ }
-    ensures { λ r. ⌜ r ≡ record { 0 = taken .0 + run .datas .0 } ⌝ }
-{
-    DataWords(taken.0 + run.datas.0)
-}
-
-// ---- the words of a run, as bytes
-
-// The word of two bytes.
-fn put_word(high: u8, low: u8, out: &mut [u8])
-    requires { ⌜ 2 ≤ length (now out) ⌝ }
-    ensures { λ _. ⌜ now (out .exit) ≡ over (wordBytes (high * 256 + low)) (now (out .entry)) ⌝ }
-{
-    out[0] = high;
-    out[1] = low;
-}
-
-// The word of two bytes, `count` times.
-fn put_repeat(high: u8, low: u8, count: usize, out: &mut [u8])
-    requires { ⌜ count * 2 ≤ length (now out) ⌝ }
-    ensures { λ _.
-        ⌜ now (out .exit) ≡ over (wordsBytes (tabulate count (λ i. high * 256 + low))) (now (out .entry)) ⌝ }
-{
-    for i in 0..count {
-        put_word(high, low, &mut out[i * 2..]);
-    }
-}
-
-// `count` words of a section, from word `taken` on.
-fn put_literal(section: &[u8], taken: usize, count: usize, out: &mut [u8])
-    requires { ⌜ (taken < 65536) × ((taken + count) * 2 ≤ length (now section)) × (count * 2 ≤ length (now out)) ⌝ }
-    ensures { λ _.
-        ⌜ now (out .exit)
-        ≡ over (wordsBytes (tabulate count (λ i. wordAt (now (section .entry)) ((taken + i) * 2))))
-        (now (out .entry)) ⌝ }
-{
-    for i in 0..count {
-        let at = (taken + i) * 2;
-        put_word(section[at], section[at + 1], &mut out[i * 2..]);
-    }
-}
-
-// The words of a run, which `taken` data words precede.
-fn put_run(run: Run, section: &[u8], taken: DataWords, out: &mut [u8])
-    requires { ⌜ (taken .0 < 65536) × (run .count * 2 ≤ length (now out)) ⌝ }
-    requires { ⌜ (taken .0 + cond (run .repeats) 1 (run .count)) * 2 ≤ length (now section) ⌝ }
-    ensures { λ _.
-        ⌜ now (out .exit)
-        ≡ over (wordsBytes (tabulate (run .count)
-        (λ i. wordAt (now (section .entry)) (sourceOf (run .repeats) (taken .0) i * 2)))) (now (out .entry)) ⌝ }
-{
-    let start = taken.0;
-    if run.repeats {
-        let at = start * 2;
-        put_repeat(section[at], section[at + 1], run.count, out);
-        return;
-    }
-    put_literal(section, start, run.count, out);
-}
-
 // ---- the sections expanded
-
-// The counts where expanding ends.
-fn ended(fault: u8, used: ControlBytes, taken: DataWords, runs: usize, words: usize) -> Expanded
-    ensures { λ r. ⌜ r ≡ record { fault = fault; controls = used; datas = taken; runs = runs; words = words } ⌝ }
-{
-    Expanded {
-        fault,
-        controls: used,
-        datas: taken,
-        runs,
-        words,
-    }
-}
-
-// Expands the control bytes and the data words of a section, and puts the bytes of the words made one after the other,
-// until no control byte is left or a run is at fault.
-fn expand(controls: &[u8], section: &[u8], datas: DataWords, made: &mut [u8]) -> Expanded
-    requires { ⌜ (length (now controls) < 65536) × (datas .0 < 65536) × (length (now made) ≡ screenBytes) ⌝ }
-    requires { ⌜ length (now section) ≡ datas .0 * 2 ⌝ }
-    ensures answer { λ r. ⌜ r ≡ counted (expandSection (now (controls .entry)) (now (section .entry)) (datas .0)) ⌝ }
-    ensures made { λ _.
-        ⌜ now (made .exit)
-        ≡ over (wordsBytes (expandSection (now (controls .entry)) (now (section .entry)) (datas .0) .made))
-        (now (made .entry)) ⌝ }
-{
-    let mut used = ControlBytes(0);
-    let mut taken = DataWords(0);
-    let mut runs: usize = 0;
-    let mut to: usize = 0;
-    while used.0 < controls.len() {
-        let run = run_at(controls, used, datas, taken, to);
-        if run.fault != 0 {
-            return ended(run.fault, used, taken, runs, to);
-        }
-        put_run(run, section, taken, &mut made[to * 2..]);
-        used = controls_after(used, run);
-        taken = datas_after(taken, run);
-        to += run.count;
-        runs += 1;
-    }
-    ended(0, used, taken, runs, to)
-}
 
 // Expands the sections of a file.
 fn expand_sections(file: &[u8], made: &mut [u8]) -> Expanded
@@ -382,12 +142,20 @@ fn expand_sections(file: &[u8], made: &mut [u8]) -> Expanded
 {
     let start = control_start(file);
     let controls = control_count(file);
-    let datas = data_count(file);
     let middle = start + controls.0;
-    expand(&file[start..middle], &file[middle..], datas, made)
+    tiny_runs::expand(&file[start..middle], &file[middle..], made)
 }
 
 // ---- the expanded words put into a screen
+
+// The word of two bytes.
+fn put_word(high: u8, low: u8, out: &mut [u8])
+    requires { ⌜ 2 ≤ length (now out) ⌝ }
+    ensures { λ _. ⌜ now (out .exit) ≡ over (wordBytes (high * 256 + low)) (now (out .entry)) ⌝ }
+{
+    out[0] = high;
+    out[1] = low;
+}
 
 // Group g of line y: a word of each set.
 fn put_group(made: &[u8], y: usize, g: usize, out: &mut [u8])

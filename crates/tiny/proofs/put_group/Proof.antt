@@ -8,7 +8,7 @@ use borrow.Author.Needs.{needs}
 use Rattle.words.specs.Word.{wordAt}
 use Rattle.tiny.specs.ScreenWords.{lineWords, sets, expandedWord}
 use Rattle.tiny.proofs.ScreenWords.{group-word}
-use Rattle.tiny.proofs.WordBytes.{Putting, putting-start, putting-done, word-turn}
+use Rattle.tiny_runs.proofs.WordBytes.{Putting, putting-start, putting-done, word-turn}
 use Rattle.tiny.proofs.put_group.Statement.{statement}
 use Rattle.tiny.proofs.put_group.Tie as tie
 

@@ -7,7 +7,7 @@ use denote.Ref.{now}
 use borrow.Author.Needs.{needs}
 use Rattle.words.specs.Word.{wordAt}
 use Rattle.tiny.specs.ScreenWords.{lineWords, sets, groups, expandedWord}
-use Rattle.tiny.proofs.WordBytes.{Putting, putting-start, putting-turn, putting-done}
+use Rattle.tiny_runs.proofs.WordBytes.{Putting, putting-start, putting-turn, putting-done}
 use Rattle.tiny.proofs.put_line.Statement.{statement}
 use Rattle.tiny.proofs.put_line.Tie as tie
 

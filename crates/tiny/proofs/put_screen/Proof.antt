@@ -6,9 +6,8 @@ use lib.ListN.{length}
 use denote.Ref.{now}
 use borrow.Author.Needs.{needs}
 use Rattle.words.specs.Word.{wordAt}
-use Rattle.tiny.specs.Expansion.{screenWords}
-use Rattle.tiny.specs.ScreenWords.{lineWords, columnWords, expandedWord}
-use Rattle.tiny.proofs.WordBytes.{Putting, putting-start, putting-turn, putting-done}
+use Rattle.tiny.specs.ScreenWords.{screenWords, lineWords, columnWords, expandedWord}
+use Rattle.tiny_runs.proofs.WordBytes.{Putting, putting-start, putting-turn, putting-done}
 use Rattle.tiny.proofs.put_screen.Statement.{statement}
 use Rattle.tiny.proofs.put_screen.Tie as tie
 

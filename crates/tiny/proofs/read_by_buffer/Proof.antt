@@ -4,7 +4,7 @@ use Prim.Native.Nat.{_-_, _≤_, _<_}
 use native.Mathlib.Omega.{arith}
 use lib.ListN.{length}
 use denote.Ref.{now}
-use Rattle.tiny.specs.declared.Expanded.{Expanded}
+use Rattle.tiny_runs.specs.declared.Expanded.{Expanded}
 use Rattle.tiny.specs.Layout.{dataCount, bodyLength}
 use Rattle.tiny.specs.Reading.{expanded}
 use Rattle.tiny.proofs.Reading.{runs-fault, runs-data, runs-words, runs-done, area-is, answer-is}

@@ -7,7 +7,7 @@ use lib.ListN.{length, getD, take, replicate}
 use lib.Dec.{ltb, eqb}
 use Rattle.outcome.specs.Refusal.{undefinedControl, runTooLong}
 use Rattle.words.specs.Word.{wordAt}
-use Rattle.tiny.specs.declared.Run.{Run}
+use Rattle.tiny_runs.specs.declared.Run.{Run}
 
 -- the long counts are 128 to 32,767
 abbrev pub leastCount : ℕ

@@ -4,7 +4,7 @@ use Prim.Native.Nat.{ℕ, suc, _-_, _*_, _+_, _≤_, _<_}
 use mathlib.Core.Path.{_≡_}
 use mathlib.Core.List.{List, [], _∷_, _++_}
 use lib.ListN.{length, replicate}
-use Rattle.tiny.specs.Runs.{leastCount, mostCount}
+use Rattle.tiny_runs.specs.Runs.{leastCount, mostCount}
 
 -- a long count: a word of 128 to 32,767, its high byte first
 abbrev pub LongCount : ℕ → ℕ → ℕ → Type 0

@@ -1,10 +1,10 @@
--- `tiny::run_of` meets its contract: each test picks a case of `runOf`.
+-- `tiny_runs::run_of` meets its contract: each test picks a case of `runOf`.
 use mathlib.Core.Path.{sym, _∙_}
 use native.Mathlib.Omega.{arith}
-use Rattle.tiny.proofs.Runs.{run-long, run-repeat, run-undefined, run-literal}
+use Rattle.tiny_runs.proofs.Runs.{run-long, run-repeat, run-undefined, run-literal}
 use borrow.Author.Needs.{needs}
-use Rattle.tiny.proofs.run_of.Statement.{statement}
-use Rattle.tiny.proofs.run_of.Tie as tie
+use Rattle.tiny_runs.proofs.run_of.Statement.{statement}
+use Rattle.tiny_runs.proofs.run_of.Tie as tie
 
 returns-4 : tie.Need-returns-4
 returns-4 c =

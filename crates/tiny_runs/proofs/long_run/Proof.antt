@@ -1,12 +1,12 @@
--- `tiny::long_run` meets its contract: each test picks a case of `longRun`.
+-- `tiny_runs::long_run` meets its contract: each test picks a case of `longRun`.
 use mathlib.Core.Path.{sym, _∙_}
 use native.Mathlib.Omega.{arith}
 use lib.ListN.{drop, length-drop}
 use denote.Ref.{now}
-use Rattle.tiny.proofs.Runs.{long-cut, long-low, long-high, long-defined, wordAt-drop}
+use Rattle.tiny_runs.proofs.Runs.{long-cut, long-low, long-high, long-defined, wordAt-drop}
 use borrow.Author.Needs.{needs}
-use Rattle.tiny.proofs.long_run.Statement.{statement}
-use Rattle.tiny.proofs.long_run.Tie as tie
+use Rattle.tiny_runs.proofs.long_run.Statement.{statement}
+use Rattle.tiny_runs.proofs.long_run.Tie as tie
 
 returns : tie.Need-returns
 returns c =

@@ -12,12 +12,12 @@ use lib.Seq.{length-take-le, take-at, drop-at, take-add, take-length}
 use Rattle.lists.specs.Bytes.{Bytes}
 use Rattle.lists.proofs.Bytes.{bytes-drop}
 use Rattle.words.specs.Word.{wordAt}
-use Rattle.tiny.specs.declared.Run.{Run}
-use Rattle.tiny.specs.Runs.{leastCount, mostCount, defined, runOf, runAt, wordsMade}
-use Rattle.tiny.specs.Expansion.{Expansion, runBefore, expand}
-use Rattle.tiny.specs.Expands.{LongCount, Expands, empty, repeat, literal, longRepeat, longLiteral}
-use Rattle.tiny.proofs.Runs.{run-long, run-repeat, run-literal, long-defined, run-front, run-fits, by-run}
-use Rattle.tiny.proofs.Expansion.{expand-none, expand-whole, by-runs, bounded}
+use Rattle.tiny_runs.specs.declared.Run.{Run}
+use Rattle.tiny_runs.specs.Runs.{leastCount, mostCount, defined, runOf, runAt, wordsMade}
+use Rattle.tiny_runs.specs.Expansion.{Expansion, runBefore, expand}
+use Rattle.tiny_runs.specs.Expands.{LongCount, Expands, empty, repeat, literal, longRepeat, longLiteral}
+use Rattle.tiny_runs.proofs.Runs.{run-long, run-repeat, run-literal, long-defined, run-front, run-fits, by-run}
+use Rattle.tiny_runs.proofs.Expansion.{expand-none, expand-whole, by-runs, bounded}
 
 -- no fault: `controls` control bytes and `datas` data words used by `runs` runs, which make these words
 abbrev pub filled : ℕ → ℕ → ℕ → List ℕ → Expansion

@@ -1,4 +1,4 @@
--- `tiny::put_run` meets its contract: a repeat takes the same data word each time.
+-- `tiny_runs::put_run` meets its contract: a repeat takes the same data word each time.
 use mathlib.Core.Path.{_≡_}
 use mathlib.Core.Bool.{Bool, true, false, cond}
 use mathlib.Core.List.{List}
@@ -9,10 +9,10 @@ use lib.ListN.{getD}
 use Rattle.lists.specs.Over.{over}
 use Rattle.lists.specs.Tabulate.{tabulate}
 use Rattle.words.specs.Word.{wordAt, wordsBytes}
-use Rattle.tiny.specs.Runs.{sourceOf}
+use Rattle.tiny_runs.specs.Runs.{sourceOf}
 use borrow.Author.Needs.{needs}
-use Rattle.tiny.proofs.put_run.Statement.{statement}
-use Rattle.tiny.proofs.put_run.Tie as tie
+use Rattle.tiny_runs.proofs.put_run.Statement.{statement}
+use Rattle.tiny_runs.proofs.put_run.Tie as tie
 
 module _ (repeats : Bool) (count taken : ℕ) (section out last : List ℕ) where
   abbrev RunPut : Type 0
@@ -62,9 +62,8 @@ put-literal-requires : tie.Need-put-literal-requires
 put-literal-requires c κs =
     let s = c .before .before .before .before in
     let a = s .args in (
-      s .pre .0 .0,
       literal-within (a .run .repeats) (a .run .count) (a .taken .0) _ (s .pre .1) (c .before .if1 .left),
-      s .pre .0 .1,
+      s .pre .0,
     )
 
 returns-2 : tie.Need-returns-2

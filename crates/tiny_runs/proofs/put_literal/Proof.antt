@@ -1,4 +1,4 @@
--- `tiny::put_literal` meets its contract. The invariant: i words are put.
+-- `tiny_runs::put_literal` meets its contract. The invariant: i words are put.
 use mathlib.Core.Path.{_≡_, refl}
 use Prim.Native.Nat.{_+_, _*_, _-_, _≤_}
 use native.Mathlib.Omega.{arith}
@@ -6,9 +6,9 @@ use lib.ListN.{length}
 use denote.Ref.{now}
 use borrow.Author.Needs.{needs}
 use Rattle.words.specs.Word.{wordAt}
-use Rattle.tiny.proofs.WordBytes.{Putting, putting-start, putting-done, word-turn}
-use Rattle.tiny.proofs.put_literal.Statement.{statement}
-use Rattle.tiny.proofs.put_literal.Tie as tie
+use Rattle.tiny_runs.proofs.WordBytes.{Putting, putting-start, putting-done, word-turn}
+use Rattle.tiny_runs.proofs.put_literal.Statement.{statement}
+use Rattle.tiny_runs.proofs.put_literal.Tie as tie
 
 abbrev Inv-loop : tie.InvT-loop
 Inv-loop section taken count out₀ i₀ out i =

@@ -7,10 +7,10 @@ use mathlib.Core.List.{List, [], _∷_}
 use lib.ListN.{length, drop, length-drop, length-append}
 use lib.Dec.{eqb}
 use borrow.Author.Tests.{eq-eqb, ne-eqb, eqb-true, eqb-false}
-use Rattle.tiny.specs.declared.Run.{Run}
-use Rattle.tiny.specs.Runs.{runAt, wordsMade}
-use Rattle.tiny.specs.Expansion.{Expansion, noRun, runBefore, runStep, expandWithin, expand}
-use Rattle.tiny.proofs.Runs.{RunFits, sound-fits}
+use Rattle.tiny_runs.specs.declared.Run.{Run}
+use Rattle.tiny_runs.specs.Runs.{runAt, wordsMade}
+use Rattle.tiny_runs.specs.Expansion.{Expansion, noRun, runBefore, runStep, expandWithin, expand}
+use Rattle.tiny_runs.proofs.Runs.{RunFits, sound-fits}
 
 -- ---- the equations of `expand`, in which no bound on the recursion stands
 

@@ -12,8 +12,8 @@ use lib.Dec.{ltb, eqb}
 use borrow.Author.Tests.{lt-ltb, le-ltb, ne-eqb, ltb-false}
 use Rattle.outcome.specs.Refusal.{undefinedControl, runTooLong}
 use Rattle.words.specs.Word.{wordAt}
-use Rattle.tiny.specs.declared.Run.{Run}
-use Rattle.tiny.specs.Runs.{leastCount, mostCount, defined, faulty, longRun, runOf, fitted, runAt, wordsMade}
+use Rattle.tiny_runs.specs.declared.Run.{Run}
+use Rattle.tiny_runs.specs.Runs.{leastCount, mostCount, defined, faulty, longRun, runOf, fitted, runAt, wordsMade}
 
 -- ---- a long run
 

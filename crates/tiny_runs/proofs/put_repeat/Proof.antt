@@ -1,13 +1,13 @@
--- `tiny::put_repeat` meets its contract. The invariant: i words are put.
+-- `tiny_runs::put_repeat` meets its contract. The invariant: i words are put.
 use mathlib.Core.Path.{_≡_, refl}
 use Prim.Native.Nat.{_+_, _*_, _-_, _≤_}
 use native.Mathlib.Omega.{arith}
 use lib.ListN.{length}
 use denote.Ref.{now}
 use borrow.Author.Needs.{needs}
-use Rattle.tiny.proofs.WordBytes.{Putting, putting-start, putting-done, word-turn}
-use Rattle.tiny.proofs.put_repeat.Statement.{statement}
-use Rattle.tiny.proofs.put_repeat.Tie as tie
+use Rattle.tiny_runs.proofs.WordBytes.{Putting, putting-start, putting-done, word-turn}
+use Rattle.tiny_runs.proofs.put_repeat.Statement.{statement}
+use Rattle.tiny_runs.proofs.put_repeat.Tie as tie
 
 abbrev Inv-loop : tie.InvT-loop
 Inv-loop high low count out₀ i₀ out i =

@@ -1,8 +1,8 @@
--- `tiny::defined` meets its contract.
+-- `tiny_runs::defined` meets its contract.
 use mathlib.Core.Path.{_≡_}
 use mathlib.Core.Bool.{true, false}
-use Rattle.tiny.proofs.defined.Statement.{statement}
-use Rattle.tiny.proofs.defined.Tie as tie
+use Rattle.tiny_runs.proofs.defined.Statement.{statement}
+use Rattle.tiny_runs.proofs.defined.Tie as tie
 
 pub defined-spec : {M : Type 1} → statement M
 defined-spec =

@@ -1,17 +1,13 @@
 -- Control bytes and data words expanded, run by run (document 02, ticket 1).
-use Prim.Native.Nat.{ℕ, zero, suc, _+_, _-_}
+use Prim.Native.Nat.{ℕ, zero, suc, _+_, _-_, _/_}
 use mathlib.Core.Bool.{cond}
 use mathlib.Core.List.{List, [], _∷_, _++_}
 use lib.ListN.{length, drop}
 use lib.Dec.{eqb}
 use Rattle.words.specs.Word.{wordsAt}
-use Rattle.tiny.specs.declared.Run.{Run}
-use Rattle.tiny.specs.declared.Expanded.{Expanded}
-use Rattle.tiny.specs.Runs.{runAt, wordsMade}
-
--- the words of a screen
-abbrev pub screenWords : ℕ
-screenWords = 16000
+use Rattle.tiny_runs.specs.declared.Run.{Run}
+use Rattle.tiny_runs.specs.declared.Expanded.{Expanded}
+use Rattle.tiny_runs.specs.Runs.{runAt, wordsMade}
 
 -- How far expanding came.
 pub record Expansion : Type 0 where
@@ -60,9 +56,9 @@ expandWithin (suc bound) (x ∷ rest) datas room =
 unfoldable pub expand : List ℕ → List ℕ → ℕ → Expansion
 expand controls datas room = expandWithin (length controls) controls datas room
 
--- the same into a screen, with the n data words at the front of a section's bytes
+-- the same with the data words that lie whole in a section's bytes
 abbrev pub expandSection : List ℕ → List ℕ → ℕ → Expansion
-expandSection controls section n = expand controls (wordsAt n section 0) screenWords
+expandSection controls section room = expand controls (wordsAt (length section / 2) section 0) room
 
 -- its counts
 abbrev pub counted : Expansion → Expanded

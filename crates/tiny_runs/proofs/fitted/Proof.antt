@@ -1,10 +1,10 @@
--- `tiny::fitted` meets its contract: each test picks a case of `fitted`.
+-- `tiny_runs::fitted` meets its contract: each test picks a case of `fitted`.
 use mathlib.Core.Path.{sym, _∙_}
 use native.Mathlib.Omega.{arith}
-use Rattle.tiny.proofs.Runs.{fitted-room, fitted-data, fitted-same}
+use Rattle.tiny_runs.proofs.Runs.{fitted-room, fitted-data, fitted-same}
 use borrow.Author.Needs.{needs}
-use Rattle.tiny.proofs.fitted.Statement.{statement}
-use Rattle.tiny.proofs.fitted.Tie as tie
+use Rattle.tiny_runs.proofs.fitted.Statement.{statement}
+use Rattle.tiny_runs.proofs.fitted.Tie as tie
 
 returns : tie.Need-returns
 returns c =
