@@ -163,7 +163,8 @@ enum {
 /* The list of picture formats by which a NEOchrome header is read. */
 enum { KUTIMUQ_LIST_1989 = 1, KUTIMUQ_LIST_2008 = 2 };
 
-/* Which way the colours cycle. */
+/* Which way the colours cycle. The directions in a DEGAS tail have other numbers:
+   0 left, 1 off, 2 right. */
 enum {
     KUTIMUQ_DIRECTION_STOPPED = 0,
     KUTIMUQ_DIRECTION_LEFT = 1, /* decreasing */
@@ -299,7 +300,7 @@ typedef struct KutimuqAnimationAnswer {
     uint8_t left_limit;  /* 0 to 15; 0 where the limits are not valid */
     uint8_t right_limit; /* 0 to 15; 0 where the limits are not valid */
     bool on;
-    uint8_t direction;
+    uint8_t direction;   /* KUTIMUQ_DIRECTION_ of the speed, on or not */
     uint8_t vblanks;     /* between two cycles, 0 to 127; 0 where stopped */
     uint16_t step_count; /* for which a slide show keeps the picture; 0 by the list of 1989 */
 } KutimuqAnimationAnswer;

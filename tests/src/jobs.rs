@@ -11,7 +11,7 @@ pub type Job = Box<dyn FnOnce(&mut Report) + Send>;
 const THREADS: usize = 2;
 
 /// Runs each job with a report of its own, which is then added to `report`. A job that panics makes
-/// this panic, after the other jobs.
+/// this panic; reports after it are not added.
 pub fn run(jobs: Vec<Job>, report: &mut Report) {
     let queue = Mutex::new(jobs.into_iter().enumerate());
     let next_job = || queue.lock().expect("no job runs under the lock").next();

@@ -25,7 +25,8 @@ impl TryFrom<u8> for FormatList {
     }
 }
 
-/// Which way the colours cycle.
+/// Which way the colours cycle. The directions in a DEGAS tail have other numbers: 0 left, 1 off,
+/// 2 right.
 #[repr(u8)]
 #[derive(Clone, Copy, Debug, PartialEq, Eq, Hash)]
 pub enum Direction {
@@ -39,7 +40,7 @@ pub enum Direction {
 
 /// What a list shows of a header. Each field is shown by itself: a header may say on and stopped.
 #[derive(Clone, Copy, Debug, PartialEq, Eq)]
-pub struct Animation {
+pub struct ColourAnimation {
     /// Always true by the list of 1989.
     pub limits_valid: bool,
     /// A register, 0 to 15; 0 where the limits are not valid.
@@ -60,14 +61,14 @@ pub struct Animation {
 /// format NEOchrome Animation (`*.ANI`).
 ///
 /// ```
-/// use kutimuq::{animation, refusal, Animation, Direction, FormatList};
+/// use kutimuq::{animation, refusal, ColourAnimation, Direction, FormatList};
 ///
 /// // Registers 3 to 12 cycle to the left, 4 vblanks between two cycles. The bit that says that the
 /// // limits are valid is not set.
 /// let mut file = vec![0; 32_128];
 /// file[49..52].copy_from_slice(&[0x3C, 0x80, 0xFB]);
 /// let by_1989 = animation(FormatList::List1989, &file)?;
-/// let cycling = Animation {
+/// let cycling = ColourAnimation {
 ///     limits_valid: true,
 ///     left_limit: 3,
 ///     right_limit: 12,
@@ -78,7 +79,7 @@ pub struct Animation {
 /// };
 /// assert_eq!(by_1989, cycling);
 /// let by_2008 = animation(FormatList::List2008, &file)?;
-/// assert_eq!(by_2008, Animation { limits_valid: false, left_limit: 0, right_limit: 0, ..cycling });
+/// assert_eq!(by_2008, ColourAnimation { limits_valid: false, left_limit: 0, right_limit: 0, ..cycling });
 ///
 /// // What is the flag by the list of 2008 is part of the resolution by that of 1989.
 /// file[0] = 1;
@@ -87,7 +88,7 @@ pub struct Animation {
 /// assert_eq!(refused(FormatList::List2008), refusal::WRONG_FLAG);
 /// # Ok::<(), kutimuq::Refusal>(())
 /// ```
-pub fn animation(list: FormatList, file: &[u8]) -> Result<Animation, Refusal> {
+pub fn animation(list: FormatList, file: &[u8]) -> Result<ColourAnimation, Refusal> {
     // SAFETY: pointer and length are those of a slice.
     let answer = unsafe { ffi::kutimuq_animation(list as u8, file.as_ptr(), file.len()) };
     answer.refusal.judged()?;
@@ -95,7 +96,7 @@ pub fn animation(list: FormatList, file: &[u8]) -> Result<Animation, Refusal> {
 }
 
 /// What an accepted answer shows.
-fn shown(answer: &AnimationAnswer) -> Animation {
+fn shown(answer: &AnimationAnswer) -> ColourAnimation {
     let AnimationAnswer { limits_valid, left_limit, right_limit, on, vblanks, step_count, .. } =
         *answer;
     let direction = match answer.direction {
@@ -104,5 +105,5 @@ fn shown(answer: &AnimationAnswer) -> Animation {
         2 => Direction::Right,
         other => unreachable!("the library has no direction {other}"),
     };
-    Animation { limits_valid, left_limit, right_limit, on, direction, vblanks, step_count }
+    ColourAnimation { limits_valid, left_limit, right_limit, on, direction, vblanks, step_count }
 }

@@ -38,7 +38,7 @@ pub mod refusal;
 mod resolution;
 mod rows;
 
-pub use animation::{animation, Animation, Direction, FormatList};
+pub use animation::{animation, ColourAnimation, Direction, FormatList};
 pub use conversion::{to_elite, to_plain};
 pub use ffi::{Legend, RecordCursor, Rectangle};
 pub use files::{read, write, Form, Kind, Picture, Reading, Tail, Written};

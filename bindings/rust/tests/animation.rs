@@ -7,7 +7,7 @@ use kutimuq::*;
 const LISTS: [FormatList; 2] = [List1989, List2008];
 
 /// Off, stopped, registers 0 to 0.
-const NOTHING: Animation = Animation {
+const NOTHING: ColourAnimation = ColourAnimation {
     limits_valid: true,
     left_limit: 0,
     right_limit: 0,
@@ -25,7 +25,7 @@ fn file_of(bytes: [u8; 6]) -> Vec<u8> {
 }
 
 /// What both lists show.
-fn by_both(file: &[u8]) -> [Result<Animation, Refusal>; 2] {
+fn by_both(file: &[u8]) -> [Result<ColourAnimation, Refusal>; 2] {
     LISTS.map(|list| animation(list, file))
 }
 
@@ -34,7 +34,8 @@ fn both_lists_show_the_same() {
     let file = file_of([0x80, 0x3C, 0x80, 0xFB, 0, 0]);
     let (left_limit, right_limit) = (3, 12);
     let (direction, vblanks) = (Direction::Left, 4);
-    let shown = Animation { left_limit, right_limit, on: true, direction, vblanks, ..NOTHING };
+    let shown =
+        ColourAnimation { left_limit, right_limit, on: true, direction, vblanks, ..NOTHING };
     assert_eq!(by_both(&file), [Ok(shown); 2]);
 }
 
@@ -42,10 +43,10 @@ fn both_lists_show_the_same() {
 fn limits_are_the_halves_of_byte_49() {
     for left_limit in 0..16 {
         for right_limit in 0..16 {
-            let valid = Animation { left_limit, right_limit, ..NOTHING };
+            let valid = ColourAnimation { left_limit, right_limit, ..NOTHING };
             let limits = left_limit << 4 | right_limit;
             assert_eq!(by_both(&file_of([0x80, limits, 0, 0, 0, 0])), [Ok(valid); 2]);
-            let not_valid = Animation { limits_valid: false, ..NOTHING };
+            let not_valid = ColourAnimation { limits_valid: false, ..NOTHING };
             let shown = by_both(&file_of([0x7F, limits, 0, 0, 0, 0]));
             assert_eq!(shown, [Ok(valid), Ok(not_valid)]);
         }
@@ -57,9 +58,9 @@ fn high_bits_mark_the_limits_valid_and_the_animation_on() {
     for byte in 0..=255 {
         let high = byte >= 128;
         let shown = by_both(&file_of([byte, 0, 0, 0, 0, 0]));
-        assert_eq!(shown, [Ok(NOTHING), Ok(Animation { limits_valid: high, ..NOTHING })]);
+        assert_eq!(shown, [Ok(NOTHING), Ok(ColourAnimation { limits_valid: high, ..NOTHING })]);
         let shown = by_both(&file_of([0x80, 0, byte, 0, 0, 0]));
-        assert_eq!(shown, [Ok(Animation { on: high, ..NOTHING }); 2]);
+        assert_eq!(shown, [Ok(ColourAnimation { on: high, ..NOTHING }); 2]);
     }
 }
 
@@ -68,8 +69,8 @@ fn the_speed_is_signed() {
     let shown = |speed: i8| {
         let [by_1989, by_2008] = by_both(&file_of([0x80, 0, 0x80, speed as u8, 0, 0]));
         assert_eq!(by_1989, by_2008);
-        let Animation { direction, vblanks, .. } = by_1989.expect("an animation");
-        assert_eq!(by_1989, Ok(Animation { on: true, direction, vblanks, ..NOTHING }));
+        let ColourAnimation { direction, vblanks, .. } = by_1989.expect("an animation");
+        assert_eq!(by_1989, Ok(ColourAnimation { on: true, direction, vblanks, ..NOTHING }));
         (direction, vblanks)
     };
     assert_eq!(shown(0), (Direction::Stopped, 0));
@@ -85,13 +86,13 @@ fn only_the_list_of_2008_has_a_step_count() {
     for step_count in [1, 255, 256, 0x1234, 0x8000, u16::MAX] {
         let [upper, lower] = step_count.to_be_bytes();
         let shown = by_both(&file_of([0x80, 0, 0, 0, upper, lower]));
-        assert_eq!(shown, [Ok(NOTHING), Ok(Animation { step_count, ..NOTHING })]);
+        assert_eq!(shown, [Ok(NOTHING), Ok(ColourAnimation { step_count, ..NOTHING })]);
     }
 }
 
 #[test]
 fn limits_that_are_not_valid_hide_nothing_else() {
-    let by_2008 = Animation {
+    let by_2008 = ColourAnimation {
         limits_valid: false,
         on: true,
         direction: Direction::Right,
@@ -102,7 +103,7 @@ fn limits_that_are_not_valid_hide_nothing_else() {
     let file = file_of([0x00, 0xA5, 0xFF, 0x07, 0x02, 0x03]);
     let (left_limit, right_limit) = (10, 5);
     let by_1989 =
-        Animation { limits_valid: true, left_limit, right_limit, step_count: 0, ..by_2008 };
+        ColourAnimation { limits_valid: true, left_limit, right_limit, step_count: 0, ..by_2008 };
     assert_eq!(by_both(&file), [Ok(by_1989), Ok(by_2008)]);
 }
 
@@ -158,7 +159,7 @@ fn a_written_file_has_no_animation() {
         let picture = Picture { resolution, palette: [0x0777; 16], tail: None };
         let mut file = vec![0xEE; WRITE_AREA_BYTES];
         write(Form::Neochrome, &picture, &[0xFF; SCREEN_BYTES], &mut file).expect("a file");
-        let by_2008 = Animation { limits_valid: false, ..NOTHING };
+        let by_2008 = ColourAnimation { limits_valid: false, ..NOTHING };
         assert_eq!(by_both(&file), [Ok(NOTHING), Ok(by_2008)]);
     }
 }

@@ -48,7 +48,7 @@ module _ (file : List ℕ) where
     pub both-same : Bytes file → MarkedValid → NoSteps → animation 1 file ≡ animation 2 file
     both-same bytes valid none = by-1989 ∙ ap accepted (shown-same bytes valid none) ∙ sym by-2008
 
-    -- and of no other file do both answer the same
+    -- and of no other accepted file do both answer the same
     pub same-only : animationAnswer (animation 1 file) ≡ animationAnswer (animation 2 file) → MarkedValid × NoSteps
     unfolding shown1989 shown2008
     same-only same =

@@ -1,4 +1,4 @@
--- A file that writing makes has no animation: writing a picture leaves the cycling colours out.
+-- A NEOchrome file that writing makes has no animation: writing a picture leaves the cycling colours out.
 use mathlib.Core.Path.{_≡_, sym, ap, _∙_}
 use mathlib.Core.Bool.{Bool, true, false}
 use mathlib.Core.List.{List, _++_, append-assoc}

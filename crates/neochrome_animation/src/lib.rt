@@ -37,7 +37,7 @@ const SPEED_START: usize = 51;
 // Where the step count stands (2008).
 const STEP_COUNT_START: usize = 52;
 
-// The first byte that holds a negative number, and every byte whose high bit is set.
+// A byte's high bit: bytes below it hold the numbers that are not negative.
 const HIGH_BIT: u8 = 128;
 
 // The direction that a signed speed gives: stopped where the speed is 0, whether the animation is on or not.
@@ -82,7 +82,7 @@ pub struct ColourAnimation {
     pub right_limit: u8,
     pub on: bool,
     pub direction: Direction,
-    // Vblanks between two cycles, one less than the speed; 0 also of a speed of 0.
+    // Vblanks between two cycles: one less than the speed without its sign, and 0 of a speed of 0.
     pub vblanks: u8,
     // Steps for which a slide show keeps the picture; the list of 1989 has none and shows 0.
     pub step_count: u16,

@@ -22,15 +22,8 @@ use Rattle.neochrome_animation.proofs.Acceptance.{acceptance-1989, acceptance-2
 use Rattle.neochrome_animation.proofs.Acceptance.{refused-as-read-1989, refused-as-read-2008}
 use Rattle.neochrome_animation.proofs.BothLists.{both-same, same-only}
 use Rattle.neochrome_animation.proofs.Fields.{shows-1989, shows-2008}
-use Rattle.statements.specs.declared.BothLists.{BothLists}
 use Rattle.statements.specs.Animations.{MarkedWithoutSteps, AcceptsBoth, ShowsBoth, RefusesAsRead}
-
--- the answers of both lists
-abbrev pub bothAnswers : List ℕ → BothLists
-bothAnswers file = record {
-  «list_1989» = animationAnswer (animation 1 file);
-  «list_2008» = animationAnswer (animation 2 file);
-}
+use Rattle.statements.specs.Animations.{answersByList}
 
 answer-refusal : (o : Outcome ColourAnimation) → animationAnswer o .refusal ≡ refusalOf o
 answer-refusal (accepted a) = refl
@@ -51,7 +44,7 @@ module _ (file : List ℕ) where
       judged-accepted (Given file screenBytes) (readNeochrome file screenBytes) (neochrome-judged file screenBytes) e
       .2 .0
 
-  pub refuses-as-read : RefusesAsRead file (bothAnswers file)
+  pub refuses-as-read : RefusesAsRead file (answersByList file)
   refuses-as-read = record {
     by-1989 = answer-refusal (animation 1 file) ∙ refused-as-read-1989 file screenBytes (omega arith);
     by-2008 = answer-refusal (animation 2 file) ∙ refused-as-read-2008 file screenBytes (omega arith);
@@ -64,7 +57,7 @@ module _ (file : List ℕ) where
     by-2008 : animation 2 file ≡ accepted (shown2008 file)
     by-2008 = acceptance-2008 file (shown2008 file) .1 (fits, refl)
 
-  pub accepts-both : AcceptsBoth file (bothAnswers file)
+  pub accepts-both : AcceptsBoth file (answersByList file)
   accepts-both = record {
     by-1989 = (
       λ e. read-fits (flag-refused whyRead (sym (ap (λ (w : Refusal). w .number) (refuses-as-read .by-1989)) ∙ e)),
@@ -86,7 +79,7 @@ module _ (file : List ℕ) where
     unfolding wordAt
     to-words m = (omega (arith, m .0, bytes 48, bytes 49), omega (arith, m .1, m .2))
 
-    pub shows-both : AcceptsNeochrome file → ShowsBoth file (bothAnswers file)
+    pub shows-both : AcceptsNeochrome file → ShowsBoth file (answersByList file)
     shows-both fits = record {
       by-1989 = subst (λ o. Shows1989 file (animationAnswer o)) (sym (by-1989 fits)) (shows-1989 file);
       by-2008 = subst (λ o. Shows2008 file (animationAnswer o)) (sym (by-2008 fits)) (shows-2008 file bytes);

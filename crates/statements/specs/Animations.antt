@@ -10,24 +10,32 @@ use Rattle.neochrome.specs.Accepts.{AcceptsNeochrome}
 use Rattle.neochrome.specs.Reading.{readNeochrome}
 use Rattle.neochrome_animation.specs.Fields.{Shows1989, Shows2008}
 use Rattle.neochrome_animation.specs.Lists.{flagAsResolution}
-use Rattle.statements.specs.declared.BothLists.{BothLists}
+use Rattle.neochrome_animation.specs.Judging.{animation, animationAnswer}
+use Rattle.statements.specs.declared.AnswersByList.{AnswersByList}
+
+-- the complete answers
+abbrev pub answersByList : List ℕ → AnswersByList
+answersByList file = record {
+  «list_1989» = animationAnswer (animation 1 file);
+  «list_2008» = animationAnswer (animation 2 file);
+}
 
 -- the limits are marked valid, and word 52 is 0
 abbrev pub MarkedWithoutSteps : List ℕ → Type 0
 MarkedWithoutSteps file = (128 ≤ getD file 48 0) × (getD file 52 0 ≡ 0) × (getD file 53 0 ≡ 0)
 
 -- both accept exactly the files that fit
-pub record AcceptsBoth (file : List ℕ) (b : BothLists) : Type 0 where
+pub record AcceptsBoth (file : List ℕ) (b : AnswersByList) : Type 0 where
   pub by-1989 : (b .«list_1989» .refusal .number ≡ 0) ↔ AcceptsNeochrome file
   pub by-2008 : (b .«list_2008» .refusal .number ≡ 0) ↔ AcceptsNeochrome file
 
 -- what each shows of a file that fits, and when both show the same
-pub record ShowsBoth (file : List ℕ) (b : BothLists) : Type 0 where
+pub record ShowsBoth (file : List ℕ) (b : AnswersByList) : Type 0 where
   pub by-1989 : Shows1989 file (b .«list_1989»)
   pub by-2008 : Shows2008 file (b .«list_2008»)
   pub same-exactly : (b .«list_1989» ≡ b .«list_2008») ↔ MarkedWithoutSteps file
 
 -- the refusal of reading into an area of a screen; the list of 1989 gives 5 in place of 4
-pub record RefusesAsRead (file : List ℕ) (b : BothLists) : Type 0 where
+pub record RefusesAsRead (file : List ℕ) (b : AnswersByList) : Type 0 where
   pub by-1989 : b .«list_1989» .refusal ≡ flagAsResolution (refusalOf (readNeochrome file screenBytes))
   pub by-2008 : b .«list_2008» .refusal ≡ refusalOf (readNeochrome file screenBytes)

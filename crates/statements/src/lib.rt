@@ -1,7 +1,7 @@
-// The demands of document 00, and those of document 02, tickets 7, 9, 10 and 13, said of the operations themselves: each
-// function here only calls public operations, and promises the demand. Nothing is assumed of an argument but its type.
-// The clause `refused` is demand 1, "then no byte of any lent area has changed", and `whole` the complete answer of the
-// operations. Definitions: specs/.
+// The demands of document 00, and those of document 02, tickets 7, 9, 10 and 13, said of the operations themselves:
+// each function here only calls public operations, and promises the demand. Nothing is assumed of an argument but its
+// type. The clause `refused` is demand 1, "then no byte of any lent area has changed", and `whole` the complete answer
+// of the operations. Definitions: specs/.
 ghost use mathlib.Core.Path.{_≡_};
 ghost use mathlib.Core.Logic.{_↔_};
 ghost use mathlib.Core.List.{List};
@@ -20,7 +20,7 @@ ghost use Rattle.demands.specs.RoundTrips.{kindOf};
 ghost use Rattle.degas.specs.Layout.{plainLength, eliteLength};
 ghost use Rattle.degas.specs.LeastBody.{NoBodyBelow};
 ghost use Rattle.neochrome.specs.Accepts.{AcceptsNeochrome};
-ghost use Rattle.statements.specs.Animations.{AcceptsBoth, ShowsBoth, RefusesAsRead};
+ghost use Rattle.statements.specs.Animations.{AcceptsBoth, ShowsBoth, RefusesAsRead, answersByList};
 ghost use Rattle.statements.specs.Areas.{HoldsScreen, HoldsFile, Stated};
 ghost use Rattle.statements.specs.Blank.{zeros, Blank};
 ghost use Rattle.statements.specs.Conversions.{WritesEliteFile, WritesPlainFile, AnswersConversion};
@@ -59,7 +59,7 @@ pub struct RoundTrip {
 }
 
 // The answers of both lists.
-pub struct BothLists {
+pub struct AnswersByList {
     pub list_1989: AnimationAnswer,
     pub list_2008: AnimationAnswer,
 }
@@ -319,16 +319,18 @@ pub fn nth_step(file: &[u8], k: usize) -> Found
     last.found
 }
 
-// Document 02, ticket 10: "The 1989 (001) and 2008 (000) lists read the header differently; keep both"; "For an accepted
-// file with limits marked valid and word 52 zero, both show the same", and for no other. What both lists show of a file.
-pub fn animation_by_both(file: &[u8]) -> BothLists
+// Document 02, ticket 10: "The 1989 (001) and 2008 (000) lists read the header differently; keep both"; "For an
+// accepted file with limits marked valid and word 52 zero, both show the same", and for no other accepted file. What
+// both lists show of a file; a refusal is the reader's, under 1989 with 5 in place of 4.
+pub fn animation_by_both(file: &[u8]) -> AnswersByList
     ensures exactly { λ b. ⌜ AcceptsBoth (now (file .entry)) b ⌝ }
     ensures accepted { λ b. ⌜ (AcceptsNeochrome (now (file .entry)) → ShowsBoth (now (file .entry)) b) ⌝ }
-    ensures refused { λ b. ⌜ RefusesAsRead (now (file .entry)) b ⌝ }
+    ensures as_read { λ b. ⌜ RefusesAsRead (now (file .entry)) b ⌝ }
+    ensures whole { λ b. ⌜ b ≡ answersByList (now (file .entry)) ⌝ }
 {
     let list_1989 = neochrome_animation::animation(LIST_1989, file);
     let list_2008 = neochrome_animation::animation(LIST_2008, file);
-    BothLists {
+    AnswersByList {
         list_1989,
         list_2008,
     }

@@ -107,7 +107,7 @@ const HEADERS: [(AnimationBytes, Shown, Shown); 24] = [
         (true, 6, 6, false, LEFT, 63, 0),
         (false, 0, 0, false, LEFT, 63, 0),
     ),
-    // Only one of the four words' bytes has its top bit set.
+    // The top bit of one byte, or of the step count's two.
     (
         [0x80, 0x00, 0x00, 0x00, 0x00, 0x00],
         (true, 0, 0, false, STOPPED, 0, 0),
@@ -133,7 +133,7 @@ const HEADERS: [(AnimationBytes, Shown, Shown); 24] = [
         (true, 0, 0, false, STOPPED, 0, 0),
         (false, 0, 0, false, STOPPED, 0, 32_896),
     ),
-    // All bits set, and all but those.
+    // All bits set, and all but the top ones.
     ([0xFF; 6], (true, 15, 15, true, LEFT, 0, 0), (true, 15, 15, true, LEFT, 0, 65_535)),
     ([0x7F; 6], (true, 7, 15, false, RIGHT, 126, 0), (false, 0, 0, false, RIGHT, 126, 32_639)),
 ];

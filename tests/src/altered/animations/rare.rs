@@ -37,7 +37,7 @@ pub const RARELY_WRONG_ANIMATIONS: [ShowAnimation; 10] = [
             }
         })
     },
-    // A blank file name turns the animation off.
+    // A file name of zeros turns the animation off.
     |list, file| shown_but(list, file, |answer| answer.on &= file[36..48] != [0; 12]),
     // The last byte of the screen counts.
     |list, file| shown_but(list, file, |answer| answer.on &= file[NEO_FILE_BYTES - 1] != 0xFF),
