@@ -12,10 +12,10 @@ __version__ = "0.8.0"
 
 # Public name: the module that has it.
 _PUBLIC = {
-    "Animation": "neochrome_animation",
     "BadImage": "images",
     "BadText": "legend",
     "Colour": "index",
+    "ColourAnimation": "neochrome_animation",
     "Direction": "neochrome_animation",
     "Entry": "legend",
     "File": "pictures",

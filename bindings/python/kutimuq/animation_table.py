@@ -3,9 +3,9 @@
 from __future__ import annotations
 
 from .library import RefusalNumber, Refused, meaning_of
-from .neochrome_animation import Animation, animation
+from .neochrome_animation import ColourAnimation, animation
 
-FIELDS = (*Animation._fields, "colours_cycle")
+FIELDS = (*ColourAnimation._fields, "colours_cycle")
 COLUMNS = ("list", *FIELDS, "refused")  # after the file's name
 
 
@@ -14,7 +14,7 @@ class ListedAnimation:
 
     def __init__(self, data: bytes, year: str):
         self.year = year
-        self.animation: Animation | None = None
+        self.animation: ColourAnimation | None = None
         self.refusal: Refused | None = None
         try:
             self.animation = animation(data, year)

@@ -19,7 +19,6 @@ from .files import (
     ERROR,
     FORMS,
     KINDS,
-    LIST_NAMES,
     UNKNOWN,
     Form,
     Found,
@@ -40,7 +39,7 @@ from .files import (
     title_of,
 )
 from .library import RefusalNumber, Refused, good_part, library, meaning_of
-from .neochrome_animation import animation
+from .neochrome_animation import cycling_lists, cycling_text
 from .pictures import Picture, Plate, read_any, write, write_plate
 
 # What a record holds, in the order of the CSV file. A record is a dict, so that it can be a line of JSON.
@@ -62,7 +61,7 @@ COLUMNS = (
     "sha256",
     "same_as",
     "error",
-    "colours_cycle",
+    "cycling_lists",
 )
 # The same for a file to convert: result, form, length, records and body are of the file that was written.
 CONVERTED_COLUMNS = (
@@ -103,7 +102,7 @@ def judge(name: str, kind: int | None = None) -> dict:
         return record
     record.update(accepted_fields(picture))
     if kind == Kind.NEO:
-        record["colours_cycle"] = cycling_lists(data)
+        record["cycling_lists"] = cycling_lists(data, record["resolution"])
     return record
 
 
@@ -154,19 +153,6 @@ def accepted_fields(picture: Picture | Plate) -> dict:
         fields["palette"] = list(picture.palette)
     fields["tally"] = list(picture.tally())
     return fields
-
-
-def cycling_lists(data: bytes) -> str:
-    """The years of the lists by which an accepted NEOchrome file's colours cycle."""
-    return " ".join(year for year in LIST_NAMES if animation(data, year).colours_cycle)
-
-
-def cycling_mark(record: dict) -> str:
-    """What is said of a file whose colours cycle, with the list where only one says so."""
-    years = (record["colours_cycle"] or "").split()
-    if not years:
-        return ""
-    return ", colours cycle" + (f" by the list of {years[0]}" if len(years) < len(LIST_NAMES) else "")
 
 
 def least_rewriting(picture: Picture | Plate) -> tuple[Form | None, bytes]:
@@ -328,7 +314,8 @@ def line_of(record: dict) -> str:
         line += f", resolution {record['resolution']}"
     if record["records"]:
         line += f", {record['records']} records, body {record['body']}"
-    line += cycling_mark(record)
+    if record["cycling_lists"]:
+        line += f", {cycling_text(record['cycling_lists'])}"
     if record["same_as"] is not None:
         line += f", same picture as {shown(record['same_as'])}"
     return line
@@ -359,11 +346,17 @@ def write_csv(output: Output, records: list[dict], columns: tuple[str, ...] = CO
     import io
 
     text = io.StringIO(newline="")
-    table = csv.DictWriter(text, columns, extrasaction="ignore", lineterminator="\n")
-    table.writeheader()
-    for record in records:
-        table.writerow({key: int(value) if isinstance(value, bool) else value for key, value in record.items()})
+    table = csv.writer(text, lineterminator="\n")
+    table.writerow(columns)
+    table.writerows([csv_cell(record[key]) for key in columns] for record in records)
     output.write(text.getvalue().encode("utf-8", "backslashreplace"))
+
+
+def csv_cell(value):
+    """A value of a record in CSV: truth as 0 or 1, the members of a list with a blank between."""
+    if isinstance(value, list):
+        return " ".join(map(str, value))
+    return int(value) if isinstance(value, bool) else value
 
 
 class Progress:

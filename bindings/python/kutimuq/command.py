@@ -17,6 +17,9 @@ from .files import (
     OUTPUT,
     PLATE_EXTENSIONS,
     PLATE_FORM,
+    Form,
+    Found,
+    Kind,
     Machine,
     Output,
     complain,
@@ -156,16 +159,29 @@ def legend_at(path: str | None):
 
 
 def read_named(name: str, options):
-    """The picture or plate in a file, after saying which kind it was found to be."""
+    """The picture or plate in a file, after saying which kind it was found to be and what of it will be left out."""
     from .pictures import read_any
 
     data = take(name)
-    if options.kind is not None:
-        return read_any(data, KIND_NAMES[options.kind])
-    found = find_kind(data, name)
-    if found.kind and not options.quiet:
-        complain(found, name)
-    return read_any(data, found.kind)
+    found = find_kind(data, name) if options.kind is None else Found(KIND_NAMES[options.kind], "option")
+    said = [str(found)] if options.kind is None and found.kind else []
+    try:
+        picture = read_any(data, found.kind)
+        said += left_out(data, picture, found.kind, getattr(options, "form", None))
+        return picture
+    finally:
+        if said and not options.quiet:
+            complain(", ".join(said), name)
+
+
+def left_out(data: bytes, picture, kind: int, form: str | None) -> list[str]:
+    """What is said where form neo, which is written without a colour animation, is made from a file that has one."""
+    if kind != Kind.NEO or form is None or FORM_NAMES.get(form) != Form.NEO:
+        return []
+    from .neochrome_animation import cycling_lists, cycling_text
+
+    years = cycling_lists(data, picture.resolution)
+    return [f"{cycling_text(years)}: colour animation left out"] if years else []
 
 
 def refuse(refusal, name: str) -> None:
@@ -446,9 +462,12 @@ def picture_encoder(options):
     words, tables = options.palette, None
     if options.like is not None:
         data = take(options.like)
-        model = read_any(data, find_kind(data, options.like).kind)
+        kind = find_kind(data, options.like).kind
+        model = read_any(data, kind)
         if isinstance(model, Plate):
             raise WrongUse(f"{shown(options.like)}: {NO_PICTURE}")
+        for said in left_out(data, model, kind, options.form):
+            complain(said, options.like)
         words = words or model.palette
         tables = model.tail if model.tail_present else None
     form = FORM_NAMES[options.form]
@@ -573,7 +592,7 @@ def records_command(options) -> int:
 
 
 def animation_command(options) -> int:
-    """`animation`: the colour animations of NEOchrome files, also of those in folders."""
+    """`animation`: the colour animations of files that are named, and of the NEOchrome files in folders."""
     from .animation_table import COLUMNS, ListedAnimation
     from .library import library
 
@@ -588,6 +607,8 @@ def animation_command(options) -> int:
         if name not in named and is_stream(name):
             raise OSError("not a file")
         data = take(name)
+        if name not in named and find_kind(data, name).kind != Kind.NEO:
+            return
         found = [ListedAnimation(data, year) for year in years]
         if options.json:
             give_json({"name": name, **one.json_object()} for one in found)

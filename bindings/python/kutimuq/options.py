@@ -218,6 +218,7 @@ KIND = Option(
 )
 QUIET = Option(("-q", "--quiet"), None, "do not say which kind was found")
 QUIET_ON_PALETTES = QUIET._replace(about="do not say which kind was found, or that a word has STE bits")
+QUIET_ON_FORMS = QUIET._replace(about="do not say which kind was found, or that a colour animation is left out")
 OUTPUT_FILE = Option(("-o", "--output"), "FILE", "where the result goes; default: standard output")
 FOLDER = Option(("-d", "--folder"), "FOLDER", "one result for each file, named after it, in this folder")
 RESULTS = Option(("-o", *FOLDER.names), "FOLDER", "where the results go; default: beside each file")
@@ -259,10 +260,12 @@ RESUME = Option(("--resume",), None, "take up an interrupted run that had the sa
 JSON_LINES = Option(
     ("--json",),
     None,
-    "in place of CSV a line of JSON for each record and each file's end, to standard output; takes no FILE",
+    "in place of CSV a line of JSON for each record and each file's end, to standard output; the option takes no FILE",
 )
 LAST = Option(("--last",), "N", "only the last N records of each file: those before the fault", parse_last)
-JSON_ROWS = JSON_LINES._replace(about="in place of CSV a line of JSON for each row, to standard output; takes no FILE")
+JSON_ROWS = JSON_LINES._replace(
+    about="in place of CSV a line of JSON for each row, to standard output; the option takes no FILE"
+)
 FORMAT_LIST = Option(
     ("--list",),
     "LIST",
@@ -277,7 +280,7 @@ TO_CHECK = (KIND, JSON, CSV, REPORT, LEGEND, MACHINE_OF_PAGE, JOBS, RESUME)
 TO_LIST_COLOURS = (MACHINE, KIND, QUIET_ON_PALETTES)
 TO_SHOW_COLOURS = (*TO_FILES, MACHINE)
 TO_ENVI = (*TO_SHOW_COLOURS, LEGEND)
-TO_FORM = (FORM, *TO_FILES)
+TO_FORM = (FORM, KIND, QUIET_ON_FORMS, OUTPUT_FILE, FOLDER)
 TO_CONVERT = (RESULTS, JSON, CSV)
 TO_ENCODE = (FORM, PALETTE, LIKE, MACHINE_OF_IMAGE, OUTPUT_FILE, FOLDER)
 TO_TALLY = (RECTANGLE, *SOURCES)
@@ -292,11 +295,14 @@ TO_LIST_ANIMATIONS = (FORMAT_LIST, JSON_ROWS)
 
 # More lines of help.
 ON_LISTS = (
+    "Of a folder only the files whose kind is NEOchrome, by content or extension as check finds it, are taken, those",
+    "below too; a file that is named always is, and judged as NEOchrome.",
     "Both lists have left and right limit in byte 49, on in the high bit of byte 50, a signed speed in byte 51.",
     "  1989: limits are always valid, and there is no step count; bytes 0 to 3 are the resolution, so that a flag",
     "        word that is not 0 is refused with 5.",
     "  2008: limits are valid where the high bit of byte 48 is set, and else shown as 0 and 0; word 52 is the step",
     "        count; a flag word that is not 0 is refused with 4.",
-    "colours_cycle is 1 where the animation is on, its direction is not stopped and its limits are valid.",
-    "No form that is written has this animation: convert --form neo leaves it out.",
+    "colours_cycle is 1 where the animation is on, its direction is not stopped and its limits are valid and differ;",
+    "the resolution is not looked at, though at high resolution white and black are fixed.",
+    "No form that is written has this animation: convert --form neo leaves it out, and says so where colours cycle.",
 )

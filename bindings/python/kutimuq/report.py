@@ -11,11 +11,12 @@ from html import escape
 from importlib.resources import files as package_files
 
 from . import __version__
-from .box import Check, cycling_mark, least_rewriting, spread_over
+from .box import Check, least_rewriting, spread_over
 from .files import Kind, Machine, kind_titled, shown, take
 from .images import PLATE_COLOURS
 from .index import STE_HINT, colours, has_ste_bits
 from .library import Refused, good_part
+from .neochrome_animation import cycling_text
 from .pictures import PLATE_SHAPE, Plate, Shape, read_any, shape
 
 TITLES = ("low", "medium", "high")
@@ -37,7 +38,7 @@ def page(check: Check, paths: list[str], legend, machine: Machine, jobs: int) ->
         "VERSION": __version__,
         "COUNTS": counts_line(accepted, refused, unread, len(check.records) - unread - refused - len(first)),
         "REFUSED": refused_table(check.records),
-        "DUPLICATES": duplicates_list(copies),
+        "DUPLICATES": duplicates_list(first, copies),
         "COLOURS": colours_line(first, machine),
         "PICTURES": figures(first, copies, machine, jobs),
         "DATA": data_of(first, legend, machine),
@@ -112,20 +113,37 @@ def size_of(record: dict) -> str:
     return f"{PLATE_SHAPE.width} x {PLATE_SHAPE.height}" if is_plate(record) else TITLES[record["resolution"]]
 
 
-def copies_of(records: list[dict]) -> dict[str, list[str]]:
-    """For the first file of each picture that is there more than once, the others."""
-    copies: dict[str, list[str]] = {}
+def copies_of(records: list[dict]) -> dict[str, list[dict]]:
+    """For the name of the first file of each picture that is there more than once, the others' records."""
+    copies: dict[str, list[dict]] = {}
     for record in records:
         if record["same_as"] is not None:
-            copies.setdefault(record["same_as"], []).append(record["name"])
+            copies.setdefault(record["same_as"], []).append(record)
     return copies
 
 
-def duplicates_list(copies: dict[str, list[str]]) -> str:
-    if not copies:
-        return "<p>None.</p>"
-    rows = (f"<li>{text(first)}: {', '.join(map(text, others))}</li>" for first, others in copies.items())
-    return "<ul>" + "\n".join(rows) + "</ul>"
+def duplicates_list(records: list[dict], copies: dict[str, list[dict]]) -> str:
+    """The pictures that are there more than once, each with the others after the first file."""
+    rows = []
+    for record in records:
+        if record["name"] in copies:
+            others = ", ".join(map(marked_name, copies[record["name"]]))
+            rows.append(f"<li>{marked_name(record)}: {others}</li>")
+    return "<ul>" + "\n".join(rows) + "</ul>" if rows else "<p>None.</p>"
+
+
+def marked_name(record: dict) -> str:
+    """A file's name as HTML, marked where its colours cycle."""
+    name = text(record["name"])
+    return f"{name} ({cycling_text(record['cycling_lists'])})" if record["cycling_lists"] else name
+
+
+def cycling_mark(record: dict, others: list[dict]) -> str:
+    """The mark of a picture whose colours cycle; where it is there more than once, with the files in which they do."""
+    cycling = [each for each in (record, *others) if each["cycling_lists"]]
+    if cycling and not others:
+        return f", {cycling_text(record['cycling_lists'])}"
+    return "".join(f"; {text(each['name'])}: {cycling_text(each['cycling_lists'])}" for each in cycling)
 
 
 def colours_line(records: list[dict], machine: Machine) -> str:
@@ -141,15 +159,16 @@ def ste_mark(record: dict, machine: Machine) -> str:
     return ", STE bits" if has_ste_bits(record["resolution"], record["palette"]) else ""
 
 
-def figures(records: list[dict], copies: dict[str, list[str]], machine: Machine, jobs: int) -> str:
+def figures(records: list[dict], copies: dict[str, list[dict]], machine: Machine, jobs: int) -> str:
     """The contact sheet."""
     sources = [(record["name"], record["kind"], record["sha256"], machine) for record in records]
     images = spread_over(image_of, sources, jobs)
     made = []
     for record, image in zip(records, images):
         name = text(record["name"])
-        more = f" and {len(copies[record['name']])} more" if record["name"] in copies else ""
-        marks = f"{cycling_mark(record)}{ste_mark(record, machine)}"
+        others = copies.get(record["name"], [])
+        more = f" and {len(others)} more" if others else ""
+        marks = f"{ste_mark(record, machine)}{cycling_mark(record, others)}"
         about = f"{escape(record['kind'])}, {size_of(record)}{more}{marks}"
         source = f"data:image/png;base64,{image}"
         picture = f'<img loading="lazy" alt="" src="{source}">' if image else "<p>changed since it was judged</p>"

@@ -17,7 +17,7 @@ import unittest
 from pathlib import Path
 
 import kutimuq
-from kutimuq import Animation, Direction, Form, FormatList, Kind
+from kutimuq import ColourAnimation, Direction, Form, FormatList, Kind
 
 from . import support
 from .support import BLANK, PALETTE, PYTHON, Case, command, noise, process
@@ -54,16 +54,16 @@ def shown(file):
 class Shown(Case):
     def test_all_fields(self):
         self.assertEqual(shown(neo(0x803C, 0x8005, 0x0102)), [
-            Animation(True, 3, 12, True, RIGHT, 4, 0),
-            Animation(True, 3, 12, True, RIGHT, 4, 0x0102),
+            ColourAnimation(True, 3, 12, True, RIGHT, 4, 0),
+            ColourAnimation(True, 3, 12, True, RIGHT, 4, 0x0102),
         ])
         self.assertEqual(shown(neo(0x003C, 0x00FB, 0x0102)), [
-            Animation(True, 3, 12, False, LEFT, 4, 0),
-            Animation(False, 0, 0, False, LEFT, 4, 0x0102),
+            ColourAnimation(True, 3, 12, False, LEFT, 4, 0),
+            ColourAnimation(False, 0, 0, False, LEFT, 4, 0x0102),
         ])
 
     def test_names_of_the_fields(self):
-        found = kutimuq.animation(neo(0x8012, 0x8005, 9))
+        found = kutimuq.animation(neo(0x8012, 0x8005, 9), 2008)
         self.assertEqual((found.limits_valid, found.left_limit, found.right_limit), (True, 1, 2))
         self.assertEqual((found.on, found.direction, found.vblanks, found.step_count), (True, RIGHT, 4, 9))
         self.assertIs(found.limits_valid, True)
@@ -124,19 +124,19 @@ class Shown(Case):
                 self.assertEqual(shown(changed), expected, place)
 
     def test_whether_colours_cycle(self):
-        for valid, on, direction in itertools.product((False, True), (False, True), Direction):
-            found = Animation(valid, 0, 0, on, direction, 0, 0)
-            self.assertIs(found.colours_cycle, valid and on and direction is not STOPPED)
+        for valid, on, direction, right in itertools.product((False, True), (False, True), Direction, range(5)):
+            found = ColourAnimation(valid, 3, right, on, direction, 0, 0)
+            self.assertIs(found.colours_cycle, valid and on and direction is not STOPPED and right != 3)
         self.assertEqual([found.colours_cycle for found in shown(CYCLES)], [True, True])
         self.assertEqual([found.colours_cycle for found in shown(CYCLES_BY_1989)], [True, False])
-        for still in (STILL, neo(speed=0x8000), bytes(32_128)):
+        for still in (STILL, neo(speed=0x8000), neo(limits=0x8033), neo(limits=0x8000), bytes(32_128)):
             self.assertEqual([found.colours_cycle for found in shown(still)], [False, False])
 
     def test_bytes_like_files(self):
         for kind in (bytearray, memoryview, lambda data: array.array("B", data)):
             self.assertEqual(shown(kind(DIFFERENT)), shown(DIFFERENT))
         for wrong in (array.array("H", CYCLES), "text", None):
-            self.assertRaises(TypeError, kutimuq.animation, wrong)
+            self.assertRaises(TypeError, kutimuq.animation, wrong, 2008)
 
     def test_the_public_name_is_the_function(self):
         program = "import kutimuq.command, kutimuq.animation_table; print(kutimuq.animation.__name__)"
@@ -154,7 +154,7 @@ class Lists(Case):
         for list_ in (2, 2008, "2008", FormatList.LIST_2008):
             self.assertEqual(kutimuq.animation(DIFFERENT, list_), new)
         self.assertEqual(kutimuq.animation(DIFFERENT, list_=1989), old)
-        self.assertEqual(kutimuq.animation(DIFFERENT), new)
+        self.assertRaises(TypeError, kutimuq.animation, DIFFERENT)
 
     def test_other_lists(self):
         for list_ in (0, 3, 255, 256, 257, 258, -1, -254, 1988, 2009, 1 << 64, (1 << 64) + 1):
@@ -281,6 +281,20 @@ class Table(TableCase):
         self.assertEqual([row[0] for row in csv.reader(lines[1:])], [paths[0], paths[2], paths[1]])
         self.assertEqual(error, "")
 
+    def test_other_kinds_in_a_folder(self):
+        padded = bytes(32_128)  # a raw DEGAS file, padded to blocks of 128 bytes
+        for name, data in (("a.pc1", BLANK), ("b.txt", b"text"), ("c.pi1", padded), ("d.tny", b""), ("e.mac", b"")):
+            self.save(name, data)
+        self.assertEqual(self.table(self.folder), ([HEADING], ""))
+        by_content, by_extension = self.save("f.pi1", CYCLES), self.save("g.neo", padded)
+        refused = self.save("h.NEO", CYCLES[:99])
+        lines, error = self.table("--list", 2008, self.folder, status=1)
+        taken = list(map(str, (by_content, by_extension, refused)))
+        self.assertEqual([row[0] for row in csv.reader(lines[1:])], taken)
+        self.assertEqual(error, f"kutimuq: {refused}: {WRONG_LENGTH}\n")
+        lines, _ = self.table("--list", 2008, self.folder, self.folder / "c.pi1", status=1)
+        self.assertEqual([row[0] for row in csv.reader(lines[1:])], [f"{self.folder}/c.pi1", *taken])
+
     def test_what_is_no_file_in_a_folder(self):
         good = self.save("b.neo", CYCLES)
         os.mkfifo(self.folder / "a.neo")
@@ -320,12 +334,64 @@ class Table(TableCase):
         ])
 
     def test_help(self):
+        self.assertIn("or that a colour animation is left out\n", command("convert", "--help").stdout.decode())
         told = command("animation", "--help").stdout.decode()
         self.assertIn("1989: limits are always valid", told)
         self.assertIn("2008: limits are valid where", told)
         self.assertIn("on, its direction is not stopped", told)
-        self.assertIn("convert --form neo leaves it out.\n\n  --list LIST ", told)
+        self.assertIn("says so where colours cycle.\n\n  --list LIST ", told)
+        self.assertIn("Of a folder only the files whose kind is NEOchrome", told)
+        self.assertIn("the option takes no FILE\n", told)
         self.assertNotIn("1989", command("records", "--help").stdout.decode())
+
+
+class LeftOut(TableCase):
+    """What is said where a file is written without its colour animation."""
+
+    SAID = "colours cycle: colour animation left out"
+    SAID_OF_1989 = "colours cycle by the list of 1989: colour animation left out"
+
+    def said(self, *arguments, data=b"", status=0):
+        done = command(*arguments, data=data)
+        self.assertEqual(done.returncode, status, done.stderr)
+        return done.stderr.decode()
+
+    def test_with_the_kind(self):
+        start = "kutimuq: standard input: NEOchrome by content"
+        for file, more in (
+            (CYCLES, f", {self.SAID}"), (neo(resolution=1), f", {self.SAID}"), (neo(resolution=2), ""),
+            (CYCLES_BY_1989, f", {self.SAID_OF_1989}"), (STILL, ""), (neo(limits=0x8033), ""),
+        ):
+            self.assertEqual(self.said("convert", "--form", "neo", data=file), f"{start}{more}\n")
+
+    def test_where_the_kind_is_named(self):
+        line = f"kutimuq: standard input: {self.SAID}\n"
+        self.assertEqual(self.said("convert", "--form", "neo", "--kind", "neo", data=CYCLES), line)
+        self.assertEqual(self.said("convert", "--form", "neo", "--kind", "neo", data=STILL), "")
+        self.assertEqual(self.said("convert", "--form", "neo", "-q", data=CYCLES), "")
+
+    def test_several_files(self):
+        moving, still = self.save("a.neo", CYCLES), self.save("b.neo", STILL)
+        said = self.said("convert", "--form", "neo", moving, still, "-d", self.folder / "out")
+        kind = "NEOchrome by content"
+        self.assertEqual(said, f"kutimuq: {moving}: {kind}, {self.SAID}\nkutimuq: {still}: {kind}\n")
+
+    def test_a_refused_file(self):
+        path = self.save("a.neo", neo(flag=1))
+        said = self.said("convert", "--form", "neo", path, status=1)
+        self.assertEqual(said, f"kutimuq: {path}: NEOchrome by extension\nkutimuq: {path}: {WRONG_FLAG}\n")
+
+    def test_other_forms_and_commands(self):
+        for arguments in (["convert", "--form", "plain"], ["convert", "--form", "elite"], ["png"], ["summary"]):
+            self.assertEqual(self.said(*arguments, data=CYCLES), "kutimuq: standard input: NEOchrome by content\n")
+
+    def test_a_picture_like_it(self):
+        image = command("png", data=CYCLES).stdout
+        moving, still = self.save("a.neo", CYCLES), self.save("b.neo", STILL)
+        said = self.said("encode", "--form", "neo", "--like", moving, data=image)
+        self.assertEqual(said, f"kutimuq: {moving}: {self.SAID}\n")
+        self.assertEqual(self.said("encode", "--form", "neo", "--like", still, data=image), "")
+        self.assertEqual(self.said("encode", "--form", "plain", "--like", moving, data=image), "")
 
 
 class Json(TableCase):
@@ -414,7 +480,7 @@ class Checked(TableCase):
         super().setUp()
         self.save("a.neo", CYCLES)
         self.save("b.neo", neo(limits=0x003C, resolution=1))
-        self.save("c.neo", neo(speed=0x00FF, resolution=2))
+        self.save("c.neo", neo(resolution=2))
         self.save("d.neo", STILL)
         self.save("e.neo", neo(flag=1))
         self.save("f.pc1", BLANK)
@@ -439,18 +505,43 @@ class Checked(TableCase):
         results = self.folder.parent
         self.check("--json", results / "json", "--csv", results / "csv")
         records = [json.loads(line) for line in (results / "json").read_text().splitlines()]
-        self.assertEqual([one["colours_cycle"] for one in records], ["1989 2008", "1989", "", "", None, None])
+        self.assertEqual([one["cycling_lists"] for one in records], [[1989, 2008], [1989], [], [], None, None])
         with open(results / "csv", newline="") as table:
             rows = list(csv.DictReader(table))
-        self.assertEqual([row["colours_cycle"] for row in rows], ["1989 2008", "1989", "", "", "", ""])
+        self.assertEqual([row["cycling_lists"] for row in rows], ["1989 2008", "1989", "", "", "", ""])
+
+    def page(self, machine="ste"):
+        """The report page's captions and its list of duplicates."""
+        path = self.folder.parent / "page.html"
+        self.check("--machine", machine, "--report", path)
+        page = path.read_text()
+        return re.findall("<figcaption>(.*?)</figcaption>", page), re.findall("<li>(.*?)</li>", page)
 
     def test_page(self):
-        path = self.folder.parent / "page.html"
-        self.check("--machine", "ste", "--report", path)
-        captions = re.findall("<figcaption>(.*?)</figcaption>", path.read_text())
+        captions, duplicates = self.page()
         self.assertEqual(captions, [
-            "<b>a.neo</b> NEOchrome, low and 1 more, colours cycle",
+            f"<b>a.neo</b> NEOchrome, low and 1 more; {self.folder}/a.neo: colours cycle",
             "<b>b.neo</b> NEOchrome, medium, colours cycle by the list of 1989",
             "<b>c.neo</b> NEOchrome, high",
             "<b>f.pc1</b> DEGAS, low",
         ])
+        self.assertEqual(duplicates, [f"{self.folder}/a.neo (colours cycle): {self.folder}/d.neo"])
+
+    def test_page_where_a_later_file_cycles(self):
+        self.save("a.neo", STILL)
+        self.save("d&.neo", CYCLES_BY_1989)
+        self.save("e.neo", CYCLES)
+        self.save("g.neo", neo(flag=1))
+        box = self.folder
+        captions, duplicates = self.page("st")
+        said = f"; {box}/d&amp;.neo: colours cycle by the list of 1989; {box}/e.neo: colours cycle"
+        self.assertEqual(captions[0], f"<b>a.neo</b> NEOchrome, low and 3 more, STE bits{said}")
+        others = f"{box}/d&amp;.neo (colours cycle by the list of 1989), {box}/d.neo, {box}/e.neo (colours cycle)"
+        self.assertEqual(duplicates, [f"{box}/a.neo: {others}"])
+
+    def test_page_where_a_picture_of_another_kind_comes_first(self):
+        picture = kutimuq.read(CYCLES, Kind.NEO)
+        self.save("_.pi1", kutimuq.write(picture, picture.screen, Form.PLAIN))
+        captions, duplicates = self.page()
+        self.assertEqual(captions[0], f"<b>_.pi1</b> DEGAS, low and 2 more; {self.folder}/a.neo: colours cycle")
+        self.assertEqual(duplicates, [f"{self.folder}/_.pi1: {self.folder}/a.neo (colours cycle), {self.folder}/d.neo"])

@@ -203,6 +203,8 @@ class Tables(Box):
             for key in box.COLUMNS:
                 value = record[key]
                 told = int(value) if isinstance(value, bool) else value
+                if isinstance(value, list):
+                    told = " ".join(map(str, value))
                 self.assertEqual(row[key], "" if told is None else str(told))
 
     def test_own_results_are_no_part_of_the_box(self):
