@@ -17,7 +17,6 @@ from .files import (
     OUTPUT,
     PLATE_EXTENSIONS,
     PLATE_FORM,
-    Form,
     Found,
     Kind,
     Machine,
@@ -175,8 +174,8 @@ def read_named(name: str, options):
 
 
 def left_out(data: bytes, picture, kind: int, form: str | None) -> list[str]:
-    """What is said where form neo, which is written without a colour animation, is made from a file that has one."""
-    if kind != Kind.NEO or form is None or FORM_NAMES.get(form) != Form.NEO:
+    """What is said where a form is made from a NEOchrome file whose colours cycle: none has its colour animation."""
+    if kind != Kind.NEO or form is None:
         return []
     from .neochrome_animation import cycling_lists, cycling_text
 

@@ -304,5 +304,5 @@ ON_LISTS = (
     "        count; a flag word that is not 0 is refused with 4.",
     "colours_cycle is 1 where the animation is on, its direction is not stopped and its limits are valid and differ;",
     "the resolution is not looked at, though at high resolution white and black are fixed.",
-    "No form that is written has this animation: convert --form neo leaves it out, and says so where colours cycle.",
+    "No form that is written has this animation: convert leaves it out, and says so where colours cycle.",
 )

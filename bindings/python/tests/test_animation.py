@@ -382,8 +382,11 @@ class LeftOut(TableCase):
         self.assertEqual(said, f"kutimuq: {path}: NEOchrome by extension\nkutimuq: {path}: {WRONG_FLAG}\n")
 
     def test_other_forms_and_commands(self):
-        for arguments in (["convert", "--form", "plain"], ["convert", "--form", "elite"], ["png"], ["summary"]):
-            self.assertEqual(self.said(*arguments, data=CYCLES), "kutimuq: standard input: NEOchrome by content\n")
+        start = "kutimuq: standard input: NEOchrome by content"
+        for form in ("plain", "elite"):
+            self.assertEqual(self.said("convert", "--form", form, data=CYCLES), f"{start}, {self.SAID}\n")
+        for name in ("png", "summary"):
+            self.assertEqual(self.said(name, data=CYCLES), f"{start}\n")
 
     def test_a_picture_like_it(self):
         image = command("png", data=CYCLES).stdout
@@ -391,7 +394,8 @@ class LeftOut(TableCase):
         said = self.said("encode", "--form", "neo", "--like", moving, data=image)
         self.assertEqual(said, f"kutimuq: {moving}: {self.SAID}\n")
         self.assertEqual(self.said("encode", "--form", "neo", "--like", still, data=image), "")
-        self.assertEqual(self.said("encode", "--form", "plain", "--like", moving, data=image), "")
+        said = self.said("encode", "--form", "plain", "--like", moving, data=image)
+        self.assertEqual(said, f"kutimuq: {moving}: {self.SAID}\n")
 
 
 class Json(TableCase):
