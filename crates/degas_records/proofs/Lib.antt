@@ -3,7 +3,6 @@ pub mod Examples
 pub mod Induction
 pub mod Listing
 pub mod Opening
-pub mod Reader
 pub mod Reading
 pub mod Steps
 pub mod Unpacking

@@ -2,5 +2,4 @@ pub mod Answers
 pub mod BodyRecords
 pub mod Listing
 pub mod Opening
-pub mod Reader
 pub mod Steps

@@ -1,6 +1,6 @@
--- `degas_records::read_record` meets its contract: a walk of its MIR, by hand. The borrow is opened, `step_at` is called
--- on copies of the struct's fields, the parts of the cursor that it gives are stored beside the slice, and the borrow
--- is closed at the struct with these. What a number owns is made anew.
+-- `degas_record_reader::read_record` meets its contract: a walk of its MIR, by hand. The borrow is opened, `step_at` is
+-- called on copies of the struct's fields, the parts of the cursor that it gives are stored beside the slice, and the
+-- borrow is closed at the struct with these. What a number owns is made anew.
 use mathlib.Core.Path.{_≡_, refl, ap}
 use Prim.Native.Nat.{ℕ}
 use mathlib.Core.List.{List, [], _∷_}
@@ -47,25 +47,25 @@ use denote.Triple.Spec.{Meets, tripleOf}
 use denote.Triple.Table.{entered, cited}
 use denote.Triple.Walked.{says, Stays, stay-ref, walkOf, goes-ref, Walks, ends-at, walked, walk-meets}
 use denote.Triple.Clauses.{ensured, lasts}
-use Rattle.degas_records.specs.Reader.{movedTo, stepOf}
+use Rattle.degas_record_reader.specs.Reader.{movedTo, stepOf}
 use Rattle.degas_records.specs.declared.RecordCursor.{RecordCursor}
-use Rattle.degas_records.specs.declared.RecordReader.{RecordReader}
+use Rattle.degas_record_reader.specs.declared.RecordReader.{RecordReader}
 use Rattle.degas_records.specs.declared.Stepped.{Stepped}
-use Rattle.degas_records.proofs.RecordReader as T
-use Rattle.degas_records.proofs.RecordReader.Laws as T′
+use Rattle.degas_record_reader.proofs.RecordReader as T
+use Rattle.degas_record_reader.proofs.RecordReader.Laws as T′
 use Rattle.degas_records.proofs.RecordCursor.Laws as Cur′
 use Rattle.degas_records.proofs.Found as F
 use Rattle.degas_records.proofs.Found.Laws as F′
 use Rattle.degas_records.proofs.Stepped as S
 use Rattle.degas_records.proofs.Stepped.Laws as S′
-use Rattle.degas_records.proofs.step_at as step
-use Rattle.degas_records.proofs.step_at.Symbol as step-def
-use Rattle.degas_records.proofs.step_at.Symbol.{name as #degas-records·step-at}
-use Rattle.degas_records.proofs.step_at.Met as step-thm
-use Rattle.degas_records.proofs.read_record.Key.{name as #degas-records·read-record}
-use Rattle.degas_records.proofs.read_record as reads
-use Rattle.degas_records.proofs.read_record.Statement as stated
-use Rattle.degas_records.proofs.read_record.Code as code
+use Rattle.degas_record_reader.proofs.step_at as step
+use Rattle.degas_record_reader.proofs.step_at.Symbol as step-def
+use Rattle.degas_record_reader.proofs.step_at.Symbol.{name as #degas-record-reader·step-at}
+use Rattle.degas_record_reader.proofs.step_at.Met as step-thm
+use Rattle.degas_record_reader.proofs.read_record.Key.{name as #degas-record-reader·read-record}
+use Rattle.degas_record_reader.proofs.read_record as reads
+use Rattle.degas_record_reader.proofs.read_record.Statement as stated
+use Rattle.degas_record_reader.proofs.read_record.Code as code
 
 -- `RecordReader<'a>`, as the referent's place in the signature
 abbrev behind : Slot 2
@@ -241,7 +241,7 @@ module _ {M : Type 1} (𝓤 : URA M) (H : Heap 𝓤) (A : Atoms 𝓤) (W : Given
       move ! (2 ∷ 3 ∷ []) $ join ! $ frame ! $ feqI ! (List Val) (vptr b o ∷ []) (vptr b o ∷ []) refl $ fjoin3 ! $
       nothing ! $ move ! (1 ∷ 0 ∷ []) $ fjoin ! $ done !
 
-  module _ (C : Calls 𝓤 H) (Λ : Loops 𝓤 H) (fm : FmC 𝓤 H (W .laws) C) (known : Triple 𝓤 (C #degas-records·step-at)
+  module _ (C : Calls 𝓤 H) (Λ : Loops 𝓤 H) (fm : FmC 𝓤 H (W .laws) C) (known : Triple 𝓤 (C #degas-record-reader·step-at)
       (Step 𝓤 H A at-mem run)) where
     walk : ent 𝓤 (onEntry 𝓤 H A reads.signature (κ, (κ′, tt)) (q, (q′, tt)) x at) (WpFn 𝓤 H C Λ code.function (vptr b
         o ∷ []) Post)
@@ -323,7 +323,7 @@ module _ {M : Type 1} (𝓤 : URA M) (H : Heap 𝓤) (A : Atoms 𝓤) (W : Given
 module _ {M : Type 1} (𝓤 : URA M) (H : Heap 𝓤) (A : Atoms 𝓤) (W : Given 𝓤 H A) (mem : Memory → SProp 𝓤) (run : Routine
     → Fun 𝓤) where
   reads-walks : (C : Calls 𝓤 H) (Λ : Loops 𝓤 H) → FmC 𝓤 H (W .laws) C
-      → Triple 𝓤 (C #degas-records·step-at) (Step 𝓤 H A mem run)
+      → Triple 𝓤 (C #degas-record-reader·step-at) (Step 𝓤 H A mem run)
       → Walks 𝓤 H A reads.ended stayed (WpFn 𝓤 H C Λ code.function) (reads.clauses 𝓤 H A mem run)
   reads-walks C Λ fm known = walked 𝓤 H A reads.ended stayed (reads.clauses 𝓤 H A mem run) (WpFn 𝓤 H C Λ
       code.function) (λ κs. (ptr-vals, tt)) (λ κs. (mut-tells (named 0) (κs .0) (T.the-row (namedLft 2 1 tt κs)), tt))
@@ -332,7 +332,7 @@ module _ {M : Type 1} (𝓤 : URA M) (H : Heap 𝓤) (A : Atoms 𝓤) (W : Given
 
 reads-meets : {M : Type 1} (𝓤 : URA M) (H : Heap 𝓤) (A : Atoms 𝓤) (W : Given 𝓤 H A) (mem : Memory
     → SProp 𝓤) (run : Routine → Fun 𝓤) (𝓣 : Tables 𝓤 H)
-    → Triple 𝓤 (𝓣 .C #degas-records·step-at) (Step 𝓤 H A mem run)
+    → Triple 𝓤 (𝓣 .C #degas-record-reader·step-at) (Step 𝓤 H A mem run)
     → Meets 𝓤 H A reads.signature (WpFn 𝓤 H (𝓣 .C) (𝓣 .Λ) code.function) (reads.spec 𝓤 H A mem run)
 reads-meets 𝓤 H A W mem run 𝓣 known = walk-meets 𝓤 H A reads.ended stayed W (goes-ref 𝓤 H A W 2 0 tt behind, tt)
     (reads.clauses 𝓤 H A mem run) (WpFn 𝓤 H (𝓣 .C) (𝓣 .Λ) code.function) (WpFn-mono 𝓤 H (W .laws) 𝓣 code.function)
@@ -342,8 +342,8 @@ pub read-record-spec : {M : Type 1} → stated.statement M
 unfolding code.routine tablesOf
 read-record-spec 𝓤 H 𝓜 𝓖 𝓡 =
     entered 𝓤 H (tripleOf 𝓤 H (𝓖 .A) reads.signature (reads.spec 𝓤 H (𝓖 .A) (𝓜 .mem) (𝓡 .run)))
-    (tables 𝓤 H 𝓜 𝓡 code.env .C) (tables 𝓤 H 𝓜 𝓡 code.env .Λ) #degas-records·read-record code.function (code.unfolded
-    𝓤 H 𝓜 𝓡)
+    (tables 𝓤 H 𝓜 𝓡 code.env .C) (tables 𝓤 H 𝓜 𝓡 code.env .Λ) #degas-record-reader·read-record code.function
+    (code.unfolded 𝓤 H 𝓜 𝓡)
     (reads-meets 𝓤 H (𝓖 .A) (givenOf 𝓤 H 𝓜 𝓖) (𝓜 .mem) (𝓡 .run) (tablesOf 𝓤 H 𝓜 (tables 𝓤 H 𝓜 𝓡 code.env))
-    (cited 𝓤 H (Step 𝓤 H (𝓖 .A) (𝓜 .mem) (𝓡 .run)) 𝓜 𝓡 code.env #degas-records·step-at step-def.routine
-    code.calls-degas-records·step-at (step-thm.met 𝓤 H 𝓜 𝓖 𝓡)))
+    (cited 𝓤 H (Step 𝓤 H (𝓖 .A) (𝓜 .mem) (𝓡 .run)) 𝓜 𝓡 code.env #degas-record-reader·step-at step-def.routine
+    code.calls-degas-record-reader·step-at (step-thm.met 𝓤 H 𝓜 𝓖 𝓡)))

@@ -1,6 +1,6 @@
--- `degas_records::open_reader` meets its contract: a walk of its MIR, by hand. `opening_cursor` is called on the slice,
--- and a `RecordReader` is made of the slice and of the parts of the cursor that it gives. A `&[u8]` is Copy: what it
--- owns goes to the callee, to the exit, and into the result; what a number owns is made anew.
+-- `degas_record_reader::open_reader` meets its contract: a walk of its MIR, by hand. `opening_cursor` is called on the
+-- slice, and a `RecordReader` is made of the slice and of the parts of the cursor that it gives. A `&[u8]` is Copy: what
+-- it owns goes to the callee, to the exit, and into the result; what a number owns is made anew.
 use mathlib.Core.Path.{_≡_, refl, ap}
 use Prim.Native.Nat.{ℕ}
 use mathlib.Core.List.{List, [], _∷_}
@@ -41,21 +41,21 @@ use denote.Triple.Table.{entered, cited}
 use denote.Triple.Walked.{says, Stays, stay-none-slice, walkOf, goes-none-slice, Walks, ends-at, walked, walk-meets}
 use denote.Exit.{yes}
 use denote.Triple.Clauses.{ensured, lasts}
 use Rattle.degas_records.specs.Opening.{packedOpening}
 use Rattle.degas_records.specs.Answers.{cursorAnswer}
 use Rattle.degas_records.specs.declared.RecordCursor.{RecordCursor}
-use Rattle.degas_records.proofs.RecordReader as T
-use Rattle.degas_records.proofs.RecordReader.Laws as T′
+use Rattle.degas_record_reader.proofs.RecordReader as T
+use Rattle.degas_record_reader.proofs.RecordReader.Laws as T′
 use Rattle.degas_records.proofs.RecordCursor as Cur
 use Rattle.degas_records.proofs.RecordCursor.Laws as Cur′
-use Rattle.degas_records.proofs.opening_cursor as opening
-use Rattle.degas_records.proofs.opening_cursor.Symbol as opening-def
-use Rattle.degas_records.proofs.opening_cursor.Symbol.{name as #degas-records·opening-cursor}
-use Rattle.degas_records.proofs.opening_cursor.Met as opening-thm
-use Rattle.degas_records.proofs.open_reader.Key.{name as #degas-records·open-reader}
-use Rattle.degas_records.proofs.open_reader as opens
-use Rattle.degas_records.proofs.open_reader.Statement as stated
-use Rattle.degas_records.proofs.open_reader.Code as code
+use Rattle.degas_record_reader.proofs.opening_cursor as opening
+use Rattle.degas_record_reader.proofs.opening_cursor.Symbol as opening-def
+use Rattle.degas_record_reader.proofs.opening_cursor.Symbol.{name as #degas-record-reader·opening-cursor}
+use Rattle.degas_record_reader.proofs.opening_cursor.Met as opening-thm
+use Rattle.degas_record_reader.proofs.open_reader.Key.{name as #degas-record-reader·open-reader}
+use Rattle.degas_record_reader.proofs.open_reader as opens
+use Rattle.degas_record_reader.proofs.open_reader.Statement as stated
+use Rattle.degas_record_reader.proofs.open_reader.Code as code
 
 abbrev stayed : Stays (opens.ended .signature .params) (opens.ended .kept)
 stayed = (stay-none-slice (0 ∷ []) tt (plain (λ _. u8)) yes, tt)
@@ -157,7 +157,7 @@ module _ {M : Type 1} (𝓤 : URA M) (H : Heap 𝓤) (A : Atoms 𝓤) (W : Given
       by ! (own-shut 𝓤 H A W (T.the-type α) (T′.the-laws α) (s, (c .offset, (c .«plane_row», (c .«good_bytes», tt)))))
 
   module _ (C : Calls 𝓤 H) (Λ : Loops 𝓤 H) (fm : FmC 𝓤 H (W .laws) C) (known : Triple 𝓤 (C
-      #degas-records·opening-cursor) (OpeningCursor 𝓤 H A mem run)) where
+      #degas-record-reader·opening-cursor) (OpeningCursor 𝓤 H A mem run)) where
     walk : Is (ShrSlice (named 0) κ u8) s (v ∷ [])
         → ent 𝓤 (onEntry 𝓤 H A opens.signature (κ, tt) (q, tt) (s, tt) at) (WpFn 𝓤 H C Λ code.function (v ∷ []) Post)
     walk p =
@@ -193,7 +193,7 @@ module _ {M : Type 1} (𝓤 : URA M) (H : Heap 𝓤) (A : Atoms 𝓤) (W : Given
 module _ {M : Type 1} (𝓤 : URA M) (H : Heap 𝓤) (A : Atoms 𝓤) (W : Given 𝓤 H A) (mem : Memory → SProp 𝓤) (run : Routine
     → Fun 𝓤) where
   open-walks : (C : Calls 𝓤 H) (Λ : Loops 𝓤 H) → FmC 𝓤 H (W .laws) C
-      → Triple 𝓤 (C #degas-records·opening-cursor) (OpeningCursor 𝓤 H A mem run)
+      → Triple 𝓤 (C #degas-record-reader·opening-cursor) (OpeningCursor 𝓤 H A mem run)
       → Walks 𝓤 H A opens.ended stayed (WpFn 𝓤 H C Λ code.function) (opens.clauses 𝓤 H A mem run)
   open-walks C Λ fm known = walked 𝓤 H A opens.ended stayed (opens.clauses 𝓤 H A mem run) (WpFn 𝓤 H C Λ code.function)
       (λ κs. (slice-vals, tt)) (λ κs. (shr-slice-tells (named 0) (κs .0) u8, tt))
@@ -202,7 +202,7 @@ module _ {M : Type 1} (𝓤 : URA M) (H : Heap 𝓤) (A : Atoms 𝓤) (W : Given
 
 open-meets : {M : Type 1} (𝓤 : URA M) (H : Heap 𝓤) (A : Atoms 𝓤) (W : Given 𝓤 H A) (mem : Memory
     → SProp 𝓤) (run : Routine → Fun 𝓤) (𝓣 : Tables 𝓤 H)
-    → Triple 𝓤 (𝓣 .C #degas-records·opening-cursor) (OpeningCursor 𝓤 H A mem run)
+    → Triple 𝓤 (𝓣 .C #degas-record-reader·opening-cursor) (OpeningCursor 𝓤 H A mem run)
     → Meets 𝓤 H A opens.signature (WpFn 𝓤 H (𝓣 .C) (𝓣 .Λ) code.function) (opens.spec 𝓤 H A mem run)
 open-meets 𝓤 H A W mem run 𝓣 known = walk-meets 𝓤 H A opens.ended stayed W (
   goes-none-slice 𝓤 H A W 1 (0 ∷ []) tt
@@ -216,8 +216,8 @@ pub open-reader-spec : {M : Type 1} → stated.statement M
 unfolding code.routine tablesOf
 open-reader-spec 𝓤 H 𝓜 𝓖 𝓡 =
     entered 𝓤 H (tripleOf 𝓤 H (𝓖 .A) opens.signature (opens.spec 𝓤 H (𝓖 .A) (𝓜 .mem) (𝓡 .run)))
-    (tables 𝓤 H 𝓜 𝓡 code.env .C) (tables 𝓤 H 𝓜 𝓡 code.env .Λ) #degas-records·open-reader code.function (code.unfolded
-    𝓤 H 𝓜 𝓡)
+    (tables 𝓤 H 𝓜 𝓡 code.env .C) (tables 𝓤 H 𝓜 𝓡 code.env .Λ) #degas-record-reader·open-reader code.function
+    (code.unfolded 𝓤 H 𝓜 𝓡)
     (open-meets 𝓤 H (𝓖 .A) (givenOf 𝓤 H 𝓜 𝓖) (𝓜 .mem) (𝓡 .run) (tablesOf 𝓤 H 𝓜 (tables 𝓤 H 𝓜 𝓡 code.env))
-    (cited 𝓤 H (OpeningCursor 𝓤 H (𝓖 .A) (𝓜 .mem) (𝓡 .run)) 𝓜 𝓡 code.env #degas-records·opening-cursor
-    opening-def.routine code.calls-degas-records·opening-cursor (opening-thm.met 𝓤 H 𝓜 𝓖 𝓡)))
+    (cited 𝓤 H (OpeningCursor 𝓤 H (𝓖 .A) (𝓜 .mem) (𝓡 .run)) 𝓜 𝓡 code.env #degas-record-reader·opening-cursor
+    opening-def.routine code.calls-degas-record-reader·opening-cursor (opening-thm.met 𝓤 H 𝓜 𝓖 𝓡)))

@@ -2,14 +2,14 @@
 use mathlib.Core.Path.{_≡_, refl, ap, _∙_}
 use Prim.Native.Nat.{ℕ, zero, suc}
 use denote.Ref.{now}
 use Rattle.degas_records.specs.declared.RecordCursor.{RecordCursor}
-use Rattle.degas_records.specs.declared.RecordReader.{RecordReader}
+use Rattle.degas_record_reader.specs.declared.RecordReader.{RecordReader}
 use Rattle.degas_records.specs.Opening.{packedOpening}
 use Rattle.degas_records.specs.Listing.{listed}
 use Rattle.degas_records.specs.Steps.{steps}
 use Rattle.degas_records.specs.Answers.{cursorAnswer}
-use Rattle.degas_records.specs.Reader.{cursorOf, stepOf, afterStep, afterSteps}
+use Rattle.degas_record_reader.specs.Reader.{cursorOf, stepOf, afterStep, afterSteps}
 use Rattle.degas_records.proofs.Reading.{steps-listed}
 
 -- step k of a reader is step k from its cursor
 reader-steps : (k : ℕ) (r : RecordReader) → stepOf (afterSteps k r) .found ≡ steps (now (r .file)) (cursorOf r) k

@@ -1,11 +1,11 @@
 -- The record reader that stays open on the caller's file bytes (document 02, ticket 13).
 use Prim.Native.Nat.{ℕ, zero, suc}
 use denote.Ref.{now}
 use Rattle.degas_records.specs.declared.RecordCursor.{RecordCursor}
-use Rattle.degas_records.specs.declared.RecordReader.{RecordReader}
+use Rattle.degas_record_reader.specs.declared.RecordReader.{RecordReader}
 use Rattle.degas_records.specs.declared.Stepped.{Stepped}
 use Rattle.degas_records.specs.Listing.{cursorAt}
 use Rattle.degas_records.specs.Steps.{stepped}
 
 -- where a reader stands
 abbrev pub cursorOf : RecordReader → RecordCursor
