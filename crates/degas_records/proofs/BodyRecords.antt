@@ -4,7 +4,6 @@ use Prim.Native.Nat.{ℕ, _+_, _≤_, _<_}
 use native.Mathlib.Omega.{arith}
 use mathlib.Core.List.{List, [], _∷_}
 use lib.ListN.{getD}
-use Rattle.packbits.specs.declared.Record.the-variants as R
 use Rattle.packbits.specs.Records.{packedLen, rowLen}
 use Rattle.packbits.proofs.Records.{control-takes}
 use Rattle.degas_records.specs.declared.ListedRecord.{ListedRecord}

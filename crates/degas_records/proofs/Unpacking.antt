@@ -22,7 +22,8 @@ use Rattle.packbits.proofs.RowsFrom.{recordBefore}
 use Rattle.degas_records.specs.declared.ListedRecord.{ListedRecord}
 use Rattle.degas_records.specs.declared.RecordKind.the-variants.{Literal, Repeat, Nothing}
 use Rattle.degas_records.specs.Listing.{cursorAt, listedKind, listedAs, recordsFrom}
-use Rattle.degas_records.specs.BodyRecords.{controlAt, kindAt, listedAt, BodyRecords, recordOf, rowMade, Unpacking}
+use Rattle.degas_records.specs.BodyRecords.{controlAt, kindAt, listedAt, BodyRecords, recordOf, rowMade}
+use Rattle.degas_records.specs.BodyRecords.{Unpacking}
 use Rattle.degas_records.proofs.Induction.{Stands, by-records}
 
 -- ---- one record

@@ -1,5 +1,5 @@
--- The records of a body, said without the functions that list them, and what they make (document 02, ticket 13: "in file
--- order, each once"; "together they make the same screen"): a record is what its control byte says (`control`).
+-- The records of a body, said without the functions that list them, and what they make (document 02, ticket 13: "in
+-- file order, each once"; "together they make the same screen"): a record is what its control byte says (`control`).
 use Prim.Native.Nat.{ℕ, _+_, _/_}
 use mathlib.Core.Path.{_≡_}
 use mathlib.Core.Bool.{cond}

@@ -1,6 +1,6 @@
 -- `degas_record_reader::open_reader` meets its contract: a walk of its MIR, by hand. `opening_cursor` is called on the
--- slice, and a `RecordReader` is made of the slice and of the parts of the cursor that it gives. A `&[u8]` is Copy: what
--- it owns goes to the callee, to the exit, and into the result; what a number owns is made anew.
+-- slice, and a `RecordReader` is made of the slice and of the parts of the cursor that it gives. A `&[u8]` is Copy:
+-- what it owns goes to the callee, to the exit, and into the result; what a number owns is made anew.
 use mathlib.Core.Path.{_≡_, refl, ap}
 use Prim.Native.Nat.{ℕ}
 use mathlib.Core.List.{List, [], _∷_}
