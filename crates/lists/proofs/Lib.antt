@@ -6,6 +6,7 @@ pub mod Flatten
 pub mod Over
 pub mod Parts
 pub mod Pieces
+pub mod Repeated
 pub mod Stores
 pub mod Sum
 pub mod Tabulate

@@ -2,6 +2,7 @@ pub mod All
 pub mod Bytes
 pub mod Digits
 pub mod Over
+pub mod Repeated
 pub mod Stores
 pub mod Sum
 pub mod Tabulate

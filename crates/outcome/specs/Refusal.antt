@@ -30,7 +30,7 @@ inputEnds = 6
 abbrev pub recordCrosses : ℕ
 recordCrosses = 7
 
--- after the body not exactly the bytes that the format has there: 32 of DEGAS, none of MacPaint
+-- after the body not exactly the bytes that the format has there: 32 of DEGAS, none of MacPaint or GEM IMG
 abbrev pub wrongTail : ℕ
 wrongTail = 8
 
@@ -69,3 +69,11 @@ notOwned = 19
 -- MacPaint version neither 0 nor 2
 abbrev pub wrongVersion : ℕ
 wrongVersion = 20
+
+-- a GEM IMG header outside the screen profile
+abbrev pub outsideProfile : ℕ
+outsideProfile = 21
+
+-- a scanline run of a GEM IMG file out of place, or its flag or count wrong
+abbrev pub wrongScanlineRun : ℕ
+wrongScanlineRun = 22

@@ -24,7 +24,8 @@ pub const INPUT_ENDS: u8 = 6;
 // A record crosses its row's end.
 pub const RECORD_CROSSES: u8 = 7;
 
-// After the packed body there are not exactly the bytes that the format has there: 32 of DEGAS, none of MacPaint.
+// After the packed body there are not exactly the bytes that the format has there: 32 of DEGAS, none of MacPaint or GEM
+// IMG.
 pub const WRONG_TAIL: u8 = 8;
 
 // No packed body below the format's limit exists: 32,000 bytes of DEGAS, 51,200 of MacPaint.
@@ -53,6 +54,12 @@ pub const NOT_OWNED: u8 = 19;
 
 // The version of a MacPaint file is neither 0 nor 2.
 pub const WRONG_VERSION: u8 = 20;
+
+// The header of a GEM IMG file is outside the screen profile.
+pub const OUTSIDE_PROFILE: u8 = 21;
+
+// A scanline run of a GEM IMG file is out of place, or its flag or count is wrong.
+pub const WRONG_SCANLINE_RUN: u8 = 22;
 
 // Why an input is refused. All are 0 where it is accepted.
 #[repr(C)]
