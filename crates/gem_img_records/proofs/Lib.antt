@@ -1,0 +1,4 @@
+pub mod Line
+pub mod MakesLine
+pub mod Records
+pub mod WholeRecord
