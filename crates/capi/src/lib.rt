@@ -19,6 +19,7 @@ ghost use Rattle.reader.specs.Reading.{readFile};
 ghost use Rattle.writer.specs.Writing.{writeFile};
 ghost use Rattle.bodies.specs.Reading.{bodyArea};
 ghost use Rattle.bodies.specs.Unpacking.{unpackedAnswer};
+ghost use Rattle.gem_img.specs.Reading.{readImg, imgAnswer, imgArea};
 ghost use Rattle.macpaint.specs.Reading.{readPlate};
 ghost use Rattle.macpaint.specs.Writing.{writePlate};
 ghost use Rattle.conversion.specs.declared.Conversion.the-variants.{ToElite, ToPlain};
@@ -33,6 +34,7 @@ use conversion::Conversion;
 use degas_records::CursorAnswer;
 use degas_records::RecordAnswer;
 use degas_records::RecordCursor;
+use gem_img::ImgAnswer;
 use legend::Legend;
 use legend::LegendAnswer;
 use neochrome_animation::AnimationAnswer;
@@ -240,6 +242,16 @@ pub extern "C" fn kutimuq_write_plate(plate: &[u8], out: &mut [u8]) -> WriteAnsw
         ≡ writeOutput (writePlate (now (plate .entry)) (length (now (out .entry)))) (now (out .entry)) ⌝ }
 {
     macpaint::write(plate, out)
+}
+
+// Read a GEM IMG file of the screen profile.
+#[no_mangle]
+pub extern "C" fn kutimuq_read_img(file: &[u8], area: &mut [u8]) -> ImgAnswer
+    ensures answer { λ a. ⌜ a ≡ imgAnswer (readImg (now (file .entry)) (length (now (area .entry)))) ⌝ }
+    ensures area { λ _. ⌜ now (area .exit)
+        ≡ imgArea (readImg (now (file .entry)) (length (now (area .entry)))) (now (area .entry)) ⌝ }
+{
+    gem_img::read(file, area)
 }
 
 // Plain DEGAS to DEGAS Elite.

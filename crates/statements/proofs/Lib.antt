@@ -6,5 +6,6 @@ pub mod Reading
 pub mod Records
 pub mod RoundTrips
 pub mod Rows
+pub mod Scans
 pub mod WholePicture
 pub mod Writing

@@ -7,4 +7,5 @@ pub mod Reading
 pub mod Records
 pub mod RoundTrips
 pub mod Rows
+pub mod Scans
 pub mod Writing

@@ -1,4 +1,4 @@
-// The demands of document 00, and those of document 02, tickets 7, 9, 10 and 13, said of the operations themselves:
+// The demands of document 00, and those of document 02, tickets 7, 9, 10, 11 and 13, said of the operations themselves:
 // each function here only calls public operations, and promises the demand. Nothing is assumed of an argument but its
 // type. The clause `refused` is demand 1, "then no byte of any lent area has changed", and `whole` the complete answer
 // of the operations. Definitions: specs/.
@@ -10,6 +10,10 @@ ghost use lib.ListN.{length};
 ghost use Rattle.outcome.specs.Refusal.{noPackedBody};
 ghost use Rattle.resolution.specs.declared.Resolution.{Resolution};
 ghost use Rattle.unpack.specs.AcceptsRow.{AcceptsRow};
+ghost use Rattle.outcome.specs.declared.Refusal.{Refusal};
+ghost use Rattle.gem_img.specs.Accepts.{AcceptsImg};
+ghost use Rattle.gem_img.specs.Reading.{Image};
+ghost use Rattle.gem_img.specs.Refuses.{RefusesImg};
 ghost use Rattle.macpaint.specs.Accepts.{AcceptsPlate, plateGiven};
 ghost use Rattle.writer.specs.Writing.{formPacked};
 ghost use Rattle.conversion.specs.declared.Conversion.the-variants.{ToElite, ToPlain};
@@ -35,11 +39,13 @@ ghost use Rattle.statements.specs.Reading.{Reads, ReadsNothing, AnswersR
 ghost use Rattle.statements.specs.RoundTrips.{IsWritten, ReadsBack, AnswersRoundTrip};
 ghost use Rattle.statements.specs.Rows.{Packable, PacksLeast, UnpacksToRow, Unpacked, RowRefused};
 ghost use Rattle.statements.specs.Rows.{AnswersPack, AnswersUnpack};
+ghost use Rattle.statements.specs.Scans.{AcceptsSome, ReadsImage, ReadsNoImage, AnswersImgRead, whiteLineFile};
 ghost use Rattle.statements.specs.Writing.{WritesLeast, NeverAbove, Attained, BothOccur};
 ghost use Rattle.statements.specs.Writing.{WritesNothing, AnswersWrite};
 use bodies::BodyAnswer;
 use conversion::Conversion;
 use degas_records::Found;
+use gem_img::ImgAnswer;
 use neochrome_animation::AnimationAnswer;
 use neochrome_animation::LIST_1989;
 use neochrome_animation::LIST_2008;
@@ -200,6 +206,28 @@ pub fn read_plate(file: &[u8], plate: &mut [u8]) -> BodyAnswer
     ensures whole { λ a. ⌜ AnswersPlateRead (now (file .entry)) a (now (plate .entry)) (now (plate .exit)) ⌝ }
 {
     macpaint::read(file, plate)
+}
+
+// Document 02, ticket 11, with demands 1 and 2: a file is accepted exactly when its header is within the profile and
+// all the bytes behind it make its lines, and what it then gives; refused, and why, exactly as the ticket lists it; a
+// file of one white line is accepted.
+pub fn read_img(file: &[u8], area: &mut [u8]) -> ImgAnswer
+    ensures exactly { λ a.
+        ⌜ (HoldsScreen (now (area .entry)) → (a .refusal .number ≡ 0) ↔ AcceptsSome (now (file .entry))) ⌝ }
+    ensures accepted { λ a.
+        ⌜ (HoldsScreen (now (area .entry)) → (image : Image) → AcceptsImg (now (file .entry)) image
+        → ReadsImage image a (now (area .entry)) (now (area .exit))) ⌝ }
+    ensures listed { λ a.
+        ⌜ ((why : Refusal) → RefusesImg (now (file .entry)) (length (now (area .entry))) why
+        → ReadsNoImage why a (now (area .entry)) (now (area .exit))) ⌝ }
+    ensures refused { λ a.
+        ⌜ (Refuses (a .refusal) → RefusesImg (now (file .entry)) (length (now (area .entry))) (a .refusal)
+        × ReadsNoImage (a .refusal) a (now (area .entry)) (now (area .exit))) ⌝ }
+    ensures blank { λ a.
+        ⌜ (HoldsScreen (now (area .entry)) → now (file .entry) ≡ whiteLineFile → a .refusal .number ≡ 0) ⌝ }
+    ensures whole { λ a. ⌜ AnswersImgRead (now (file .entry)) a (now (area .entry)) (now (area .exit)) ⌝ }
+{
+    gem_img::read(file, area)
 }
 
 // Document 02, ticket 9: "Demand 3's exactness holds with this limit, a plate's 720 rows standing for the plane rows
