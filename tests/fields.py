@@ -32,6 +32,9 @@ CONSTANTS = {
     "PLATE_WIDTH": ("macpaint", "PLATE_GROUPS", GROUP_PIXELS),
     "PLATE_HEIGHT": ("macpaint", "PLATE_ROWS", 1),
     "PLATE_ROW_BYTES": ("macpaint", "PLATE_GROUPS", GROUP_BYTES),
+    "IMG_BYTES": ("gem_img", "AREA_BYTES", 1),
+    "IMG_MAX_WIDTH": ("gem_img", "MAX_WIDTH", 1),
+    "IMG_MAX_LINES": ("gem_img", "MAX_LINES", 1),
 }
 
 

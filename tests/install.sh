@@ -70,6 +70,9 @@ example() {
     sed -n 's/^register .* //p' "$work/out" > "$work/found"
     check "the sample's tally" cmp "$work/expected" "$work/found"
 
+    "$1" "$work/scan" > "$work/found"
+    check "a scan" cmp "$work/black" "$work/found"
+
     status=0
     "$1" "$work/cut" 2> "$work/errors" || status=$?
     check "exit status of a refusal" test "$status" = 1
@@ -93,6 +96,9 @@ header
     gcc -std=c11 $warnings -I "$include" "$root/examples/use.c" "$lib/libkutimuq.a" -o "$work/static"
 }
 head -c -1 "$sample" > "$work/cut"
+# A GEM IMG file of 300 black lines of 17 pixels, in scanline runs of 255 and 45.
+printf '\0\1\0\10\0\1\0\2\1\164\1\164\0\21\1\54\0\0\377\377\203\0\0\377\55\203' > "$work/scan"
+printf 'scan 17 x 300\nblack 5100\n' > "$work/black"
 example "$work/shared"
 example "$work/static"
 echo "install: $passed passed, 0 failed"

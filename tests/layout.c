@@ -66,6 +66,11 @@ static void print_files(void)
     REFUSAL(BodyAnswer);
     FIELD(BodyAnswer, body);
     FIELD(BodyAnswer, records);
+
+    STRUCT(ImgAnswer);
+    REFUSAL(ImgAnswer);
+    FIELD(ImgAnswer, width);
+    FIELD(ImgAnswer, lines);
 }
 
 static void print_records(void)
@@ -160,6 +165,8 @@ static const char *name_of(enum KutimuqNumber number)
         NAME(NO_ZERO_TAIL);
         NAME(NOT_OWNED);
         NAME(WRONG_VERSION);
+        NAME(OUTSIDE_PROFILE);
+        NAME(WRONG_SCANLINE_RUN);
     }
     return NULL;
 }
@@ -206,6 +213,9 @@ static void print_constants(void)
     CONSTANT(PLATE_WIDTH);
     CONSTANT(PLATE_HEIGHT);
     CONSTANT(PLATE_ROW_BYTES);
+    CONSTANT(IMG_BYTES);
+    CONSTANT(IMG_MAX_WIDTH);
+    CONSTANT(IMG_MAX_LINES);
     for (unsigned resolution = 0; resolution <= UINT16_MAX; resolution++) {
         KutimuqShape shape = kutimuq_shape((uint16_t)resolution);
         if (shape.width + shape.height + shape.planes + shape.row_bytes != 0) {

@@ -16,6 +16,9 @@ SIZES = {
     "PLATE_WIDTH": pictures.PLATE_WIDTH,
     "PLATE_HEIGHT": pictures.PLATE_HEIGHT,
     "PLATE_ROW_BYTES": pictures.PLATE_ROW_BYTES,
+    "IMG_BYTES": pictures.IMG_BYTES,
+    "IMG_MAX_WIDTH": pictures.IMG_MAX_WIDTH,
+    "IMG_MAX_LINES": pictures.IMG_MAX_LINES,
 }
 
 print("version", kutimuq.__version__)

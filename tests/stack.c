@@ -16,12 +16,13 @@ enum {
     PAINT = 0xA5,
     /* Limits: a raw file read, a file refused before its body or runs are unpacked, a
        record list opened or stepped, or a colour animation shown; a packed or Tiny file
-       unpacked; a MacPaint file unpacked; a raw DEGAS file made Elite or plain, or refused
-       before its body is unpacked; a packed one unpacked for that; an operation on a legend
-       alone; any other operation. */
+       unpacked; a MacPaint file unpacked; a GEM IMG file unpacked; a raw DEGAS file made
+       Elite or plain, or refused before its body is unpacked; a packed one unpacked for that;
+       an operation on a legend alone; any other operation. */
     NOT_UNPACKED = 1000,
     UNPACKED = 35000,
     PLATE_UNPACKED = 55000,
+    SCAN_UNPACKED = 34000,
     CONVERTED = 35000,
     CONVERTED_UNPACKED = 68000,
     LEGEND = 500,
@@ -52,6 +53,9 @@ enum {
     SPEED = 51,
     /* MacPaint: the last byte of the version. */
     VERSION = 3,
+    /* GEM IMG: the last byte of the version; the first record's count. */
+    IMG_VERSION = 1,
+    IMG_COUNT = 17,
     /* A register; a confidence that is allowed and one that is not. */
     ENTRY = 15,
     SURE = 100,
@@ -184,6 +188,11 @@ static void write_plate(void)
     number = answer.refusal.number;
 }
 
+static void read_img(void)
+{
+    number = kutimuq_read_img(file, file_len, area, area_len).refusal.number;
+}
+
 /* ---- the measure */
 
 static void start(void)
@@ -246,6 +255,14 @@ static void check_plate(const char *what, size_t limit, uint8_t expected)
 {
     for (area_len = KUTIMUQ_PLATE_BYTES; area_len <= LONG_PLATE; area_len++) {
         check(what, read_plate, limit, expected);
+    }
+}
+
+/* Reads the GEM IMG file into an area of the least length and into a longer one. */
+static void check_scan(const char *what, size_t limit, uint8_t expected)
+{
+    for (area_len = KUTIMUQ_IMG_BYTES; area_len <= LONG_AREA; area_len++) {
+        check(what, read_img, limit, expected);
     }
 }
 
@@ -440,6 +457,32 @@ static void plates(void)
     check("plate too short", read_plate, NOT_UNPACKED, KUTIMUQ_AREA_TOO_SHORT);
 }
 
+/* 400 lines of 640 pixels: one with a pattern run, a literal and solid runs, 255 white ones
+   and 144 black ones. */
+static void scans(void)
+{
+    static const uint8_t scan[] = {0, 1, 0, 8, 0, 1, 0, 2, 1, 0x74, 1, 0x74, 0x02, 0x80, 0x01, 0x90,
+                                   0x00, 10, 0xAA, 0x55, 0x80, 4, 1, 2, 3, 4, 0x80 | 30, 26,
+                                   0x00, 0, 0xFF, 255, 80, 0x00, 0, 0xFF, 144, 0x80 | 80};
+    memcpy(file, scan, sizeof scan);
+    file_len = sizeof scan;
+    check_scan("scan read", SCAN_UNPACKED, KUTIMUQ_ACCEPTED);
+    file_len++;
+    check_scan("scan, a byte left", SCAN_UNPACKED, KUTIMUQ_WRONG_TAIL);
+    file_len -= 2;
+    check_scan("scan cut", SCAN_UNPACKED, KUTIMUQ_INPUT_ENDS);
+    file[IMG_COUNT] = UINT8_MAX;
+    check_scan("scan, record at fault", SCAN_UNPACKED, KUTIMUQ_RECORD_CROSSES);
+    file[IMG_COUNT] = 0;
+    check_scan("scan, scanline run at fault", SCAN_UNPACKED, KUTIMUQ_WRONG_SCANLINE_RUN);
+    file[IMG_VERSION]++;
+    check_scan("scan of another version", NOT_UNPACKED, KUTIMUQ_OUTSIDE_PROFILE);
+    file_len = 0;
+    check_scan("scan without a header", NOT_UNPACKED, KUTIMUQ_WRONG_LENGTH);
+    area_len = KUTIMUQ_IMG_BYTES - 1;
+    check("area too short for a scan", read_img, NOT_UNPACKED, KUTIMUQ_AREA_TOO_SHORT);
+}
+
 static void pixels(void)
 {
     KutimuqShape shape = kutimuq_shape(picture.resolution);
@@ -496,6 +539,7 @@ int main(int argc, char **argv)
     }
     picture.resolution = 0;
     plates();
+    scans();
     printf("stack: %d passed, %d failed\n", passed, failed);
     return failed != 0;
 }

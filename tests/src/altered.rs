@@ -3,6 +3,7 @@
 mod animations;
 mod colours;
 mod conversions;
+mod imgs;
 mod legends;
 mod plates;
 mod ponds;
@@ -15,6 +16,10 @@ pub use colours::{ShowColour, RARELY_WRONG_COLOURS, WRONG_COLOURS};
 pub use conversions::{
     Convert, ConvertBy, RARELY_WRONG_TO_ELITE, RARELY_WRONG_TO_PLAIN, WRONG_BOTH_WAYS,
     WRONG_TO_ELITE, WRONG_TO_PLAIN,
+};
+pub use imgs::{
+    read_by, ReadImg, Rules, RARELY_WRONG_IMG_BITMAPS, RARELY_WRONG_IMG_HEADERS,
+    RARELY_WRONG_IMG_RECORDS, RIGHT_RULES, WRONG_IMG_ANSWERS, WRONG_IMG_HEADERS, WRONG_IMG_RECORDS,
 };
 pub use legends::{
     AlterAnswer, NewLegend, ReleaseEntry, SetEntry, Tolerate, RARELY_WRONG_RELEASES,
@@ -59,6 +64,9 @@ pub enum Altered {
     Conversions(ConvertBy),
     PlateReading(ReadPlate),
     PlateWriting(WritePlate),
+    ImgReading(ReadImg),
+    /// The rules of the records in a GEM IMG file.
+    ImgRules(Rules),
     OpenRecords(OpenRecords),
     NextRecord(NextRecord),
     /// Length and first word of a file whose records are listed.
@@ -246,6 +254,14 @@ impl Operations for Altered {
         match self {
             Altered::PlateWriting(write_plate) => write_plate(plate, out),
             _ => Reference.write_plate(plate, out),
+        }
+    }
+
+    fn read_img(&self, file: &[u8], area: &mut [u8]) -> ImgAnswer {
+        match self {
+            Altered::ImgReading(read_img) => read_img(file, area),
+            Altered::ImgRules(rules) => read_by(rules, file, area),
+            _ => Reference.read_img(file, area),
         }
     }
 

@@ -315,6 +315,15 @@ impl<'a> Comparison<'a> {
     }
 
     /// Compares, and gives back what the library answered.
+    pub fn read_img(&mut self, file: &[u8], area_len: usize) -> ImgAnswer {
+        self.prepare(file, area_len);
+        let expected = reference::read_img(file, self.expected_area.lent());
+        let actual = self.library.read_img(&self.input, self.actual_area.lent());
+        self.judge(expected, actual, file, || format!("file {}, area of {area_len}", shown(file)));
+        actual
+    }
+
+    /// Compares, and gives back what the library answered.
     pub fn open_records(&mut self, file: &[u8]) -> CursorAnswer {
         self.prepare(file, 0);
         let expected = reference::open_records(file);

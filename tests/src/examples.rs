@@ -1,10 +1,11 @@
 //! Every example of document 01, as a check of its own, on one implementation; then Tiny files,
 //! rows at fault, colours on two machines, legends, DEGAS files made Elite and plain, MacPaint
-//! plates, record lists, and colour animations.
+//! plates, GEM IMG files, record lists, and colour animations.
 
 mod animation;
 mod colours;
 mod conversion;
+mod img;
 mod legend;
 mod macpaint;
 mod pond;
@@ -63,6 +64,7 @@ pub fn run(operations: &dyn Operations, report: &mut Report) {
     run_legends(operations, report);
     run_conversions(operations, report);
     run_plates(operations, report);
+    run_imgs(operations, report);
     run_records(operations, report);
     run_animations(operations, report);
 }
@@ -91,6 +93,12 @@ pub fn run_conversions(operations: &dyn Operations, report: &mut Report) {
 pub fn run_plates(operations: &dyn Operations, report: &mut Report) {
     report.section(&format!("examples of plates: {}", operations.name()));
     macpaint::run(&mut Examples { operations, report });
+}
+
+/// Only the examples of GEM IMG files.
+pub fn run_imgs(operations: &dyn Operations, report: &mut Report) {
+    report.section(&format!("examples of IMG: {}", operations.name()));
+    img::run(&mut Examples { operations, report });
 }
 
 /// Only the examples of record lists.

@@ -48,6 +48,7 @@ pub fn table() -> Vec<String> {
     describe_answer!(lines, ReadAnswer { picture, body, records });
     describe_answer!(lines, WriteAnswer { length, body, records });
     describe_answer!(lines, BodyAnswer { body, records });
+    describe_answer!(lines, ImgAnswer { width, lines });
     describe!(lines, RecordCursor { offset, plane_row, good_bytes });
     describe_answer!(lines, CursorAnswer { cursor });
     describe_answer!(lines, RecordAnswer { kind, offset, plane_row, length, next });
@@ -111,6 +112,9 @@ fn constants() -> Vec<String> {
         ("PLATE_WIDTH", PLATE_WIDTH),
         ("PLATE_HEIGHT", PLATE_HEIGHT),
         ("PLATE_ROW_BYTES", PLATE_ROW_BYTES),
+        ("IMG_BYTES", IMG_BYTES),
+        ("IMG_MAX_WIDTH", IMG_MAX_WIDTH),
+        ("IMG_MAX_LINES", IMG_MAX_LINES),
     ];
     constants.map(|(name, value)| format!("{name} is {value}")).to_vec()
 }

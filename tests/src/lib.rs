@@ -1,5 +1,6 @@
 //! Independent tests of the Kutimuq C library against a plain reference.
 
+pub mod bitmaps;
 pub mod cases;
 pub mod compare;
 pub mod completion;

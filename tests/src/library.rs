@@ -149,6 +149,10 @@ impl Operations for Library {
         unsafe { kutimuq_write_plate(plate.as_ptr(), plate.len(), out.as_mut_ptr(), out.len()) }
     }
 
+    fn read_img(&self, file: &[u8], area: &mut [u8]) -> ImgAnswer {
+        unsafe { kutimuq_read_img(file.as_ptr(), file.len(), area.as_mut_ptr(), area.len()) }
+    }
+
     fn open_records(&self, file: &[u8]) -> CursorAnswer {
         unsafe { kutimuq_open_records(file.as_ptr(), file.len()) }
     }

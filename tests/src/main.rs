@@ -47,8 +47,8 @@ fn seed_from(arguments: &[String]) -> Option<u64> {
 #[cfg(feature = "library")]
 fn library_jobs(seed: u64) -> Vec<Job> {
     use kutimuq_tests::{
-        cases, compare::Comparison, completion, examples, isolation, library::Library, lists,
-        rewriting, roundtrip, screens, walks,
+        bitmaps, cases, compare::Comparison, completion, examples, isolation, library::Library,
+        lists, rewriting, roundtrip, screens, walks,
     };
     let mut jobs: Vec<Job> = vec![
         Box::new(|report| examples::run(&Library, report)),
@@ -64,6 +64,7 @@ fn library_jobs(seed: u64) -> Vec<Job> {
         Box::new(move |report| isolation::run(&Library, report, seed + 10, 400)),
         Box::new(move |report| walks::run(&Library, report, seed + 11, 40)),
         Box::new(move |report| lists::run(&Library, report, seed + 12, 20)),
+        Box::new(move |report| bitmaps::run(&Library, report, seed + 13, 100)),
     ];
     for group in cases::GROUPS {
         jobs.push(Box::new(move |report| {

@@ -38,6 +38,7 @@ pub trait Operations {
     fn to_plain(&self, file: &[u8], out: &mut [u8]) -> WriteAnswer;
     fn read_plate(&self, file: &[u8], plate: &mut [u8]) -> BodyAnswer;
     fn write_plate(&self, plate: &[u8], out: &mut [u8]) -> WriteAnswer;
+    fn read_img(&self, file: &[u8], area: &mut [u8]) -> ImgAnswer;
     fn open_records(&self, file: &[u8]) -> CursorAnswer;
     fn next_record(&self, file: &[u8], cursor: RecordCursor) -> RecordAnswer;
     fn animation(&self, list: u8, file: &[u8]) -> AnimationAnswer;
@@ -171,6 +172,10 @@ impl Operations for Reference {
 
     fn write_plate(&self, plate: &[u8], out: &mut [u8]) -> WriteAnswer {
         reference::write_plate(plate, out)
+    }
+
+    fn read_img(&self, file: &[u8], area: &mut [u8]) -> ImgAnswer {
+        reference::read_img(file, area)
     }
 
     fn open_records(&self, file: &[u8]) -> CursorAnswer {

@@ -2,6 +2,7 @@
 
 mod animations;
 mod colours;
+mod imgs;
 mod jobs;
 mod legends;
 mod records;
@@ -397,6 +398,9 @@ fn sizes_of_the_binding() {
         (kutimuq::PLATE_WIDTH, PLATE_WIDTH),
         (kutimuq::PLATE_HEIGHT, PLATE_HEIGHT),
         (kutimuq::PLATE_ROW_BYTES, PLATE_ROW_BYTES),
+        (kutimuq::IMG_BYTES, IMG_BYTES),
+        (kutimuq::IMG_MAX_WIDTH, IMG_MAX_WIDTH),
+        (kutimuq::IMG_MAX_LINES, IMG_MAX_LINES),
     ];
     for (of_binding, of_reference) in sizes {
         assert_eq!(of_binding, of_reference);
@@ -406,7 +410,7 @@ fn sizes_of_the_binding() {
 #[test]
 fn layout_names_every_struct() {
     let table = layout::table();
-    assert_eq!(table.iter().filter(|line| line.contains(" align ")).count(), 18);
+    assert_eq!(table.iter().filter(|line| line.contains(" align ")).count(), 19);
 }
 
 /// The comparison itself, with the reference in the library's place.

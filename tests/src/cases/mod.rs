@@ -5,6 +5,7 @@ mod colours;
 mod conversion;
 mod counts;
 mod degas;
+mod img;
 mod legend;
 mod lines;
 mod macpaint;
@@ -38,7 +39,7 @@ fn every_resolution() -> impl Iterator<Item = u16> {
 pub type Group = fn(&mut Comparison, &mut Random);
 
 /// Every operation; no group needs another.
-pub const GROUPS: [Group; 19] = [
+pub const GROUPS: [Group; 20] = [
     rows::unpack,
     rows::pack,
     lines::out,
@@ -56,6 +57,7 @@ pub const GROUPS: [Group; 19] = [
     |comparison, random| conversion::run(comparison, random, Conversion::ToPlain),
     macpaint::read,
     macpaint::write,
+    img::read,
     records::run,
     animation::run,
 ];
@@ -93,6 +95,26 @@ pub fn run_conversion(comparison: &mut Comparison, seed: u64, conversion: Conver
 /// Only the inputs for reading MacPaint plates.
 pub fn run_plate_reading(comparison: &mut Comparison, seed: u64) {
     macpaint::read(comparison, &mut Random::seeded(seed));
+}
+
+/// Only the inputs for GEM IMG files.
+pub fn run_imgs(comparison: &mut Comparison, seed: u64) {
+    img::read(comparison, &mut Random::seeded(seed));
+}
+
+/// Only the areas, lengths and headers of GEM IMG files.
+pub fn run_img_headers(comparison: &mut Comparison, seed: u64) {
+    img::headers(comparison, &mut Random::seeded(seed));
+}
+
+/// Only GEM IMG files that are accepted.
+pub fn run_img_bitmaps(comparison: &mut Comparison, seed: u64) {
+    img::bitmaps(comparison, &mut Random::seeded(seed));
+}
+
+/// Only the records of GEM IMG files.
+pub fn run_img_records(comparison: &mut Comparison, seed: u64) {
+    img::records(comparison, &mut Random::seeded(seed));
 }
 
 /// Only the inputs for record lists.

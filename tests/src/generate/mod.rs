@@ -5,6 +5,7 @@
 mod costs;
 mod degas;
 mod faults;
+mod img;
 mod legend;
 mod macpaint;
 mod neochrome;
@@ -19,6 +20,10 @@ pub use degas::{
     padded_file, raw_file, with_first_word, with_zero_tail,
 };
 pub use faults::{recorded_file, recorded_plate_file, recorded_row, Faulty, RecordedBody};
+pub use img::{
+    bitmap, class_map, img_file, img_file_of_shape, img_header_length, ImgFile, ImgRecord,
+    ImgShape, EMPTY_LITERAL, SINGLE_LINE_RUN,
+};
 pub use legend::{
     damaged_legend, entry_at, give_entry, legend, legend_of_few_classes, other_party, put_entry,
     Entry, EntryFault, ENTRY_FAULTS,

@@ -11,6 +11,7 @@ mod colour;
 mod conversion;
 mod degas;
 mod files;
+mod img;
 mod judging;
 mod legend;
 mod lines;
@@ -39,6 +40,11 @@ pub use degas::{
 pub use files::{
     read, write, FORM_ELITE_PACKED, FORM_ELITE_RAW, FORM_NEO, FORM_PLAIN, KIND_DEGAS, KIND_NEO,
     KIND_TINY, WRITE_AREA_BYTES,
+};
+pub use img::{
+    read_img, IMG_BYTES, IMG_HEADER_BYTES, IMG_HEADER_WORDS, IMG_LITERAL, IMG_MAX_LINES,
+    IMG_MAX_PATTERN, IMG_MAX_WIDTH, IMG_PATTERN, IMG_PLANES, IMG_SET, IMG_VERSION,
+    SCANLINE_RUN_BYTES, SCANLINE_RUN_FLAG,
 };
 pub use legend::{
     new_legend, release_entry, set_entry, FREE, GREATEST_CLASS, GREATEST_CONFIDENCE,
