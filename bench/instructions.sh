@@ -3,10 +3,10 @@
 #
 # Usage: instructions.sh [OPERATION...]
 #
-# OPERATION is an operation of the tables of times, or pack-row alone; nineteen are counted where none is named. The
+# OPERATION is an operation of the tables of times, or pack-row alone; twenty are counted where none is named. The
 # environment variable SCREEN is a screen of the first table, by default map; 64 screens in turn count as one call.
-# An operation on plates is counted on each plate, one on legends on each legend, colours on each machine,
-# animation by each list.
+# An operation on plates is counted on each plate, img-read on each scan, one on legends on each legend, colours on
+# each machine, animation by each list.
 set -eu
 
 # Valgrind counts each byte of a rep movsb as one instruction: here no copy is long enough for one.
@@ -96,6 +96,24 @@ plate_lines() {
     echo "memcpy of a plate: $copy"
 }
 
+scan_lines() {
+    scans="sheet | sheet-by-lines | blank | shaded | noise | worst | narrow"
+    echo "| operation | $scans | Rust $(echo "$scans" | sed 's/ | / | Rust /g') | ratio |"
+    echo "|---|---|---|---|---|---|---|---|---|---|---|---|---|---|---|---|"
+    counts=
+    for by in "" rust-; do
+        for scan in $(echo "$scans" | tr -d '|'); do
+            count=$(instructions "${by}img-read" "$scan" scan)
+            counts="$counts $count"
+        done
+    done
+    # shellcheck disable=SC2086 # one word a count
+    columns img-read $counts
+    copy=$(instructions memcpy blank scan)
+    echo
+    echo "memcpy of a scan: $copy"
+}
+
 # A line of the table of legends: OPERATION.
 legend_line() {
     counts=
@@ -157,6 +175,7 @@ row_lines() {
 
 pictures=
 plates=
+scans=
 legends=
 machines=
 lists=
@@ -165,6 +184,7 @@ case "$*" in
     pictures="packed-read records tiny-read form3-write to-elite to-plain"
     pictures="$pictures lines-in lines-out screen-in screen-out tally pond raw-read"
     plates="plate-read plate-write"
+    scans=img-read
     legends="set-entry release-entry"
     machines=colours
     lists=animation
@@ -174,6 +194,7 @@ pack-row) ;;
     for operation; do
         case $operation in
         plate-*) plates="$plates $operation" ;;
+        img-read) scans=img-read ;;
         *-entry) legends="$legends $operation" ;;
         colours) machines=colours ;;
         animation) lists=animation ;;
@@ -197,6 +218,10 @@ fi
 if [ -n "$plates" ]; then
     echo
     plate_lines $plates
+fi
+if [ -n "$scans" ]; then
+    echo
+    scan_lines
 fi
 # shellcheck disable=SC2086
 if [ -n "$legends" ]; then

@@ -1,9 +1,10 @@
 /*
  * Shows a picture file: what reading found, the registers it uses with their
  * colours, and the length of its shortest packed file. Of a MacPaint plate it
- * shows what reading found and the length of its shortest file. Of a damaged
- * packed DEGAS file it counts the records before the fault. Of a NEOchrome file
- * it shows the colour animation too, as the lists of 1989 and 2008 read it.
+ * shows what reading found and the length of its shortest file, of a GEM IMG scan
+ * its width, lines and black pixels. Of a damaged packed DEGAS file it counts the
+ * records before the fault. Of a NEOchrome file it shows the colour animation
+ * too, as the lists of 1989 and 2008 read it.
  *
  *     cc use.c $(pkg-config --cflags --libs kutimuq) -o use
  *     ./use ponds.pc1
@@ -20,6 +21,7 @@
 static uint8_t file[KUTIMUQ_LONGEST_PLATE_FILE + 1]; /* one more, to see a file that is too long */
 static uint8_t screen[KUTIMUQ_SCREEN_BYTES];
 static uint8_t plate[KUTIMUQ_PLATE_BYTES];
+static uint8_t scan[KUTIMUQ_IMG_BYTES];
 static uint8_t packed[KUTIMUQ_LONGEST_PLATE_FILE];
 
 static int refused(const char *what, KutimuqRefusal refusal)
@@ -120,6 +122,26 @@ static bool show_plate(size_t length)
     return true;
 }
 
+/* A GEM IMG file is one if it can be read as one, too. The bits after a line's last pixel do not
+   count. */
+static bool show_scan(size_t length)
+{
+    KutimuqImgAnswer found = kutimuq_read_img(file, length, scan, sizeof scan);
+    if (found.refusal.number != KUTIMUQ_ACCEPTED) {
+        return false;
+    }
+    size_t line_bytes = (found.width + 7U) / 8;
+    unsigned black = 0;
+    for (size_t y = 0; y < found.lines; y++) {
+        for (size_t x = 0; x < found.width; x++) {
+            black += scan[y * line_bytes + x / 8] >> (7 - x % 8) & 1U;
+        }
+    }
+    printf("scan %u x %u\n", found.width, found.lines);
+    printf("black %u\n", black);
+    return true;
+}
+
 /* Fills `file`; false where that failed. */
 static bool load(const char *path, size_t *length)
 {
@@ -144,7 +166,7 @@ int main(int count, char **words)
         return 2;
     }
 
-    if (show_plate(length)) {
+    if (show_plate(length) || show_scan(length)) {
         return 0;
     }
     /* No DEGAS file is as long as every NEOchrome file. */

@@ -1,6 +1,6 @@
 /*
- * Kutimuq: Atari ST pictures (DEGAS, DEGAS Elite, NEOchrome, Tiny) and MacPaint
- * plates.
+ * Kutimuq: Atari ST pictures (DEGAS, DEGAS Elite, NEOchrome, Tiny), MacPaint
+ * plates and GEM IMG scans.
  *
  * **NO POINTER MAY BE NULL, NOT EVEN ONE WITH LENGTH 0.** The proofs cover
  * memory that exists; they promise nothing for a null pointer. For no bytes
@@ -11,9 +11,9 @@
  *
  * Every function takes every other input and answers. The number 0 means
  * accepted; any other number is a refusal. A refusal gives its number, a place,
- * for numbers 6 and 7 how far the rows are good, and zero in all else but a
- * legend or a step's cursor, which come back as given; no byte of any lent area
- * has changed. An accepted answer's refusal is all 0.
+ * for numbers 6 and 7, but of a scan, how far the rows are good, and zero in all
+ * else but a legend or a step's cursor, which come back as given; no byte of any
+ * lent area has changed. An accepted answer's refusal is all 0.
  *
  * Resolutions: 0 low (320 x 200, 4 planes), 1 medium (640 x 200, 2 planes),
  * 2 high (640 x 400, 1 plane). A screen is the first 32,000 bytes of the area
@@ -23,6 +23,11 @@
  * A plate is 720 rows of 72 bytes, 576 pixels each, from the top: the first
  * 51,840 bytes of the area lent for it. The leftmost pixel is a byte's top bit;
  * 0 is white, 1 black.
+ *
+ * A scan is 1 to 400 lines of 1 to 640 pixels, from the top: (width + 7) / 8 bytes
+ * a line, one line after another over the front of the 32,000 bytes lent for it.
+ * Pixels are as a plate's; the bits after a line's last pixel are as the file has
+ * them.
  */
 #ifndef KUTIMUQ_H
 #define KUTIMUQ_H
@@ -36,9 +41,9 @@ extern "C" {
 #endif
 
 #define KUTIMUQ_VERSION_MAJOR 0
-#define KUTIMUQ_VERSION_MINOR 8
+#define KUTIMUQ_VERSION_MINOR 9
 #define KUTIMUQ_VERSION_PATCH 0
-#define KUTIMUQ_VERSION "0.8.0"
+#define KUTIMUQ_VERSION "0.9.0"
 
 /* The answer must be looked at; no pointer may be null. */
 #ifdef __GNUC__
@@ -67,8 +72,8 @@ enum KutimuqNumber {
     /* Place: the record's control byte's offset. In one record this is judged
        before missing input. */
     KUTIMUQ_RECORD_CROSSES = 7,
-    /* After a DEGAS body not exactly 32 bytes, after a MacPaint body any. Place:
-       the offset after the body. */
+    /* After a DEGAS body not exactly 32 bytes, after a MacPaint body or the last line
+       of a GEM IMG file any. Place: the offset after the body or that line. */
     KUTIMUQ_WRONG_TAIL = 8,
     /* None below 32,000 bytes for DEGAS, below 51,200 for MacPaint. */
     KUTIMUQ_NO_PACKED_BODY = 9,
@@ -91,7 +96,13 @@ enum KutimuqNumber {
        free or another's. */
     KUTIMUQ_NOT_OWNED = 19,
     /* Of a MacPaint file. */
-    KUTIMUQ_WRONG_VERSION = 20
+    KUTIMUQ_WRONG_VERSION = 20,
+    /* Of a GEM IMG file: its version, the length of its header, its planes, pattern
+       length, width or lines. */
+    KUTIMUQ_OUTSIDE_PROFILE = 21,
+    /* Of a GEM IMG file: one that follows a record of its line, has another flag than
+       FF, or a count of 0 or past the last line. */
+    KUTIMUQ_WRONG_SCANLINE_RUN = 22
 };
 
 /* What a number means, in words; never null. */
@@ -134,6 +145,10 @@ static inline const char *kutimuq_meaning(uint8_t number)
         return "a legend entry of another party, or a free one to release";
     case KUTIMUQ_WRONG_VERSION:
         return "MacPaint version neither 0 nor 2";
+    case KUTIMUQ_OUTSIDE_PROFILE:
+        return "IMG header outside the screen profile";
+    case KUTIMUQ_WRONG_SCANLINE_RUN:
+        return "a scanline run out of place, or its flag or count wrong";
     default:
         return "unknown refusal";
     }
@@ -180,6 +195,7 @@ enum {
     KUTIMUQ_WIDEST_LINE = 640,         /* the registers of a scan line */
     KUTIMUQ_WIDEST_ROW = 128,          /* a row to pack or unpack */
     KUTIMUQ_PACK_AREA_BYTES = 129,     /* the output lent for a packed row */
+    KUTIMUQ_IMG_BYTES = 32000,         /* the area lent for a scan */
     KUTIMUQ_PLATE_BYTES = 51840,       /* a plate */
     KUTIMUQ_PLATE_ROW_BYTES = 72,      /* a plate's row */
     KUTIMUQ_LONGEST_PLATE_FILE = 51711 /* a MacPaint file, also the output lent for it */
@@ -187,6 +203,9 @@ enum {
 
 /* Pixels of a plate. */
 enum { KUTIMUQ_PLATE_WIDTH = 576, KUTIMUQ_PLATE_HEIGHT = 720 };
+
+/* The most pixels of a line and the most lines of a scan. */
+enum { KUTIMUQ_IMG_MAX_WIDTH = 640, KUTIMUQ_IMG_MAX_LINES = 400 };
 
 /* What a resolution stands for. Its registers are 0 to 2^planes - 1. */
 typedef struct KutimuqShape {
@@ -207,8 +226,8 @@ static inline KutimuqShape kutimuq_shape(uint16_t resolution)
 /* Why an input is refused; all 0 in an accepted answer. Plane row and good bytes
    come with numbers 6 and 7 only and are 0 otherwise: reading or converting a
    file or listing its records gives both, unpacking a row gives good bytes, and
-   plane row 0. By themselves row 0 with 0 bytes cannot be told from "not given":
-   the number tells. */
+   plane row 0, reading a GEM IMG file gives neither. By themselves row 0 with 0
+   bytes cannot be told from "not given": the call and the number tell. */
 typedef struct KutimuqRefusal {
     uint8_t number;
     size_t place;
@@ -266,6 +285,13 @@ typedef struct KutimuqWriteAnswer {
     size_t body;
     size_t records;
 } KutimuqWriteAnswer;
+
+/* The answer of a GEM IMG file read. */
+typedef struct KutimuqImgAnswer {
+    KutimuqRefusal refusal;
+    uint16_t width; /* pixels of a line, 1 to 640; 0 where refused */
+    uint16_t lines; /* 1 to 400; 0 where refused */
+} KutimuqImgAnswer;
 
 /* Where the next step of a record list stands. */
 typedef struct KutimuqRecordCursor {
@@ -613,6 +639,30 @@ KutimuqBodyAnswer kutimuq_read_plate(const uint8_t *file, size_t file_len, uint8
 KUTIMUQ_MUST_USE KUTIMUQ_NONNULL
 KutimuqWriteAnswer kutimuq_write_plate(const uint8_t *plate, size_t plate_len, uint8_t *out,
                                        size_t out_len);
+
+/*
+ * Reads a GEM IMG file of the screen profile: the header, then the packed lines.
+ * The scan goes to the front of `area`, later bytes are unchanged. Of the header
+ * the fifth and sixth words, a pixel's size, and those after the eighth are not
+ * judged.
+ * A record is a pattern run: 00, a count and the pattern, made as many times; a
+ * literal: 80, a count and as many bytes, or none; a solid run: another byte, of
+ * whose bits the high one says FF or 00 and the others how many; or a scanline
+ * run: 00, 00, FF and a count, the times that the line after it is made. A
+ * scanline run stands before every other record of its line, once. A line is
+ * finished the moment it is full, and no record crosses its end.
+ * Refusals in order: 1 area below 32,000 bytes, 3 (under 16 bytes, or below the
+ * header's length, twice its second word), 21 (version not 1, header below 8
+ * words, planes not 1, pattern not 1 to 8 bytes, width not 1 to 640, lines not 1
+ * to 400), at the first record at fault 6 for a scanline run of under 4 bytes,
+ * 22, 7 or 6, and 8 for any byte left after the last line. Offsets count from the
+ * file's start. A call takes under 1,000 bytes of stack where the refusal is 1, 3
+ * or 21, else about 33,000: 32,000 of them are the area into which the file is
+ * unpacked until all is judged.
+ */
+KUTIMUQ_MUST_USE KUTIMUQ_NONNULL
+KutimuqImgAnswer kutimuq_read_img(const uint8_t *file, size_t file_len, uint8_t *area,
+                                  size_t area_len);
 
 #ifdef __cplusplus
 }

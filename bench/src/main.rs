@@ -7,8 +7,9 @@
 //! picture of the series. OPERATION is a name of the table, `rust-` and such a name, or
 //! `memcpy`; or `pack-row` or `rust-pack-row`, with a row width in place of the resolution. With
 //! `plate` in place of the resolution OPERATION is one on plates or `memcpy`, and SCREEN a plate;
-//! with `legend` it is one on legends, and SCREEN a legend; with `machine` it is `colours`, and
-//! SCREEN a machine; with `list` it is `animation`, and SCREEN a list.
+//! with `scan` it is `img-read` or `memcpy`, and SCREEN a scan; with `legend` it is one on legends,
+//! and SCREEN a legend; with `machine` it is `colours`, and SCREEN a machine; with `list` it is
+//! `animation`, and SCREEN a list.
 
 mod animations;
 mod colours;
@@ -17,6 +18,7 @@ mod operations;
 mod pictures;
 mod plain;
 mod plates;
+mod scans;
 mod times;
 
 use std::process::ExitCode;
@@ -28,6 +30,7 @@ use legends::{LEGENDS, LEGEND_OPERATIONS};
 use operations::{By, OPERATIONS};
 use pictures::{Subject, RESOLUTIONS, SERIES};
 use plates::{PlateSubject, PLATES, PLATE_OPERATIONS};
+use scans::{ScanSubject, IMG_READ, SCANS};
 
 fn main() -> ExitCode {
     let arguments: Vec<String> = std::env::args().skip(1).collect();
@@ -55,6 +58,7 @@ fn once(operation: &str, screen: &str, size: &str, times: &str) -> Option<()> {
     };
     match size {
         "plate" => return once_a_plate(name, by, screen, times),
+        "scan" => return once_a_scan(name, by, screen, times),
         "legend" => return once_a_legend(name, by, screen, times),
         "machine" => return once_a_machine(name, by, screen, times),
         "list" => return once_a_list(name, by, screen, times),
@@ -85,6 +89,16 @@ fn once_a_plate(name: &str, by: By, plate: &str, times: usize) -> Option<()> {
     }
     let operation = named(PLATE_OPERATIONS, name)?;
     (0..times).for_each(|_| plates::run(operation, by, &mut subject));
+    Some(())
+}
+
+fn once_a_scan(name: &str, by: By, scan: &str, times: usize) -> Option<()> {
+    let mut subject = ScanSubject::new(named(&SCANS, scan)?);
+    match name {
+        "memcpy" => (0..times).for_each(|_| scans::copy(&mut subject)),
+        IMG_READ => (0..times).for_each(|_| scans::run(by, &mut subject)),
+        _ => return None,
+    }
     Some(())
 }
 

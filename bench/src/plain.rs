@@ -12,6 +12,7 @@ mod lines;
 mod packing;
 mod plates;
 mod records;
+mod scans;
 mod screens;
 mod tiny;
 mod unpacking;
@@ -25,6 +26,7 @@ pub use lines::{line_in, line_out};
 pub use packing::{pack_row, write_packed};
 pub use plates::{read_plate, write_plate};
 pub use records::{records, RecordReader};
+pub use scans::read_img;
 pub use screens::{screen_in, screen_out};
 
 use kutimuq::ffi::ReadAnswer;

@@ -10,6 +10,7 @@ use crate::legends::{self, LEGENDS, LEGEND_OPERATIONS};
 use crate::operations::{self, By, Operation, OPERATIONS};
 use crate::pictures::{Subject, RESOLUTIONS, SERIES};
 use crate::plates::{self, PlateOperation, PlateSubject, PLATES, PLATE_OPERATIONS};
+use crate::scans::{self, ScanSubject, IMG_READ, SCANS};
 
 const ROUNDS: usize = 400;
 /// The least rounds, for a call over many pictures, which is long itself.
@@ -40,7 +41,7 @@ fn least_times<const JOBS: usize>(rounds: usize, mut job: impl FnMut(usize)) -> 
 struct Measured {
     operation: &'static str,
     screen: &'static str,
-    /// A resolution, a row's width, "plate", "legend", "machine" or "list".
+    /// A resolution, a row's width, "plate", "scan", "legend", "machine" or "list".
     size: String,
     ratio: f64,
 }
@@ -49,6 +50,8 @@ pub fn print_tables() {
     let mut all = print_pictures();
     println!();
     all.extend(print_plates());
+    println!();
+    all.extend(print_scans());
     println!();
     all.extend(print_rows());
     println!();
@@ -129,6 +132,35 @@ fn plate_times(operation: PlateOperation, subject: &mut PlateSubject) -> [f64; 3
         _ => plates::copy(subject),
     });
     nanoseconds.map(|time| time / plates as f64 / 1000.0)
+}
+
+/// Each scan read.
+fn print_scans() -> Vec<Measured> {
+    println!("microseconds per scan; ratio: library / Rust");
+    println!();
+    println!("| operation | scan | library | Rust | memcpy | ratio |");
+    println!("|---|---|---|---|---|---|");
+    let measure = |(series, scan)| {
+        let mut subject = ScanSubject::new(series);
+        assert!(scans::agree(&mut subject), "{IMG_READ}, {scan}: library and plain Rust differ");
+        let [library, plain, copy] = scan_times(&mut subject);
+        let ratio = library / plain;
+        println!("| {IMG_READ} | {scan} | {library:.3} | {plain:.3} | {copy:.3} | {ratio:.2} |");
+        Measured { operation: IMG_READ, screen: scan, size: "scan".to_string(), ratio }
+    };
+    SCANS.map(measure).into()
+}
+
+/// Microseconds a scan: library, plain Rust, memcpy.
+fn scan_times(subject: &mut ScanSubject) -> [f64; 3] {
+    let scans = subject.files.len();
+    let rounds = FEWEST_ROUNDS.max(ROUNDS / scans);
+    let nanoseconds: [f64; 3] = least_times(rounds, |number| match number {
+        0 => scans::run(By::Library, subject),
+        1 => scans::run(By::Plain, subject),
+        _ => scans::copy(subject),
+    });
+    nanoseconds.map(|time| time / scans as f64 / 1000.0)
 }
 
 /// Row pack over the row's width: the time grows with it linearly.

@@ -53,6 +53,14 @@ pub struct BodyAnswer {
     pub records: usize,
 }
 
+#[repr(C)]
+#[derive(Clone, Copy, Debug, Default, PartialEq, Eq)]
+pub struct ImgAnswer {
+    pub refusal: Refusal,
+    pub width: u16,
+    pub lines: u16,
+}
+
 /// Where the next step of a record list stands.
 #[repr(C)]
 #[derive(Clone, Copy, Debug, Default, PartialEq, Eq)]
@@ -279,4 +287,10 @@ extern "C" {
         out: *mut u8,
         out_len: usize,
     ) -> WriteAnswer;
+    pub fn kutimuq_read_img(
+        file: *const u8,
+        file_len: usize,
+        area: *mut u8,
+        area_len: usize,
+    ) -> ImgAnswer;
 }

@@ -1,5 +1,5 @@
-//! Atari ST pictures (DEGAS, DEGAS Elite, NEOchrome, Tiny) and MacPaint plates by way of the proved
-//! Kutimuq library.
+//! Atari ST pictures (DEGAS, DEGAS Elite, NEOchrome, Tiny), MacPaint plates and GEM IMG scans by way
+//! of the proved Kutimuq library.
 //!
 //! Every function takes every input. A refusal gives a number and a place, and then no byte of
 //! any slice lent to the call has changed.
@@ -30,6 +30,7 @@ mod animation;
 mod conversion;
 pub mod ffi;
 mod files;
+mod img;
 mod legend;
 mod pixels;
 mod plates;
@@ -42,6 +43,7 @@ pub use animation::{animation, ColourAnimation, Direction, FormatList};
 pub use conversion::{to_elite, to_plain};
 pub use ffi::{Legend, RecordCursor, Rectangle};
 pub use files::{read, write, Form, Kind, Picture, Reading, Tail, Written};
+pub use img::{read_img, ImgReading};
 pub use legend::Party;
 pub use pixels::{
     colour, line_in, line_out, pond, screen_in, screen_out, tally, Colour, Machine, PondReading,
@@ -90,3 +92,12 @@ pub const PLATE_HEIGHT: usize = 720;
 
 /// The longest MacPaint file that reading accepts, and the output that writing one needs.
 pub const LONGEST_PLATE_FILE: usize = 51_711;
+
+/// The slice lent for a scan: its lines one after another from the front, pixels as a plate's.
+pub const IMG_BYTES: usize = 32_000;
+
+/// The most pixels of a scan's line.
+pub const IMG_MAX_WIDTH: usize = 640;
+
+/// The most lines of a scan.
+pub const IMG_MAX_LINES: usize = 400;

@@ -7,7 +7,7 @@ use std::fmt;
 ///
 /// The place is an offset for 6, 7, 8, 11 and 12, and else 0. Plane row and good bytes come with 6
 /// and 7 only and are else 0: `read`, `records`, `to_elite`, `to_plain` and `read_plate` give both,
-/// `unpack_row` good bytes, and plane row 0.
+/// `unpack_row` good bytes, and plane row 0, `read_img` neither.
 #[repr(C)]
 #[derive(Clone, Copy, Debug, Default, PartialEq, Eq)]
 pub struct Refusal {
@@ -48,6 +48,8 @@ numbers! {
     NO_ZERO_TAIL = 18, "a tail absent or not all zero";
     NOT_OWNED = 19, "a legend entry of another party, or a free one to release";
     WRONG_VERSION = 20, "MacPaint version neither 0 nor 2";
+    OUTSIDE_PROFILE = 21, "IMG header outside the screen profile";
+    WRONG_SCANLINE_RUN = 22, "a scanline run out of place, or its flag or count wrong";
 }
 
 impl Refusal {
@@ -70,11 +72,10 @@ impl fmt::Display for Refusal {
     fn fmt(&self, out: &mut fmt::Formatter) -> fmt::Result {
         let Refusal { number, place, plane_row, good_bytes } = *self;
         write!(out, "refused {number} at {place}: {}", self.meaning())?;
-        match number {
-            INPUT_ENDS | RECORD_CROSSES => {
-                write!(out, " (plane row {plane_row}, {good_bytes} bytes good)")
-            }
-            _ => Ok(()),
+        // Row 0 without a good byte tells nothing, and a scan's refusal has neither.
+        match (plane_row, good_bytes) {
+            (0, 0) => Ok(()),
+            _ => write!(out, " (plane row {plane_row}, {good_bytes} bytes good)"),
         }
     }
 }
