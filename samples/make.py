@@ -1,10 +1,13 @@
-"""Makes the sample pictures: ponds.pc1, a class map of a salt works with 16 ponds of one register each, and torn.pc1,
-what a bad sector leaves of it.
+"""Makes the samples: ponds.pc1, a class map of a salt works with 16 ponds of one register each; sheet.img, the scan of
+a field sheet with a pond's name, its hatched outline and ruled lines; torn.pc1 and torn.img, what a bad sector leaves
+of them.
 
 python3 samples/make.py [FOLDER]
 """
 
+import re
 import sys
+from itertools import groupby
 from pathlib import Path
 
 SAMPLES = Path(__file__).resolve().parent
@@ -45,12 +48,75 @@ def ponds():
     return kutimuq.write(picture, picture.screen, kutimuq.Form.PACKED)
 
 
-def torn(file):
-    """The file with its ninth sector unreadable, so that the disk drive gave bytes of 0xE5."""
-    return file[: 8 * SECTOR] + b"\xe5" * SECTOR + file[9 * SECTOR :]
+def torn(file, sector):
+    """The file with a sector unreadable, so that the disk drive gave bytes of 0xE5."""
+    return file[: sector * SECTOR] + b"\xe5" * SECTOR + file[(sector + 1) * SECTOR :]
+
+
+SHEET_WIDTH, SHEET_LINES = 509, 380  # a line's last byte has padding bits
+PATTERN_BYTES, PIXEL_MICRONS = 2, 372
+RUNS = re.compile(rb"(\x00+|\xff+)|(..)\2+", re.DOTALL)  # solid, or of a pattern
+FRAME, RULE, FIRST_RULE, MARGIN = 3, 24, 260, 24
+CENTRE, RADII, RIM, HATCH = (330, 130), (150, 100), 0.94, 16
+LETTER_SIZE, LETTER_STEP, LETTERS_AT = 4, 28, (24, 24)
+# Five columns and seven rows a letter, a row's leftmost pixel in the top of its five bits.
+LETTERS = (
+    (0x1E, 0x11, 0x11, 0x1E, 0x10, 0x10, 0x10), (0x0E, 0x11, 0x11, 0x11, 0x11, 0x11, 0x0E),
+    (0x11, 0x19, 0x15, 0x13, 0x11, 0x11, 0x11), (0x1E, 0x11, 0x11, 0x11, 0x11, 0x11, 0x1E),
+    (0, 0, 0, 0, 0, 0, 0), (0x1F, 0x01, 0x02, 0x04, 0x08, 0x08, 0x08),
+)
+
+
+def in_letters(x, y):
+    """Whether a pixel is of the words POND 7."""
+    number, column = divmod(x - LETTERS_AT[0], LETTER_STEP)
+    row, column = (y - LETTERS_AT[1]) // LETTER_SIZE, column // LETTER_SIZE
+    if not (0 <= number < len(LETTERS) and 0 <= row < 7 and column < 5):
+        return False
+    return LETTERS[number][row] >> (4 - column) & 1
+
+
+def is_black(x, y):
+    """A frame, the pond's outline and hatch, its name, and lines to write on."""
+    framed = min(x, y, SHEET_WIDTH - 1 - x, SHEET_LINES - 1 - y) < FRAME
+    ruled = y >= FIRST_RULE and y % RULE == 0 and MARGIN <= x < SHEET_WIDTH - MARGIN
+    away = sum(((at - centre) / radius) ** 2 for at, centre, radius in zip((x, y), CENTRE, RADII))
+    pond = RIM < away < 1 or away <= RIM and (x + y) % HATCH < 2
+    return framed or ruled or pond or in_letters(x, y)
+
+
+def packed_line(line):
+    """A line's records: solid runs, pattern runs and, between them, literals."""
+    records, done = b"", 0
+    for run in RUNS.finditer(line):
+        solid, pattern = run.groups()
+        count = len(run[0]) // PATTERN_BYTES
+        records += literal(line[done : run.start()])
+        records += bytes((solid[0] & 0x80 | len(solid),)) if solid else bytes((0, count)) + pattern
+        done = run.end()
+    return records + literal(line[done:])
+
+
+def literal(data):
+    return bytes((0x80, len(data))) + data if data else b""
+
+
+def sheet():
+    """The scan, GEM IMG, with a scanline run before lines that are alike."""
+    words = (1, 8, 1, PATTERN_BYTES, PIXEL_MICRONS, PIXEL_MICRONS, SHEET_WIDTH, SHEET_LINES)
+    file = b"".join(word.to_bytes(2, "big") for word in words)
+    shift = -SHEET_WIDTH % 8
+    rows = (sum(1 << (SHEET_WIDTH - 1 - x) for x in range(SHEET_WIDTH) if is_black(x, y)) for y in range(SHEET_LINES))
+    lines = [(row << shift).to_bytes((SHEET_WIDTH + 7) // 8, "big") for row in rows]
+    for line, alike in groupby(lines):
+        count = len(list(alike))
+        file += (bytes((0, 0, 0xFF, count)) if count > 1 else b"") + packed_line(line)
+    return file
 
 
 if __name__ == "__main__":
     folder = Path(sys.argv[1]) if len(sys.argv) > 1 else SAMPLES
     (folder / "ponds.pc1").write_bytes(ponds())
-    (folder / "torn.pc1").write_bytes(torn(ponds()))
+    (folder / "torn.pc1").write_bytes(torn(ponds(), 8))
+    (folder / "sheet.img").write_bytes(sheet())
+    (folder / "torn.img").write_bytes(torn(sheet(), 4))

@@ -1,14 +1,16 @@
-"""Kutimuq: Atari ST pictures (DEGAS, DEGAS Elite, NEOchrome, Tiny) and MacPaint plates by way of the proved library.
+"""Kutimuq: Atari ST pictures (DEGAS, DEGAS Elite, NEOchrome, Tiny), MacPaint plates and GEM IMG scans, by way of the
+proved library.
 
     picture = kutimuq.open("ponds.pc1")     # kutimuq.Refused if the file is damaged
     picture.registers()                     # height x width, a numpy array where numpy is present
     picture.save("ponds.neo", form="neo")
     kutimuq.open_plate("atlas.mac").save("least.mac")
+    kutimuq.open_img("sheet.img").pixels()  # lines x width, 0 white and 1 black
 
 Each name is imported at its first use.
 """
 
-__version__ = "0.8.0"
+__version__ = "0.9.0"
 
 # Public name: the module that has it.
 _PUBLIC = {
@@ -21,6 +23,7 @@ _PUBLIC = {
     "File": "pictures",
     "Form": "files",
     "FormatList": "files",
+    "Img": "pictures",
     "Kind": "files",
     "Legend": "legend",
     "LibraryMissing": "library",
@@ -45,10 +48,12 @@ _PUBLIC = {
     "line_in": "pictures",
     "line_out": "pictures",
     "open": "pictures",
+    "open_img": "pictures",
     "open_plate": "pictures",
     "pack_row": "pictures",
     "pond": "index",
     "read": "pictures",
+    "read_img": "pictures",
     "read_legend": "legend",
     "read_plate": "pictures",
     "records": "degas_records",

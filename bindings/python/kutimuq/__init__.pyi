@@ -28,6 +28,7 @@ from .neochrome_animation import ColourAnimation as ColourAnimation
 from .neochrome_animation import Direction as Direction
 from .neochrome_animation import animation as animation
 from .pictures import File as File
+from .pictures import Img as Img
 from .pictures import Picture as Picture
 from .pictures import Plate as Plate
 from .pictures import Rectangle as Rectangle
@@ -36,10 +37,12 @@ from .pictures import Tail as Tail
 from .pictures import from_registers as from_registers
 from .pictures import line_in as line_in
 from .pictures import line_out as line_out
+from .pictures import open_img as open_img
 from .pictures import open_picture as open
 from .pictures import open_plate as open_plate
 from .pictures import pack_row as pack_row
 from .pictures import read as read
+from .pictures import read_img as read_img
 from .pictures import read_plate as read_plate
 from .pictures import registers as registers
 from .pictures import screen_from_registers as screen_from_registers

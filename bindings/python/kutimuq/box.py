@@ -40,7 +40,7 @@ from .files import (
 )
 from .library import RefusalNumber, Refused, good_part, library, meaning_of
 from .neochrome_animation import cycling_lists, cycling_text
-from .pictures import Picture, Plate, read_any, write, write_plate
+from .pictures import Img, Picture, Plate, read_any, write, write_plate
 
 # What a record holds, in the order of the CSV file. A record is a dict, so that it can be a line of JSON.
 COLUMNS = (
@@ -62,6 +62,8 @@ COLUMNS = (
     "same_as",
     "error",
     "cycling_lists",
+    "width",
+    "lines",
 )
 # The same for a file to convert: result, form, length, records and body are of the file that was written.
 CONVERTED_COLUMNS = (
@@ -137,16 +139,20 @@ def refused_fields(refusal: Refused, data: bytes, kind: int) -> dict:
     }
 
 
-def accepted_fields(picture: Picture | Plate) -> dict:
+def accepted_fields(picture: Picture | Plate | Img) -> dict:
     """What a record says about an accepted file."""
     form, file = least_rewriting(picture)
     fields = {
-        "records": picture.records,
-        "body": picture.body,
         **ACCEPTED_FIELDS,
         "form": None if form is None else int(form),
         "sha256": sha256(file).hexdigest(),
     }
+    if isinstance(picture, Img):
+        fields["width"] = picture.width
+        fields["lines"] = picture.lines
+    else:
+        fields["records"] = picture.records
+        fields["body"] = picture.body
     if isinstance(picture, Picture):
         fields["resolution"] = picture.resolution
         fields["tail_present"] = picture.tail_present
@@ -155,12 +161,15 @@ def accepted_fields(picture: Picture | Plate) -> dict:
     return fields
 
 
-def least_rewriting(picture: Picture | Plate) -> tuple[Form | None, bytes]:
+def least_rewriting(picture: Picture | Plate | Img) -> tuple[Form | None, bytes]:
     """The picture's packed form, or the raw Elite form where no packed one exists; a plate has no numbered form.
 
     Pictures of equal resolution, palette, tail words and screen have equal ones, and only they; so do plates of equal
-    bitmaps. A plate that was read always has one.
+    bitmaps. A plate that was read always has one. For a scan, which is never written, its PBM stands: scans of equal
+    width, lines and pixels have equal ones.
     """
+    if isinstance(picture, Img):
+        return None, picture.pbm()
     if isinstance(picture, Plate):
         return None, write_plate(picture.bitmap)
     try:
@@ -312,6 +321,8 @@ def line_of(record: dict) -> str:
     line = f"{shown(record['name'])}: accepted: {decision(record['kind'], record['kind_by'])}"
     if record["resolution"] is not None:
         line += f", resolution {record['resolution']}"
+    if record["width"] is not None:
+        line += f", {record['width']} x {record['lines']}"
     if record["records"]:
         line += f", {record['records']} records, body {record['body']}"
     if record["cycling_lists"]:

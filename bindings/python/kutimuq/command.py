@@ -60,8 +60,8 @@ from .options import (
 )
 
 PROGRAM = "kutimuq"
-NO_PICTURE = "a MacPaint plate has no registers, palette, tail or machine"
-NO_PLATE = "not a MacPaint plate"
+PLATE = "MacPaint plate"
+SCAN = "GEM IMG scan"
 ACCEPTED, REFUSED, WRONG, INTERRUPTED, PIPE_CLOSED, ENDED = 0, 1, 2, 130, 141, 143
 
 
@@ -119,7 +119,7 @@ def help_on_group(arguments: list[str]) -> int:
 def help_text(commands: dict[str, Command]) -> str:
     """The help on these commands."""
     rows = columns([(name, command.about) for name, command in commands.items()])
-    about = "Reads, checks and writes Atari ST pictures and MacPaint plates."
+    about = f"Reads, checks and writes Atari ST pictures and {PLATE}s; reads and checks {SCAN}s."
     start = [f"usage: {PROGRAM} COMMAND [OPTION]... [FILE]...", "", about, ""]
     end = ["", f"{PROGRAM} COMMAND --help tells more, {PROGRAM} --version the version."]
     return "\n".join([*start, *rows, *end]) + "\n"
@@ -158,7 +158,7 @@ def legend_at(path: str | None):
 
 
 def read_named(name: str, options):
-    """The picture or plate in a file, after saying which kind it was found to be and what of it will be left out."""
+    """What is in a file, after saying which kind it was found to be and what of it will be left out."""
     from .pictures import read_any
 
     data = take(name)
@@ -192,18 +192,25 @@ def refuse(refusal, name: str) -> None:
     complain(f"{refusal}{hint}", name)
 
 
-def each(options, work, refused=None, plate=None) -> int:
-    """Calls `work(name, picture)` for each picture, `plate(name, plate)` for each plate, and gives the exit status.
+def no_picture(title: str) -> str:
+    """What is said where a plate or scan stands for a picture."""
+    return f"a {title} has no registers, palette, tail or machine"
+
+
+def each(options, work, refused=None, plate=None, scan=None) -> int:
+    """Calls `work(name, picture)` for each picture, `plate(name, plate)` for each plate, `scan(name, scan)` for each
+    scan, and gives the exit status.
 
     What there is no function for is wrong use.
     """
-    from .pictures import Plate
+    from .pictures import Img, Plate
 
     def work_on(name):
         found = read_named(name, options)
-        function = plate if isinstance(found, Plate) else work
+        title, function = {Plate: (PLATE, plate), Img: (SCAN, scan)}.get(type(found), ("", work))
         if function is None:
-            raise WrongUse(NO_PICTURE if isinstance(found, Plate) else NO_PLATE)
+            no_bits = f"neither a {PLATE} nor a {SCAN}" if scan else f"not a {PLATE}"
+            raise WrongUse(no_picture(title) if work else no_bits)
         function(name, found)
 
     def say_refused(name, refusal):
@@ -271,14 +278,14 @@ def send(options, place: str, extension: str, data: bytes) -> None:
         give(data)
 
 
-def make_files(options, make, plate=None) -> int:
-    """One result for each file: `make(picture)` and `plate(plate)` give its extension and its bytes."""
+def make_files(options, make, plate=None, scan=None) -> int:
+    """One result for each file: `make(picture)`, `plate(plate)` and `scan(scan)` give its extension and its bytes."""
     places = destinations(options)
 
     def saving(function):
         return function and (lambda name, found: send(options, places[name], *function(found)))
 
-    return each(options, saving(make), plate=saving(plate))
+    return each(options, saving(make), plate=saving(plate), scan=saving(scan))
 
 
 # The commands.
@@ -297,11 +304,15 @@ def summary(options) -> int:
         white, black = plate.tally()
         tell(options, name, (f"records {plate.records}", f"body {plate.body}", f"white {white}", f"black {black}"))
 
+    def scan_lines(name, scan):
+        white, black = scan.tally()
+        tell(options, name, (f"width {scan.width}", f"lines {scan.lines}", f"white {white}", f"black {black}"))
+
     def line(name, refusal):
         # Document 01 gives the summary a line for a refusal, too.
         tell(options, name, [f"refused {refusal.number} at {refusal.place}"])
 
-    return each(options, lines, line, plate_lines)
+    return each(options, lines, line, plate_lines, scan_lines)
 
 
 def palette(options) -> int:
@@ -331,19 +342,23 @@ def tail(options) -> int:
 
 def png(options) -> int:
     """`png`: indexed PNG files."""
-    from .images import plate_png_of, png_of
+    from .images import bitmap_png_of, png_of
+
+    def of_bits(found):
+        return ".png", bitmap_png_of(found)
 
     machine = machine_of(options)
-    return make_files(
-        options, lambda picture: (".png", png_of(picture, machine)), lambda plate: (".png", plate_png_of(plate))
-    )
+    return make_files(options, lambda picture: (".png", png_of(picture, machine)), of_bits, of_bits)
 
 
 def pbm(options) -> int:
-    """`pbm`: PBM files of plates."""
+    """`pbm`: PBM files of plates and scans."""
     from .images import bitmap_of
 
-    return make_files(options, None, lambda plate: (".pbm", bitmap_of(plate)))
+    def of_bits(found):
+        return ".pbm", bitmap_of(found)
+
+    return make_files(options, None, of_bits, of_bits)
 
 
 def registers(options) -> int:
@@ -456,15 +471,15 @@ def encode(options) -> int:
 def picture_encoder(options):
     """What makes an image a picture's file, with the palette, tail and machine that the options name."""
     from .images import picture_of
-    from .pictures import Plate, read_any
+    from .pictures import Picture, read_any
 
     words, tables = options.palette, None
     if options.like is not None:
         data = take(options.like)
         kind = find_kind(data, options.like).kind
         model = read_any(data, kind)
-        if isinstance(model, Plate):
-            raise WrongUse(f"{shown(options.like)}: {NO_PICTURE}")
+        if not isinstance(model, Picture):
+            raise WrongUse(f"{shown(options.like)}: {no_picture(PLATE if kind == Kind.MAC else SCAN)}")
         for said in left_out(data, model, kind, options.form):
             complain(said, options.like)
         words = words or model.palette
@@ -478,7 +493,7 @@ def plate_encoder(options):
     from .images import plate_of
 
     if any(option is not None for option in (options.palette, options.like, options.machine)):
-        raise WrongUse(NO_PICTURE)
+        raise WrongUse(no_picture(PLATE))
     return lambda image: plate_file(plate_of(image))
 
 
@@ -725,14 +740,17 @@ def check(options) -> int:
 COMMANDS = {
     "check": Command(check, "judge all files of a box: lines, JSON, CSV, a report page", "FOLDER+", TO_CHECK),
     "summary": Command(
-        summary, "resolution, counts, tail and tally, as text; of a plate counts and tally", "FILE", SOURCES
+        summary,
+        "resolution, counts, tail and tally, as text; of a plate counts and tally, of a scan size and tally",
+        "FILE",
+        SOURCES,
     ),
     "palette": Command(palette, "the 16 palette words and their colours", "FILE", TO_LIST_COLOURS),
     "tail": Command(tail, "the animation tail's tables", "FILE", SOURCES),
     "png": Command(
-        png, "an indexed PNG whose pixel values are the registers, or a plate's bits", "FILE", TO_SHOW_COLOURS
+        png, "an indexed PNG whose pixel values are the registers, or a plate's or scan's bits", "FILE", TO_SHOW_COLOURS
     ),
-    "pbm": Command(pbm, "a PBM of a MacPaint plate", "FILE", TO_FILES),
+    "pbm": Command(pbm, f"a PBM of a {PLATE} or a {SCAN}", "FILE", TO_FILES),
     "envi": Command(envi, "an ENVI classification: registers, class names and colours", "FILE", TO_ENVI),
     "registers": Command(registers, "a PGM with one register a byte", "FILE", TO_FILES),
     "colours": Command(

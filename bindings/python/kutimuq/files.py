@@ -6,16 +6,17 @@ import os
 import stat
 from collections import namedtuple
 from enum import IntEnum
-from errno import EEXIST
+from errno import EEXIST, EFBIG
 
 
 class Kind(IntEnum):
-    """A kind of file, by the number that the library reads it under; it has a function of its own for MAC."""
+    """A kind of file, by the number that the library reads it under; it has functions of their own for MAC and IMG."""
 
     DEGAS = 1
     NEO = 2
     TINY = 3
     MAC = 0x100  # not a byte, so none of the numbers that reading takes
+    IMG = 0x101
 
 
 class Form(IntEnum):
@@ -44,7 +45,7 @@ class FormatList(IntEnum):
 UNKNOWN = 0  # no kind has this number: the library refuses it
 
 # Their names at the command line.
-KIND_NAMES = {"mac": Kind.MAC, "degas": Kind.DEGAS, "neo": Kind.NEO, "tiny": Kind.TINY}
+KIND_NAMES = {"mac": Kind.MAC, "degas": Kind.DEGAS, "neo": Kind.NEO, "tiny": Kind.TINY, "img": Kind.IMG}
 FORM_NAMES = {"plain": Form.PLAIN, "elite": Form.ELITE, "packed": Form.PACKED, "neo": Form.NEO}
 MACHINE_NAMES = {"st": Machine.ST, "ste": Machine.STE}
 LIST_NAMES = {"1989": FormatList.LIST_1989, "2008": FormatList.LIST_2008}
@@ -55,6 +56,7 @@ PACKED_EXTENSIONS = (".pc1", ".pc2", ".pc3")
 NEO_EXTENSIONS = (".neo", ".neo", ".neo")
 TINY_EXTENSIONS = (".tny", ".tn1", ".tn2", ".tn3", ".tn4", ".tn5", ".tn6")
 PLATE_EXTENSIONS = (".mac", ".pntg", ".pnt")
+IMG_EXTENSIONS = (".img",)
 
 # Of a raw DEGAS file: its length without and with a tail.
 PLAIN_LENGTH = 32_034
@@ -68,6 +70,12 @@ TINY_LARGEST_COUNT = 0xFFFF
 # Of a MacPaint file: the longest that is accepted, and the versions in its first long.
 LONGEST_PLATE_FILE = 51_711
 PLATE_VERSIONS = (0, 2)
+
+# Of a GEM IMG file: its version, the least words of a header and the most, and the longest pattern.
+IMG_VERSION = 1
+IMG_LEAST_HEADER = 8
+IMG_MOST_HEADER = 0xFFFF
+IMG_LONGEST_PATTERN = 8
 
 # The extensions of each form, by resolution.
 FORMS: dict[int, tuple[str, ...]] = {
@@ -132,16 +140,33 @@ def _has_plate_version(data: bytes) -> bool:
 
 def _is_plate(data: bytes, length: int) -> bool:
     """A version of MacPaint, and rows that the library accepts to the last byte: the format has no mark of its own."""
-    if not _has_plate_version(data):
-        return False
+    return _has_plate_version(data) and _is_accepted(data, Kind.MAC)
+
+
+def _is_accepted(data: bytes, kind: Kind) -> bool:
+    """Whether the library accepts a file as one of this kind."""
     from .library import Refused
-    from .pictures import read_plate
+    from .pictures import read_any
 
     try:
-        read_plate(data)
+        read_any(data, kind)
     except Refused:
         return False
     return True
+
+
+def _has_img_header(data: bytes) -> bool:
+    """A header of GEM IMG with one plane; its width and lines may be outside the screen profile."""
+    if len(data) < 2 * IMG_LEAST_HEADER:
+        return False
+    version, words, planes, pattern = (int.from_bytes(data[at : at + 2], "big") for at in range(0, 8, 2))
+    known = version == IMG_VERSION and words >= IMG_LEAST_HEADER and planes == 1
+    return known and 1 <= pattern <= IMG_LONGEST_PATTERN
+
+
+def _is_img(data: bytes, length: int) -> bool:
+    """Such a header, and lines that the library accepts to the last byte: also a DEGAS file may begin so."""
+    return _has_img_header(data) and _is_accepted(data, Kind.IMG)
 
 
 class Traits(namedtuple("Traits", "title extensions longest is_content")):
@@ -157,16 +182,24 @@ class Traits(namedtuple("Traits", "title extensions longest is_content")):
     longest: int
 
 
-# In the order in which content is looked at: a plate may have the length of a raw DEGAS file.
+# In the order in which content is looked at: a plate may have the length of a raw DEGAS file. GEM IMG is the last, and
+# takes none that has another kind's content; its longest is the longest header.
 KINDS: dict[int, Traits] = {
     Kind.MAC: Traits("MacPaint", PLATE_EXTENSIONS, LONGEST_PLATE_FILE, _is_plate),
     Kind.DEGAS: Traits("DEGAS", (*RAW_EXTENSIONS, *PACKED_EXTENSIONS), ELITE_LENGTH, _is_degas),
     Kind.NEO: Traits("NEOchrome", NEO_EXTENSIONS, 32_128, _is_neo),
     Kind.TINY: Traits("Tiny", TINY_EXTENSIONS, TINY_ROTATED_HEADER + 3 * TINY_LARGEST_COUNT, _is_tiny),
+    Kind.IMG: Traits("GEM IMG", IMG_EXTENSIONS, 2 * IMG_MOST_HEADER, _is_img),
 }
+
+# What the first bytes of a kind have, though its other bytes be damaged.
+STARTS = {Kind.MAC: _has_plate_version, Kind.IMG: _has_img_header}
 
 # A longer file is refused for its length whatever follows, so no more than this is ever read of one.
 READ_LIMIT = 1 + max(traits.longest for traits in KINDS.values())
+
+# But a scan may have any number of literals of no bytes: it is read whole, or not at all if no floppy holds so much.
+IMG_READ_LIMIT = 1 << 22
 
 
 class Found(namedtuple("Found", "kind by")):
@@ -199,11 +232,13 @@ def find_kind(data: bytes, name: str = "") -> Found:
     """The kind that a file's content names; where that leaves doubt, the one its extension names."""
     extension = os.path.splitext(name)[1].lower()
     named = next((kind for kind, traits in KINDS.items() if extension in traits.extensions), UNKNOWN)
-    # Where extension and version are MacPaint's, the length of another kind is no proof: a damaged plate may have it.
-    tried = (Kind.MAC,) if named == Kind.MAC and _has_plate_version(data) else KINDS
+    # Where extension and start are of one kind, the length of another is no proof: a damaged file may have it.
+    tried = (named,) if named in STARTS and STARTS[named](data) else KINDS
     for kind in tried:
         if KINDS[kind].is_content(data, len(data)):
             return Found(kind, "content")
+    if named in (UNKNOWN, Kind.IMG) and _has_img_header(data):
+        return Found(Kind.IMG, "content")  # damaged or outside the profile, and no extension speaks against it
     return Found(named, "extension" if named else "nothing")
 
 
@@ -236,14 +271,27 @@ class naming:
             raise OSError(error.errno, error.strerror, self.name) from None
 
 
-def take(path, limit: int = READ_LIMIT) -> bytes:
-    """The bytes of a file, at most so many; `-` is standard input."""
+def take(path, limit: int | None = None) -> bytes:
+    """The bytes of a file, at most so many, or those that judging it takes; `-` is standard input."""
     with naming(path):
         with open(INPUT if path == "-" else path, "rb", closefd=path != "-") as file:
             return take_from(file, limit)
 
 
-def take_from(file, limit: int = READ_LIMIT) -> bytes:
+def take_from(file, limit: int | None = None) -> bytes:
+    """The bytes of an open file, at most so many, or those that judging it takes."""
+    if limit is not None:
+        return front_of(file, limit)
+    data = front_of(file, READ_LIMIT)
+    if len(data) < READ_LIMIT or not _has_img_header(data):
+        return data
+    data += front_of(file, IMG_READ_LIMIT + 1 - READ_LIMIT)
+    if len(data) > IMG_READ_LIMIT:
+        raise OSError(EFBIG, os.strerror(EFBIG))
+    return data
+
+
+def front_of(file, limit: int) -> bytes:
     """The bytes of an open file, at most so many, in however small pieces they come."""
     pieces = []
     while limit:

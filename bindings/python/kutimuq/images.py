@@ -1,4 +1,4 @@
-"""Images: indexed PNG, ENVI and PGM keep the registers, PPM shows colours alone; PBM and indexed PNG of plates."""
+"""Images: indexed PNG, ENVI and PGM keep the registers, PPM shows colours alone; PBM and PNG of plates and scans."""
 
 from __future__ import annotations
 
@@ -11,6 +11,7 @@ from .pictures import (
     PLATE_BYTES,
     PLATE_HEIGHT,
     PLATE_WIDTH,
+    Img,
     Picture,
     Plate,
     Tail,
@@ -28,7 +29,7 @@ PALETTE_KEYWORD = b"Atari ST palette"
 TAIL_KEYWORD = b"Atari ST tail"
 MACHINE_KEYWORD = b"Atari machine"  # in the PNG of another machine than an ST
 COMMENT = b"Comment\0Pixel values are colour registers."
-PLATE_COLOURS = [Colour(255, 255, 255), Colour(0, 0, 0)]  # of the bits 0 and 1
+BIT_COLOURS = [Colour(255, 255, 255), Colour(0, 0, 0)]  # of the bits 0 and 1 of a plate or scan
 DIGITS = bytes.maketrans(b"\0\1", b"01")
 
 
@@ -72,9 +73,9 @@ def known_machine(machine) -> Machine:
     return Machine(number_of(machine, MACHINE_NAMES))
 
 
-def plate_png_of(plate: Plate) -> bytes:
+def bitmap_png_of(found: Plate | Img) -> bytes:
     """An indexed PNG of one bit a pixel: 0 white, 1 black."""
-    return indexed_png(PLATE_WIDTH, 1, plate.rows(), PLATE_COLOURS, [])
+    return indexed_png(found.width, 1, found.rows(), BIT_COLOURS, [])
 
 
 def indexed_png(width: int, depth: int, rows: list[bytes], palette: list[Colour], texts: list[bytes]) -> bytes:
@@ -145,9 +146,10 @@ def netpbm_header(mark: str, picture: Picture) -> bytes:
     return f"{mark}\n{width} {height}\n255\n".encode("ascii")
 
 
-def bitmap_of(plate: Plate) -> bytes:
-    """A portable bitmap (P4): the plate's bits as they are."""
-    return f"P4\n{PLATE_WIDTH} {PLATE_HEIGHT}\n".encode("ascii") + b"".join(plate.rows())
+def bitmap_of(found: Plate | Img) -> bytes:
+    """A portable bitmap (P4): the bits of a plate or scan as they are, with padding bits 0."""
+    rows = found.rows()
+    return f"P4\n{found.width} {len(rows)}\n".encode("ascii") + b"".join(rows)
 
 
 def picture_of(image: Image, palette=None, tail: Tail | None = None, machine=None) -> Picture:
@@ -192,7 +194,7 @@ def plate_of(image: Image) -> Plate:
     """The plate whose bits are an image's pixel values, 0 white and 1 black."""
     if (image.width, image.height) != (PLATE_WIDTH, PLATE_HEIGHT):
         raise BadImage(f"a plate has {PLATE_WIDTH} x {PLATE_HEIGHT} pixels, not {image.width} x {image.height}")
-    if image.colours is None or image.colours[:2] != PLATE_COLOURS or max(image.pixels) > 1:
+    if image.colours is None or image.colours[:2] != BIT_COLOURS or max(image.pixels) > 1:
         raise BadImage("a plate is white where its values are 0 and black where they are 1")
     return Plate(int(image.pixels.translate(DIGITS), 2).to_bytes(PLATE_BYTES, "big"))
 
@@ -229,7 +231,7 @@ def read_bitmap(data: bytes) -> Image:
     if len(data) < end:
         raise BadImage("the PBM ends before its last pixel")
     rows = [data[start : start + row_bytes] for start in range(place, end, row_bytes or 1)]
-    return Image(width, height, spread(rows, 1, width), PLATE_COLOURS)
+    return Image(width, height, spread(rows, 1, width), BIT_COLOURS)
 
 
 def netpbm_numbers(data: bytes, title: str, fields: tuple[str, ...]) -> tuple[list[int], int]:

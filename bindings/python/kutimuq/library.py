@@ -113,6 +113,10 @@ class BodyAnswer(Structure):
     _fields_ = [("refusal", Refusal), ("body", c_size_t), ("records", c_size_t)]
 
 
+class ImgAnswer(Structure):
+    _fields_ = [("refusal", Refusal), ("width", c_uint16), ("lines", c_uint16)]
+
+
 class Rectangle(Structure):
     _fields_ = [("left", c_size_t), ("top", c_size_t), ("columns", c_size_t), ("lines", c_size_t)]
 
@@ -195,6 +199,7 @@ FUNCTIONS = {
     "kutimuq_to_plain": (WriteAnswer, (*INPUT, *OUTPUT)),
     "kutimuq_read_plate": (BodyAnswer, (*INPUT, *OUTPUT)),
     "kutimuq_write_plate": (WriteAnswer, (*INPUT, *OUTPUT)),
+    "kutimuq_read_img": (ImgAnswer, (*INPUT, *OUTPUT)),
     "kutimuq_open_records": (CursorAnswer, INPUT),
     "kutimuq_next_record": (RecordAnswer, (*INPUT, RecordCursor)),
     "kutimuq_animation": (AnimationAnswer, (c_uint8, *INPUT)),
@@ -308,6 +313,8 @@ class RefusalNumber(IntEnum):
     NO_ZERO_TAIL = 18, "a tail absent or not all zero"
     NOT_OWNED = 19, "a legend entry of another party, or a free one to release"
     WRONG_VERSION = 20, "MacPaint version neither 0 nor 2"
+    OUTSIDE_PROFILE = 21, "IMG header outside the screen profile"
+    WRONG_SCANLINE_RUN = 22, "a scanline run out of place, or its flag or count wrong"
 
 
 def meaning_of(number: int) -> str:
@@ -328,7 +335,7 @@ class Refused(Exception):
 
     For numbers 6 and 7, plane_row is the row with the record at fault, from 0, and good_bytes are the bytes that it had
     before that record; a row that is unpacked by itself is row 0, and a plate's rows are its plane rows. Both are 0 for
-    every other number.
+    every other number, and for every scan (RefusedScan).
     """
 
     def __init__(self, number: int, place: int = 0, plane_row: int = 0, good_bytes: int = 0):
@@ -349,9 +356,17 @@ class Refused(Exception):
         return f"refused {self.number} at {self.place}: {self.meaning}{good}"
 
 
-def accepted(answer):
+class RefusedScan(Refused):
+    """A GEM IMG file was judged and refused: how far its lines are good is not given."""
+
+    @property
+    def in_row(self) -> bool:
+        return False
+
+
+def accepted(answer, refused=Refused):
     """The library's answer, or the exception if it is a refusal: the one place where answers become exceptions."""
     refusal = getattr(answer, "refusal", answer)
     if refusal.number:
-        raise Refused(refusal.number, refusal.place, refusal.plane_row, refusal.good_bytes)
+        raise refused(refusal.number, refusal.place, refusal.plane_row, refusal.good_bytes)
     return answer

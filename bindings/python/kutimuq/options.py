@@ -213,7 +213,7 @@ def parse_last(text: str) -> int:
 KIND = Option(
     ("--kind",),
     "KIND",
-    "degas, neo, tiny or mac; default: found by content, then by extension",
+    "degas, neo, tiny, mac or img; default: found by content, then by extension",
     choice(list(KIND_NAMES)),
 )
 QUIET = Option(("-q", "--quiet"), None, "do not say which kind was found")

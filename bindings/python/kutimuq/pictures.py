@@ -1,4 +1,4 @@
-"""Pictures and MacPaint plates read, written and converted; PackBits rows; screens and their registers."""
+"""Pictures and MacPaint plates read, written and converted; GEM IMG scans read; PackBits rows; screens, registers."""
 
 from __future__ import annotations
 
@@ -21,7 +21,7 @@ from .files import (
     take,
     take_from,
 )
-from .library import RefusalNumber, Refused, accepted, library
+from .library import RefusalNumber, Refused, RefusedScan, accepted, library
 
 SCREEN_BYTES = 32_000
 FILE_BYTES = 32_128  # the output that writing and converting ask for
@@ -193,13 +193,27 @@ def _converted(function, data) -> File:
     return file_of(function(data, len(data), out, len(out)), out)
 
 
+# Pixels of one bit: 0 white, 1 black.
+
+_PIXELS = bytes.maketrans(b"01", b"\0\1")
+
+
+def pixels_of(row: bytes) -> bytes:
+    """A row's pixels, one byte each, from one of eight pixels a byte."""
+    return f"{int.from_bytes(row, 'big'):0{8 * len(row)}b}".encode().translate(_PIXELS)
+
+
+def ones_in(rows: list[bytes]) -> int:
+    """The number of bits that are 1."""
+    return bin(int.from_bytes(b"".join(rows), "big")).count("1")
+
+
 # MacPaint plates.
 
 PLATE_WIDTH = 576
 PLATE_HEIGHT = 720
 PLATE_ROW_BYTES = 72
 PLATE_BYTES = PLATE_ROW_BYTES * PLATE_HEIGHT
-_PIXELS = bytes.maketrans(b"01", b"\0\1")
 
 
 class Plate(namedtuple("Plate", "bitmap body records", defaults=(0, 0))):
@@ -213,6 +227,7 @@ class Plate(namedtuple("Plate", "bitmap body records", defaults=(0, 0))):
     bitmap: bytes
     body: int
     records: int
+    width = PLATE_WIDTH
 
     def __repr__(self) -> str:
         return f"<kutimuq.Plate: {self.records} records, body {self.body}>"
@@ -225,11 +240,11 @@ class Plate(namedtuple("Plate", "bitmap body records", defaults=(0, 0))):
 
     def pixels(self) -> list[bytes]:
         """The rows from the top, one byte a pixel: 0 white, 1 black."""
-        return [f"{int.from_bytes(row, 'big'):0{PLATE_WIDTH}b}".encode().translate(_PIXELS) for row in self.rows()]
+        return [pixels_of(row) for row in self.rows()]
 
     def tally(self) -> tuple[int, int]:
         """The white and the black pixels."""
-        black = bin(int.from_bytes(b"".join(self.rows()), "big")).count("1")
+        black = ones_in(self.rows())
         return PLATE_WIDTH * PLATE_HEIGHT - black, black
 
     def pbm(self) -> bytes:
@@ -240,9 +255,9 @@ class Plate(namedtuple("Plate", "bitmap body records", defaults=(0, 0))):
 
     def png(self) -> bytes:
         """An indexed PNG of one bit a pixel: 0 white, 1 black."""
-        from .images import plate_png_of
+        from .images import bitmap_png_of
 
-        return plate_png_of(self)
+        return bitmap_png_of(self)
 
     def save(self, path) -> File:
         """Writes the plate to a MacPaint file, whole or not at all, and gives what was written."""
@@ -271,9 +286,92 @@ def write_plate(bitmap) -> File:
     return file_of(library().kutimuq_write_plate(bitmap, len(bitmap), out, len(out)), out)
 
 
-def read_any(data, kind: int) -> Picture | Plate:
-    """The plate in a MacPaint file's bytes, or the picture in those of another kind."""
-    return read_plate(data) if kind == Kind.MAC else read(data, kind)
+# GEM IMG scans.
+
+IMG_BYTES = 32_000  # the area lent for a scan
+IMG_MAX_WIDTH = 640
+IMG_MAX_LINES = 400
+
+
+class Img(namedtuple("Img", "bitmap width lines")):
+    """A black and white scan of at most 640 x 400 pixels: a bitmap of so many lines, from the top.
+
+    A line is (width + 7) // 8 bytes. The leftmost pixel is a byte's top bit; 0 is white, 1 black. The padding bits
+    after a line's last pixel are as the file has them in the bitmap alone.
+    """
+
+    __slots__ = ()
+    bitmap: bytes
+    width: int
+    lines: int
+
+    def __repr__(self) -> str:
+        return f"<kutimuq.Img: {self.width} x {self.lines}>"
+
+    def rows(self) -> list[bytes]:
+        """The lines from the top, eight pixels a byte, padding bits 0.
+
+        Refused with 10 where width or lines are out of range, then with 1 where bytes are missing.
+        """
+        if not (1 <= self.width <= IMG_MAX_WIDTH and 1 <= self.lines <= IMG_MAX_LINES):
+            raise Refused(RefusalNumber.OUT_OF_RANGE)
+        line_bytes = img_line_bytes(self.width)
+        if len(self.bitmap) < line_bytes * self.lines:
+            raise Refused(RefusalNumber.AREA_TOO_SHORT)
+        last = line_bytes - 1  # the byte with the padding bits
+        pixel_bits = lib.BYTE_MAX << -self.width % 8 & lib.BYTE_MAX
+        starts = range(0, line_bytes * self.lines, line_bytes)
+        return [self.bitmap[at : at + last] + bytes((self.bitmap[at + last] & pixel_bits,)) for at in starts]
+
+    def pixels(self):
+        """The pixels, lines x width: a numpy uint8 array where numpy is present, else a list of bytes rows.
+
+        0 is white, 1 black.
+        """
+        pixels = b"".join(pixels_of(row)[: self.width] for row in self.rows())
+        return pixel_array(pixels, self.width)
+
+    def tally(self) -> tuple[int, int]:
+        """The white and the black pixels."""
+        black = ones_in(self.rows())
+        return self.width * self.lines - black, black
+
+    def pbm(self) -> bytes:
+        """A portable bitmap (P4)."""
+        from .images import bitmap_of
+
+        return bitmap_of(self)
+
+    def png(self) -> bytes:
+        """An indexed PNG of one bit a pixel: 0 white, 1 black."""
+        from .images import bitmap_png_of
+
+        return bitmap_png_of(self)
+
+
+def img_line_bytes(width: int) -> int:
+    """The bytes of a scan's line."""
+    return (width + 7) // 8
+
+
+def open_img(file) -> Img:
+    """The scan in a GEM IMG file, given by its path or open for bytes."""
+    return read_img(take_from(file) if hasattr(file, "read") else take(file))
+
+
+def read_img(data) -> Img:
+    """The scan in a GEM IMG file's bytes."""
+    data = lib.lent(data)
+    area = lib.room(IMG_BYTES)
+    answer = accepted(library().kutimuq_read_img(data, len(data), area, len(area)), RefusedScan)
+    return Img(area.raw[: img_line_bytes(answer.width) * answer.lines], answer.width, answer.lines)
+
+
+def read_any(data, kind: int) -> Picture | Plate | Img:
+    """The plate in a MacPaint file's bytes, the scan in a GEM IMG file's, or the picture in those of another kind."""
+    if kind == Kind.MAC:
+        return read_plate(data)
+    return read_img(data) if kind == Kind.IMG else read(data, kind)
 
 
 # Single rows.
@@ -395,19 +493,26 @@ def line_in(screen, resolution: int, line: int, registers) -> bytes:
 
 def register_rows(screen, resolution: int) -> list[bytes]:
     """The registers as a list of bytes, one for each scan line."""
-    pixels = screen_out(screen, resolution)
-    width = shape(resolution).width
-    return [pixels[start : start + width] for start in range(0, len(pixels), width)]
+    return pixel_rows(screen_out(screen, resolution), shape(resolution).width)
 
 
 def registers(screen, resolution: int):
     """The registers: a numpy uint8 array, height x width; without numpy a list of bytes rows."""
+    return pixel_array(screen_out(screen, resolution), shape(resolution).width)
+
+
+def pixel_rows(pixels: bytes, width: int) -> list[bytes]:
+    """Pixels, one byte each, as a list of rows."""
+    return [pixels[start : start + width] for start in range(0, len(pixels), width)]
+
+
+def pixel_array(pixels: bytes, width: int):
+    """Pixels, one byte each, as a numpy uint8 array, height x width; without numpy a list of bytes rows."""
     try:
         import numpy
     except ImportError:
-        return register_rows(screen, resolution)
-    pixels = bytearray(screen_out(screen, resolution))
-    return numpy.frombuffer(pixels, dtype=numpy.uint8).reshape(-1, shape(resolution).width)
+        return pixel_rows(pixels, width)
+    return numpy.frombuffer(bytearray(pixels), dtype=numpy.uint8).reshape(-1, width)
 
 
 def screen_from_registers(rows, resolution: int) -> bytes:

@@ -13,11 +13,11 @@ from importlib.resources import files as package_files
 from . import __version__
 from .box import Check, least_rewriting, spread_over
 from .files import Kind, Machine, kind_titled, shown, take
-from .images import PLATE_COLOURS
+from .images import BIT_COLOURS
 from .index import STE_HINT, colours, has_ste_bits
 from .library import Refused, good_part
 from .neochrome_animation import cycling_text
-from .pictures import PLATE_SHAPE, Plate, Shape, read_any, shape
+from .pictures import PLATE_SHAPE, Picture, Shape, read_any, shape
 
 TITLES = ("low", "medium", "high")
 GOOD_NOTE = (
@@ -103,14 +103,28 @@ def is_plate(record: dict) -> bool:
     return kind_titled(record["kind"]) == Kind.MAC
 
 
+def is_scan(record: dict) -> bool:
+    return kind_titled(record["kind"]) == Kind.IMG
+
+
+def has_registers(record: dict) -> bool:
+    """Whether its pixels are registers; a plate's and a scan's are white or black."""
+    return not (is_plate(record) or is_scan(record))
+
+
 def shape_of(record: dict) -> Shape:
-    """Width, height and planes of a picture or plate."""
+    """Width, height and planes of a picture, plate or scan."""
+    if is_scan(record):
+        return Shape(record["width"], record["lines"], 1)
     return PLATE_SHAPE if is_plate(record) else shape(record["resolution"])
 
 
 def size_of(record: dict) -> str:
-    """A picture's resolution or a plate's size, in words."""
-    return f"{PLATE_SHAPE.width} x {PLATE_SHAPE.height}" if is_plate(record) else TITLES[record["resolution"]]
+    """A picture's resolution, or the size of a plate or scan, in words."""
+    if has_registers(record):
+        return TITLES[record["resolution"]]
+    width, height, _ = shape_of(record)
+    return f"{width} x {height}"
 
 
 def copies_of(records: list[dict]) -> dict[str, list[dict]]:
@@ -154,7 +168,7 @@ def colours_line(records: list[dict], machine: Machine) -> str:
 
 def ste_mark(record: dict, machine: Machine) -> str:
     """The mark of a picture that may be an STE's where an ST's colours are shown."""
-    if machine != Machine.ST or is_plate(record):
+    if machine != Machine.ST or not has_registers(record):
         return ""
     return ", STE bits" if has_ste_bits(record["resolution"], record["palette"]) else ""
 
@@ -173,20 +187,20 @@ def figures(records: list[dict], copies: dict[str, list[dict]], machine: Machine
         source = f"data:image/png;base64,{image}"
         picture = f'<img loading="lazy" alt="" src="{source}">' if image else "<p>changed since it was judged</p>"
         caption = f"<figcaption><b>{text(os.path.basename(record['name']))}</b> {about}</figcaption>"
-        mark = ' class="plate"' if is_plate(record) else ""
+        mark = ' class="plate"' if is_plate(record) else ' class="scan"' if is_scan(record) else ""
         made.append(f'<figure{mark} tabindex="0" title="{name}">{picture}{caption}</figure>')
     return "\n".join(made) or "<p>None.</p>"
 
 
 def image_of(name: str, kind: str, digest: str, machine: Machine) -> str:
-    """A picture or plate as base64 of an indexed PNG; empty if the file is not what was judged."""
+    """A picture, plate or scan as base64 of an indexed PNG; empty if the file is not what was judged."""
     try:
         picture = read_any(take(name), kind_titled(kind))
     except (OSError, Refused):
         return ""
     if sha256(least_rewriting(picture)[1]).hexdigest() != digest:
         return ""
-    png = picture.png() if isinstance(picture, Plate) else picture.png(machine)
+    png = picture.png(machine) if isinstance(picture, Picture) else picture.png()
     return b64encode(png).decode("ascii")
 
 
@@ -195,17 +209,18 @@ def data_of(records: list[dict], legend, machine: Machine) -> str:
     pictures = []
     for record in records:
         width, height, _ = shape_of(record)
-        plate = is_plate(record)
-        unit = "" if plate else " resolution"
+        registers = has_registers(record)
+        unit = " resolution" if registers else ""
         pictures.append(
             {
                 "name": shown(record["name"]),
-                "plate": plate,
+                "plate": is_plate(record),
+                "scan": is_scan(record),
                 "width": width,
                 "height": height,
                 "tally": record["tally"],
-                "palette": [] if plate else [f"{word:04x}" for word in record["palette"]],
-                "colours": PLATE_COLOURS if plate else colours(record["resolution"], record["palette"], machine),
+                "palette": [f"{word:04x}" for word in record["palette"]] if registers else [],
+                "colours": colours(record["resolution"], record["palette"], machine) if registers else BIT_COLOURS,
                 "facts": f"{record['kind']}, {size_of(record)}{unit}, SHA-256 {record['sha256']}",
             }
         )

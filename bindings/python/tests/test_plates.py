@@ -230,7 +230,7 @@ class Images(Case):
         self.assertEqual(images.plate_of(image).bitmap, drawing())
 
     def test_images_that_are_no_plates(self):
-        turned = images.indexed_png(WIDTH, 1, Plate(drawing()).rows(), images.PLATE_COLOURS[::-1], [])
+        turned = images.indexed_png(WIDTH, 1, Plate(drawing()).rows(), images.BIT_COLOURS[::-1], [])
         for data, said in (
             (b"P4\n576 719\n" + drawing(), "576 x 720 pixels, not 576 x 719"),
             (b"P4\n576 720\n" + drawing()[:-1], "the PBM ends before its last pixel"),
@@ -323,10 +323,13 @@ class Commands(Folder):
         self.assertEqual(sorted(each.name for each in self.folder.iterdir()), ["A.MAC", "legend", "ponds.csv"])
 
     def test_what_makes_sense_for_a_plate_alone(self):
-        for arguments in (["pbm"], ["convert", "--form", "mac"]):
+        for arguments, said in (
+            (["pbm"], "neither a MacPaint plate nor a GEM IMG scan"),
+            (["convert", "--form", "mac"], "not a MacPaint plate"),
+        ):
             done = command(*arguments, "-q", data=BLANK)
             self.assertEqual((done.stdout, done.returncode), (b"", 2))
-            self.assertEqual(done.stderr, b"kutimuq: standard input: not a MacPaint plate\n")
+            self.assertEqual(done.stderr.decode(), f"kutimuq: standard input: {said}\n")
         options = (("--palette", "0000 " * 16), ("--like", self.put("a.pc1", BLANK)), ("--machine", "st"))
         for option, value in options:
             done = command("encode", "--form", "mac", option, value, data=Plate(drawing()).pbm())

@@ -1,4 +1,4 @@
-"""The sample file and its maker."""
+"""The sample files and their maker."""
 
 import subprocess
 import sys
@@ -18,7 +18,7 @@ class Samples(unittest.TestCase):
     def test_made_alike_each_time(self):
         with tempfile.TemporaryDirectory() as folder:
             subprocess.run([sys.executable, str(SAMPLES / "make.py"), folder], check=True)
-            for name in ("ponds.pc1", "torn.pc1"):
+            for name in ("ponds.pc1", "torn.pc1", "sheet.img", "torn.img"):
                 self.assertEqual(Path(folder, name).read_bytes(), (SAMPLES / name).read_bytes())
 
     def test_every_register_is_there(self):
@@ -26,6 +26,12 @@ class Samples(unittest.TestCase):
         counts = kutimuq.tally(picture.screen, picture.resolution)
         self.assertTrue(all(counts))
         self.assertEqual(len(set(picture.palette)), 16)
+
+    def test_the_scan_and_what_is_left_of_it(self):
+        scan = kutimuq.open_img(SAMPLES / "sheet.img")
+        self.assertEqual((scan.width, scan.lines, sum(scan.tally())), (509, 380, 509 * 380))
+        done = command("summary", "-q", SAMPLES / "torn.img")
+        self.assertEqual((done.stdout, done.returncode), (b"refused 7 at 2047\n", 1))
 
     def test_pond_reading(self):
         done = command(
