@@ -7,10 +7,8 @@ use native.Mathlib.Omega.{arith}
 use lib.ListN.{length}
 use lib.Dec.{leb, eqb}
 use borrow.Author.Tests.{eq-eqb, ne-eqb, eqb-true, eqb-false, lt-ltb, le-ltb, leb-true, leb-false}
-use Rattle.lists.specs.Over.{over}
 use Rattle.lists.specs.Repeated.{repeated}
 use Rattle.lists.proofs.Cond.{cond-elim, cond-ltb}
-use Rattle.lists.proofs.Over.{over-whole}
 use Rattle.lists.proofs.Repeated.{length-repeated}
 use Rattle.outcome.specs.declared.Refusal.{Refusal}
 use Rattle.outcome.specs.Outcome.{Outcome, accepted, refused, map}
@@ -145,6 +143,10 @@ module _ (file : List ℕ) (at : ℕ) where
 
 -- ---- a line as a step
 
+pub used-once : (line : List ℕ) → repeated 1 line ≡ line
+unfolding repeated
+used-once line = refl
+
 module _ (pattern bytes : ℕ) (file : List ℕ) where
   -- the line at an offset, used once
   abbrev pub lineAt : ℕ → Filling
@@ -254,27 +256,18 @@ module _ (pattern bytes : ℕ) (file : List ℕ) where
   unfolding fillLines
   lines-all = made-all (lineStep pattern bytes file) (linesLeft pattern bytes file) step-less bytes sized
 
-  -- ---- the line as the code has it: its buffer `line`, which then holds `last`, and where unpacking it ended
+  -- ---- the line as the code has it: from `first` on, as long as the buffer `line`, and where unpacking it ended
 
-  module _ (at first : ℕ) (line last : List ℕ) (r : Ended) (wide : length line ≡ bytes)
-      (start : first ≡ recordsFrom file at)
-      (is : r ≡ ended (fillLine pattern file first (length line) .ends)) where
-    same-line : fillLine pattern file first (length line) ≡ lineAt at
+  module _ (at first : ℕ) (line : List ℕ) (wide : length line ≡ bytes) (start : first ≡ recordsFrom file at) where
+    pub same-line : fillLine pattern file first (length line) ≡ lineAt at
     same-line = rw (wide, start)
 
-    ends-so : r ≡ ended (lineAt at .ends)
-    ends-so = is ∙ ap (λ (f : Filling). ended (f .ends)) same-line
+    module _ (r : Ended) (is : r ≡ ended (fillLine pattern file first (length line) .ends)) where
+      ends-so : r ≡ ended (lineAt at .ends)
+      ends-so = is ∙ ap (λ (f : Filling). ended (f .ends)) same-line
 
-    pub line-stopped : (why : Refusal) → r ≡ Refused why → lineAt at .ends ≡ refused why
-    line-stopped why e = ended-refused (lineAt at .ends) why (sym ends-so ∙ e)
+      pub line-stopped : (why : Refusal) → r ≡ Refused why → lineAt at .ends ≡ refused why
+      line-stopped why e = ended-refused (lineAt at .ends) why (sym ends-so ∙ e)
 
-    pub line-ended : (next : ℕ) → r ≡ At next → lineAt at .ends ≡ accepted next
-    line-ended next e = ended-at (lineAt at .ends) next (sym ends-so ∙ e)
-
-    pub line-content : (next : ℕ) → r ≡ At next
-        → last ≡ over (fillLine pattern file first (length line) .made) line → last ≡ lineAt at .made
-    line-content next e put =
-        put
-        ∙ ap (λ (f : Filling). over (f .made) line) same-line
-        ∙ over-whole (lineAt at .made) line
-        (omega (arith, wide, line-all pattern file (recordsFrom file at) bytes next (line-ended next e)))
+      pub line-ended : (next : ℕ) → r ≡ At next → lineAt at .ends ≡ accepted next
+      line-ended next e = ended-at (lineAt at .ends) next (sym ends-so ∙ e)

@@ -40,11 +40,8 @@ use Rattle.gem_img.proofs.Lines.{allowed-elim, allowed-known, flag-wron
 use Rattle.gem_img.proofs.Lines.{no-run-fault, no-run-from, no-run-times, run-cut}
 use Rattle.gem_img.proofs.Lines.{run-right, run-wrong, run-from, run-times, run-known, run-cut-fault}
 use Rattle.gem_img.proofs.Lines.{from-inside, lineAt, stepTo, run-refused, line-refused, line-accepted, begun}
-use Rattle.gem_img.proofs.Lines.{step-less, lines-full, lines-run-fault, lines-record-fault, lines-step}
-
-used-once : (line : List ℕ) → repeated 1 line ≡ line
-unfolding repeated
-used-once line = refl
+use Rattle.gem_img.proofs.Lines.{used-once, step-less, lines-full, lines-run-fault, lines-record-fault}
+use Rattle.gem_img.proofs.Lines.{lines-step}
 
 -- ---- a scanline run by its bytes
 

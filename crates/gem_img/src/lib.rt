@@ -1,11 +1,12 @@
 // GEM IMG files of the screen profile, read (document 02, ticket 11; source 002). Definitions: specs/.
 ghost use mathlib.Core.Path.{_≡_};
-ghost use Prim.Native.Nat.{_*_, _≤_};
+ghost use Prim.Native.Nat.{ℕ, _*_, _≤_};
 ghost use lib.ListN.{length, take};
 ghost use Rattle.lists.specs.Over.{over};
 ghost use Rattle.lists.specs.Repeated.{repeated};
 ghost use Rattle.outcome.specs.Outcome.{accepted, refused};
 ghost use Rattle.filling.specs.Ended.{ended};
+ghost use Rattle.gem_img_records.specs.Line.{fillLine};
 ghost use Rattle.gem_img.specs.Header.{mostLineBytes, upTo, headerBytes, inProfile, bytesPerLine};
 ghost use Rattle.gem_img.specs.Lines.{runAllowed, hasRun, runFault, recordsFrom, timesUsed, fillLines};
 ghost use Rattle.gem_img.specs.Reading.{areaBytes, fillImage, headerRefusal, readLines, readImg, imgAnswer};
@@ -27,6 +28,19 @@ pub const AREA_BYTES: usize = 32000;
 const LEAST_HEADER_WORDS: u16 = 8;
 
 const LEAST_HEADER_BYTES: usize = 16;
+
+// Where the header's words stand. Those at 8 and 10, a pixel's size, are not judged.
+const VERSION_START: usize = 0;
+
+const WORDS_START: usize = 2;
+
+const PLANES_START: usize = 4;
+
+const PATTERN_START: usize = 6;
+
+const WIDTH_START: usize = 12;
+
+const LINES_START: usize = 14;
 
 // The version and the planes of the profile, and the most that it allows.
 const VERSION: u16 = 1;
@@ -80,29 +94,29 @@ fn up_to(most: u16, n: u16) -> bool
 fn in_profile(file: &[u8]) -> bool
     ensures { λ b. ⌜ b ≡ inProfile (now (file .entry)) ⌝ }
 {
-    if words::word_at(file, 0) != VERSION {
+    if words::word_at(file, VERSION_START) != VERSION {
         return false;
     }
-    if words::word_at(file, 2) < LEAST_HEADER_WORDS {
+    if words::word_at(file, WORDS_START) < LEAST_HEADER_WORDS {
         return false;
     }
-    if words::word_at(file, 4) != PLANES {
+    if words::word_at(file, PLANES_START) != PLANES {
         return false;
     }
-    if !up_to(MAX_PATTERN, words::word_at(file, 6)) {
+    if !up_to(MAX_PATTERN, words::word_at(file, PATTERN_START)) {
         return false;
     }
-    if !up_to(MAX_WIDTH, words::word_at(file, 12)) {
+    if !up_to(MAX_WIDTH, words::word_at(file, WIDTH_START)) {
         return false;
     }
-    up_to(MAX_LINES, words::word_at(file, 14))
+    up_to(MAX_LINES, words::word_at(file, LINES_START))
 }
 
 // The header's bytes.
 fn header_bytes(file: &[u8]) -> usize
     ensures { λ n. ⌜ n ≡ headerBytes (now (file .entry)) ⌝ }
 {
-    words::word_at(file, 2) as usize * 2
+    words::word_at(file, WORDS_START) as usize * 2
 }
 
 // A line's bytes.
@@ -195,10 +209,9 @@ fn times_used(file: &[u8], at: usize) -> usize
     count as usize
 }
 
-// Writes a line, so many times, to the front of an output, and gives the bytes written.
-fn put_line(line: &[u8], times: usize, out: &mut [u8]) -> usize
+// Writes a line, so many times, to the front of an output.
+fn put_line(line: &[u8], times: usize, out: &mut [u8])
     requires { ⌜ times * length (now line) ≤ length (now out) ⌝ }
-    ensures { λ n. ⌜ n ≡ times * length (now (line .entry)) ⌝ }
     ensures { λ _. ⌜ now (out .exit) ≡ over (repeated times (now (line .entry))) (now (out .entry)) ⌝ }
 {
     let mut to: usize = 0;
@@ -208,11 +221,37 @@ fn put_line(line: &[u8], times: usize, out: &mut [u8]) -> usize
         to += line.len();
         k += 1;
     }
-    to
+}
+
+// Unpacks the line whose records begin at an offset, as long as a buffer for one line, and writes it, so many times, to
+// the front of an output; a line used once without the buffer. After a refusal anything may stand in both.
+fn unpack_times(
+    file: &[u8],
+    first: usize,
+    pattern: u16,
+    times: usize,
+    line: &mut [u8],
+    out: &mut [u8],
+) -> Ended
+    requires { ⌜ times * length (now line) ≤ length (now out) ⌝ }
+    ensures answer { λ r. ⌜ r
+        ≡ ended (fillLine pattern (now (file .entry)) first (length (now (line .entry))) .ends) ⌝ }
+    ensures lines { λ _. ⌜ ((next : ℕ)
+        → fillLine pattern (now (file .entry)) first (length (now (line .entry))) .ends ≡ accepted next
+        → now (out .exit) ≡ over (repeated times
+        (fillLine pattern (now (file .entry)) first (length (now (line .entry))) .made)) (now (out .entry))) ⌝ }
+{
+    if times == 1 {
+        let width = line.len();
+        return gem_img_records::unpack_line(file, first, pattern, &mut out[..width]);
+    }
+    let ended = gem_img_records::unpack_line(file, first, pattern, line);
+    put_line(line, times, out);
+    ended
 }
 
 // Unpacks lines as long as a buffer for one line, from an offset of a file, to the front of an output. After a refusal
-// the output holds the lines before it.
+// anything may stand in both.
 fn unpack_lines(
     file: &[u8],
     at: usize,
@@ -225,10 +264,13 @@ fn unpack_lines(
     requires { ⌜ lines * length (now line) ≤ length (now out) ⌝ }
     ensures answer { λ r. ⌜ r
         ≡ ended (fillLines pattern (length (now (line .entry))) (now (file .entry)) at lines .ends) ⌝ }
-    ensures lines { λ _. ⌜ now (out .exit)
+    ensures lines { λ _. ⌜ ((end : ℕ)
+        → fillLines pattern (length (now (line .entry))) (now (file .entry)) at lines .ends ≡ accepted end
+        → now (out .exit)
         ≡ over (fillLines pattern (length (now (line .entry))) (now (file .entry)) at lines .made)
-        (now (out .entry)) ⌝ }
+        (now (out .entry))) ⌝ }
 {
+    let width = line.len();
     let mut from = at;
     let mut to: usize = 0;
     let mut left = lines;
@@ -239,11 +281,11 @@ fn unpack_lines(
         }
         let first = records_from(file, from);
         let times = times_used(file, from);
-        let ended = gem_img_records::unpack_line(file, first, pattern, line);
+        let ended = unpack_times(file, first, pattern, times, line, &mut out[to..]);
         let Ended::At(next) = ended else {
             return ended;
         };
-        to += put_line(line, times, &mut out[to..]);
+        to += times * width;
         left -= times;
         from = next;
     }
@@ -252,17 +294,18 @@ fn unpack_lines(
 
 // ---- a file
 
-// Unpacks the lines of a file whose header is judged to the front of an output, each by way of a buffer. After a
-// refusal the output holds the lines before it.
+// Unpacks the lines of a file whose header is judged to the front of an output, with a buffer for one line. After a
+// refusal anything may stand in both.
 fn unpack_image(file: &[u8], line: &mut [u8], out: &mut [u8]) -> Ended
     requires { ⌜ headerRefusal (now file) .number ≡ 0 ⌝ }
     requires { ⌜ (mostLineBytes ≤ length (now line)) × (areaBytes ≤ length (now out)) ⌝ }
     ensures answer { λ r. ⌜ r ≡ ended (fillImage (now (file .entry)) .ends) ⌝ }
-    ensures lines { λ _. ⌜ now (out .exit) ≡ over (fillImage (now (file .entry)) .made) (now (out .entry)) ⌝ }
+    ensures lines { λ _. ⌜ ((end : ℕ) → fillImage (now (file .entry)) .ends ≡ accepted end
+        → now (out .exit) ≡ over (fillImage (now (file .entry)) .made) (now (out .entry))) ⌝ }
 {
-    let bytes = bytes_per_line(words::word_at(file, 12));
-    let lines = words::word_at(file, 14) as usize;
-    let pattern = words::word_at(file, 6);
+    let bytes = bytes_per_line(words::word_at(file, WIDTH_START));
+    let lines = words::word_at(file, LINES_START) as usize;
+    let pattern = words::word_at(file, PATTERN_START);
     let at = header_bytes(file);
     unpack_lines(file, at, pattern, lines, &mut line[..bytes], out)
 }
@@ -279,8 +322,8 @@ fn put_image(file: &[u8], end: usize, made: &[u8], area: &mut [u8]) -> ImgAnswer
     if end < file.len() {
         return img_refused(outcome::refuse_at(WRONG_TAIL, end));
     }
-    let width = words::word_at(file, 12);
-    let lines = words::word_at(file, 14);
+    let width = words::word_at(file, WIDTH_START);
+    let lines = words::word_at(file, LINES_START);
     let all = lines as usize * bytes_per_line(width);
     bytes::copy(&made[..all], area);
     ImgAnswer {

@@ -19,6 +19,9 @@ const RUN_CONTROL: u8 = 0;
 
 const LITERAL_CONTROL: u8 = 0x80;
 
+// The high bit of a solid run's byte: its pixels are set. The bits below it are the length.
+const SET_BIT: u8 = 128;
+
 // The bytes of a scanline run: 00 00, the flag and the count.
 pub const SCANLINE_RUN_LEN: usize = 4;
 
@@ -94,14 +97,14 @@ pub fn is_scanline_run(r: Record) -> bool
 fn solid_len(x: u8) -> usize
     ensures { λ n. ⌜ n ≡ solidLen x ⌝ }
 {
-    x as usize % 128
+    (x % SET_BIT) as usize
 }
 
 // The byte that it repeats.
 fn solid_byte(x: u8) -> u8
     ensures { λ b. ⌜ b ≡ solidByte x ⌝ }
 {
-    if x < 128 {
+    if x < SET_BIT {
         return 0x00;
     }
     0xFF

@@ -2,7 +2,8 @@
 use mathlib.Core.Path.{_≡_, refl, sym, ap, _∙_}
 use mathlib.Core.Logic.{_↔_}
 use mathlib.Core.List.{List}
-use Prim.Native.Nat.{ℕ, _≤_}
+use Prim.Native.Nat.{ℕ, zero, suc}
+use native.Mathlib.Omega.{arith}
 use lib.ListN.{length}
 use Rattle.lists.specs.Bytes.{Bytes}
 use Rattle.outcome.specs.declared.Refusal.{Refusal}
@@ -71,3 +72,17 @@ module _ (file area : List ℕ) where
     reads-why h =
         let r = refuses-why outcome refl h in
         (r, reads-no-image (answer .refusal) r)
+
+    -- "accepted exactly when no listed refusal comes"
+    pub accepted-unlisted : (answer .refusal .number ≡ 0)
+        ↔ ((why : Refusal) → RefusesImg file (length area) why → ⊥)
+    accepted-unlisted = (
+      λ e why r.
+          refuses-number file (length area) why r
+          (sym (ap (λ (a : ImgAnswer). a .refusal .number) (reads-no-image why r .answer)) ∙ e),
+      λ none. number-none (answer .refusal .number) (λ h. none (answer .refusal) (refuses-why outcome refl h)),
+    )
+      where
+        number-none : (n : ℕ) → ((n ≡ 0 → ⊥) → ⊥) → n ≡ 0
+        number-none zero h = refl
+        number-none (suc n) h = absurd (h (λ e. omega arith))

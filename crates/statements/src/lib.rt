@@ -209,8 +209,8 @@ pub fn read_plate(file: &[u8], plate: &mut [u8]) -> BodyAnswer
 }
 
 // Document 02, ticket 11, with demands 1 and 2: a file is accepted exactly when its header is within the profile and
-// all the bytes behind it make its lines, and what it then gives; refused, and why, exactly as the ticket lists it; a
-// file of one white line is accepted.
+// all the bytes behind it make its lines, and what it then gives; refused, and why, exactly as the ticket lists it; "a
+// file is accepted exactly when no listed refusal comes"; a file of one white line is accepted.
 pub fn read_img(file: &[u8], area: &mut [u8]) -> ImgAnswer
     ensures exactly { λ a.
         ⌜ (HoldsScreen (now (area .entry)) → (a .refusal .number ≡ 0) ↔ AcceptsSome (now (file .entry))) ⌝ }
@@ -223,6 +223,9 @@ pub fn read_img(file: &[u8], area: &mut [u8]) -> ImgAnswer
     ensures refused { λ a.
         ⌜ (Refuses (a .refusal) → RefusesImg (now (file .entry)) (length (now (area .entry))) (a .refusal)
         × ReadsNoImage (a .refusal) a (now (area .entry)) (now (area .exit))) ⌝ }
+    ensures unlisted { λ a.
+        ⌜ ((a .refusal .number ≡ 0)
+        ↔ ((why : Refusal) → RefusesImg (now (file .entry)) (length (now (area .entry))) why → ⊥)) ⌝ }
     ensures blank { λ a.
         ⌜ (HoldsScreen (now (area .entry)) → now (file .entry) ≡ whiteLineFile → a .refusal .number ≡ 0) ⌝ }
     ensures whole { λ a. ⌜ AnswersImgRead (now (file .entry)) a (now (area .entry)) (now (area .exit)) ⌝ }

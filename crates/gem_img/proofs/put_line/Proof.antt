@@ -83,7 +83,7 @@ returns c =
     let l = c .before .loop in
     let a = c .before .before .before .before .args in
     let all : l .k ≡ a .times = omega arith in
-    rw (← all) (l .inv .2, l .inv .3)
+    rw (← all) (l .inv .3)
 
 pub put-line-spec : {M : Type 1} → statement M
 put-line-spec =

@@ -30,7 +30,7 @@ put-image-requires c κs =
     let end = c .before .before .before .ended .given .0 .0 in
     let is = ended-at (image .ends) end (sym (u .ensures .0) ∙ c .before .before .before .ended .given .1) in
     let front =
-    ap (take (length (image .made))) (u .ensures .1) ∙ take-at (image .made) _ (length (image .made)) refl in
+    ap (take (length (image .made))) (u .ensures .1 end is) ∙ take-at (image .made) _ (length (image .made)) refl in
     let zeros = length-replicate {A = ℕ} areaBytes 0 in (
       c .before .before .before .before .before .before .before .before .before .before .before .before .pre .0,
       (is, (front, (omega (arith, u .kept .1 .1 .0, zeros), omega arith))),

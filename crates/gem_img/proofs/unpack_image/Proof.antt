@@ -58,7 +58,8 @@ returns c =
     (c .before .before .before .before .before .before .before .before .before .word-at2 .ensures) in
     let u = c .before .before .before .before .unpack-lines .ensures in (
       u .0 ∙ ap (λ (f : Filling). ended (f .ends)) same,
-      u .1 ∙ ap (λ (f : Filling). over (f .made) (now (a .out))) same,
+      λ end e.
+          u .1 end (ap (λ (f : Filling). f .ends) same ∙ e) ∙ ap (λ (f : Filling). over (f .made) (now (a .out))) same,
     )
 
 pub unpack-image-spec : {M : Type 1} → statement M

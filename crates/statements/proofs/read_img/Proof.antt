@@ -3,7 +3,8 @@
 use mathlib.Core.Path.{refl}
 use denote.Ref.{now}
 use Rattle.lists.specs.Bytes.{Bytes}
-use Rattle.statements.proofs.Scans.{reads-exactly, reads-image, reads-no-image, reads-why, white-line-read}
+use Rattle.statements.proofs.Scans.{reads-exactly, reads-image, reads-no-image, reads-why, accepted-unlisted}
+use Rattle.statements.proofs.Scans.{white-line-read}
 use borrow.Author.Needs.{needs}
 use Rattle.statements.proofs.read_img.Statement.{statement}
 use Rattle.statements.proofs.read_img.Tie as tie
@@ -23,8 +24,11 @@ returns c =
           (
             λ h. reads-why (now (a .file)) (now (a .area)) bytes h,
             (
-              λ room blank. white-line-read (now (a .file)) (now (a .area)) room blank,
-              record { answer = refl; later = refl },
+              accepted-unlisted (now (a .file)) (now (a .area)) bytes,
+              (
+                λ room blank. white-line-read (now (a .file)) (now (a .area)) room blank,
+                record { answer = refl; later = refl },
+              ),
             ),
           ),
         ),
