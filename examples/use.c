@@ -3,8 +3,9 @@
  * colours, and the length of its shortest packed file. Of a MacPaint plate it
  * shows what reading found and the length of its shortest file, of a GEM IMG scan
  * its width, lines and black pixels. Of a damaged packed DEGAS file it counts the
- * records before the fault. Of a NEOchrome file it shows the colour animation
- * too, as the lists of 1989 and 2008 read it.
+ * records before the fault; of a file that begins as a scan it shows the scan's
+ * refusal. Of a NEOchrome file it shows the colour animation too, as the lists of
+ * 1989 and 2008 read it.
  *
  *     cc use.c $(pkg-config --cflags --libs kutimuq) -o use
  *     ./use ponds.pc1
@@ -18,7 +19,10 @@
 
 #include <kutimuq.h>
 
-static uint8_t file[KUTIMUQ_LONGEST_PLATE_FILE + 1]; /* one more, to see a file that is too long */
+/* As long as the longest MacPaint file, and one more to see a file that is too long. A scan may
+   be longer, by its header or by records that make no bytes: of such a one this reads only the
+   front. */
+static uint8_t file[KUTIMUQ_LONGEST_PLATE_FILE + 1];
 static uint8_t screen[KUTIMUQ_SCREEN_BYTES];
 static uint8_t plate[KUTIMUQ_PLATE_BYTES];
 static uint8_t scan[KUTIMUQ_IMG_BYTES];
@@ -28,7 +32,7 @@ static int refused(const char *what, KutimuqRefusal refusal)
 {
     fprintf(stderr, "%s: refused %u at %zu: %s", what, refusal.number, refusal.place,
             kutimuq_meaning(refusal.number));
-    if (refusal.number == KUTIMUQ_INPUT_ENDS || refusal.number == KUTIMUQ_RECORD_CROSSES) {
+    if (refusal.plane_row != 0 || refusal.good_bytes != 0) { /* a scan's refusal has neither */
         fprintf(stderr, " (plane row %zu, %zu bytes good)", refusal.plane_row,
                 refusal.good_bytes);
     }
@@ -142,6 +146,13 @@ static bool show_scan(size_t length)
     return true;
 }
 
+/* The first word of a GEM IMG file is its version, 1, and the third its planes, 1. A raw
+   DEGAS file may begin with 1 too; its third word is a colour. */
+static bool begins_as_scan(size_t length)
+{
+    return length >= 6 && file[0] == 0 && file[1] == 1 && file[4] == 0 && file[5] == 1;
+}
+
 /* Fills `file`; false where that failed. */
 static bool load(const char *path, size_t *length)
 {
@@ -172,6 +183,9 @@ int main(int count, char **words)
     /* No DEGAS file is as long as every NEOchrome file. */
     uint8_t kind = length == KUTIMUQ_LONGEST_FILE ? KUTIMUQ_KIND_NEO : KUTIMUQ_KIND_DEGAS;
     KutimuqReadAnswer found = kutimuq_read(kind, file, length, screen, sizeof screen);
+    if (found.refusal.number != KUTIMUQ_ACCEPTED && begins_as_scan(length)) {
+        return refused(words[1], kutimuq_read_img(file, length, scan, sizeof scan).refusal);
+    }
     if (found.refusal.number != KUTIMUQ_ACCEPTED) {
         show_good_records(length);
         return refused(words[1], found.refusal);

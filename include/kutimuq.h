@@ -11,9 +11,9 @@
  *
  * Every function takes every other input and answers. The number 0 means
  * accepted; any other number is a refusal. A refusal gives its number, a place,
- * for numbers 6 and 7, but of a scan, how far the rows are good, and zero in all
- * else but a legend or a step's cursor, which come back as given; no byte of any
- * lent area has changed. An accepted answer's refusal is all 0.
+ * and for numbers 6 and 7, except of a scan, how far the rows are good. All else
+ * is zero, except a legend or a step's cursor, which come back as given; no byte of
+ * any lent area has changed. An accepted answer's refusal is all 0.
  *
  * Resolutions: 0 low (320 x 200, 4 planes), 1 medium (640 x 200, 2 planes),
  * 2 high (640 x 400, 1 plane). A screen is the first 32,000 bytes of the area

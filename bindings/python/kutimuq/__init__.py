@@ -38,6 +38,7 @@ _PUBLIC = {
     "Rectangle": "pictures",
     "RefusalNumber": "library",
     "Refused": "library",
+    "RefusedScan": "library",
     "Row": "pictures",
     "Tail": "pictures",
     "animation": "neochrome_animation",

@@ -24,6 +24,7 @@ from .legend import read_legend as read_legend
 from .library import LibraryMissing as LibraryMissing
 from .library import RefusalNumber as RefusalNumber
 from .library import Refused as Refused
+from .library import RefusedScan as RefusedScan
 from .neochrome_animation import ColourAnimation as ColourAnimation
 from .neochrome_animation import Direction as Direction
 from .neochrome_animation import animation as animation

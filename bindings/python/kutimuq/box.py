@@ -19,9 +19,11 @@ from .files import (
     ERROR,
     FORMS,
     KINDS,
+    NOT_DEGAS,
     UNKNOWN,
     Form,
     Found,
+    ImgHeader,
     Kind,
     Output,
     complain,
@@ -31,6 +33,7 @@ from .files import (
     files_in,
     find_kind,
     give_text,
+    img_header,
     is_stream,
     kind_titled,
     put,
@@ -128,7 +131,7 @@ def opened(name: str, kind: int | None, columns: tuple[str, ...]) -> tuple[dict,
 
 def refused_fields(refusal: Refused, data: bytes, kind: int) -> dict:
     """What a record says about a refused file."""
-    return {
+    fields = {
         # A DEGAS file that is refused in a plane row is a packed one of a known resolution.
         "resolution": degas_resolution(data) if refusal.in_row and kind == Kind.DEGAS else None,
         "number": refusal.number,
@@ -137,6 +140,10 @@ def refused_fields(refusal: Refused, data: bytes, kind: int) -> dict:
         "plane_row": refusal.plane_row if refusal.in_row else None,
         "good_bytes": refusal.good_bytes if refusal.in_row else None,
     }
+    header = img_header(data) if refusal.number == RefusalNumber.OUTSIDE_PROFILE else None
+    if header is not None and header.is_likely:
+        fields["header"] = list(header)
+    return fields
 
 
 def accepted_fields(picture: Picture | Plate | Img) -> dict:
@@ -332,17 +339,20 @@ def line_of(record: dict) -> str:
     return line
 
 
-def bad_line(record: dict) -> str:
-    """The line of a file that was not read or was refused."""
+def bad_line(record: dict, meaning: str | None = None) -> str:
+    """The line of a file that was not read or was refused, with the refusal's meaning or other words for it."""
     name = shown(record["name"])
     if record["error"] is not None:
         return f"{name}: not read: {record['error']}"
+    meaning = meaning or record["meaning"]
     facts = [decision(record["kind"], record["kind_by"])]
     if record["plane_row"] is not None:
         facts.insert(0, good_part(record["plane_row"], record["good_bytes"]))
     elif record["number"] == RefusalNumber.UNKNOWN_KIND and kind_titled(record["kind"]) == Kind.DEGAS:
         facts.insert(0, "packed or with a tail")  # where a plain file is needed
-    return f"{name}: refused {record['number']} at {record['place']}: {record['meaning']} ({'; '.join(facts)})"
+    elif "header" in record:
+        facts.insert(0, str(ImgHeader(*record["header"])))
+    return f"{name}: refused {record['number']} at {record['place']}: {meaning} ({'; '.join(facts)})"
 
 
 def write_json(output: Output, records: list[dict]) -> None:
@@ -528,7 +538,8 @@ def result_name(name: str, extension: str) -> str:
 def converted_line(record: dict) -> str:
     """The record of a converted file as a line for people."""
     if record["number"] != RefusalNumber.ACCEPTED:
-        return bad_line(record)
+        other = record["kind_by"] == "content" and kind_titled(record["kind"]) != Kind.DEGAS
+        return bad_line(record, NOT_DEGAS if other else None)
     name = shown(record["name"])
     if record["error"] is not None:
         return f"{name}: not written: {record['error']}"

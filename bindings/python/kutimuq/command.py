@@ -584,11 +584,12 @@ def give_table(path: str | None, rows: list[tuple]) -> None:
 def records_command(options) -> int:
     """`records`: the records of packed DEGAS files."""
     from .library import library
-    from .record_list import COLUMNS, RecordList, hint
+    from .record_list import COLUMNS, RecordList
 
     library()  # a missing library is said once, before any line
     if not options.json:
         give_table(None, [("name", *COLUMNS)])
+    hints: dict[str, str] = {}
 
     def show(name):
         found = RecordList(take(name))
@@ -597,10 +598,11 @@ def records_command(options) -> int:
         else:
             give_table(None, [(name, *row) for row in found.rows(options.last)])
         if found.refusal is not None:
+            hints[name] = found.hint
             raise found.refusal
 
     def refused(name, refusal):
-        complain(f"{refusal}{hint(refusal)}", name)
+        complain(f"{refusal}{hints[name]}", name)
 
     return each_file(options, show, refused)
 

@@ -51,12 +51,16 @@ MACHINE_NAMES = {"st": Machine.ST, "ste": Machine.STE}
 LIST_NAMES = {"1989": FormatList.LIST_1989, "2008": FormatList.LIST_2008}
 PLATE_FORM = "mac"  # the one form of a plate
 
+NOT_DEGAS = "not a DEGAS file"  # said where the content is of another kind
+
 RAW_EXTENSIONS = (".pi1", ".pi2", ".pi3")
 PACKED_EXTENSIONS = (".pc1", ".pc2", ".pc3")
 NEO_EXTENSIONS = (".neo", ".neo", ".neo")
 TINY_EXTENSIONS = (".tny", ".tn1", ".tn2", ".tn3", ".tn4", ".tn5", ".tn6")
 PLATE_EXTENSIONS = (".mac", ".pntg", ".pnt")
 IMG_EXTENSIONS = (".img",)
+
+WORD_BYTES = 2
 
 # Of a raw DEGAS file: its length without and with a tail.
 PLAIN_LENGTH = 32_034
@@ -71,10 +75,11 @@ TINY_LARGEST_COUNT = 0xFFFF
 LONGEST_PLATE_FILE = 51_711
 PLATE_VERSIONS = (0, 2)
 
-# Of a GEM IMG file: its version, the least words of a header and the most, and the longest pattern.
+# Of a GEM IMG file: its version, the least words of a header and the most, its planes, and the longest pattern.
 IMG_VERSION = 1
 IMG_LEAST_HEADER = 8
 IMG_MOST_HEADER = 0xFFFF
+IMG_PLANES = 1
 IMG_LONGEST_PATTERN = 8
 
 # The extensions of each form, by resolution.
@@ -155,13 +160,50 @@ def _is_accepted(data: bytes, kind: Kind) -> bool:
     return True
 
 
+class ImgHeader(namedtuple("ImgHeader", "version words planes pattern pixel_width pixel_height width lines")):
+    """The first eight words of a GEM IMG file."""
+
+    __slots__ = ()
+    version: int
+    words: int
+    planes: int
+    pattern: int
+    width: int
+    lines: int
+
+    @property
+    def has_good_lengths(self) -> bool:
+        """Whether the header's own length and the pattern's are ones that GEM IMG has."""
+        return self.words >= IMG_LEAST_HEADER and 1 <= self.pattern <= IMG_LONGEST_PATTERN
+
+    @property
+    def is_likely(self) -> bool:
+        """Whether the version or the two lengths are GEM IMG's, though the header be outside the profile."""
+        return self.version == IMG_VERSION or self.has_good_lengths
+
+    def __str__(self) -> str:
+        said = [f"{self.width} x {self.lines}", f"{self.planes} plane" + ("s" if self.planes != 1 else "")]
+        if self.version != IMG_VERSION:
+            said.append(f"version {self.version}")
+        if not self.has_good_lengths:
+            said.append(f"header of {self.words} words, pattern of {self.pattern} bytes")
+        return ", ".join(said)
+
+
+def img_header(data: bytes) -> ImgHeader | None:
+    """What a file's first words say if it is GEM IMG; None where it is too short for that."""
+    if len(data) < WORD_BYTES * IMG_LEAST_HEADER:
+        return None
+    places = range(0, WORD_BYTES * IMG_LEAST_HEADER, WORD_BYTES)
+    return ImgHeader(*(int.from_bytes(data[at : at + WORD_BYTES], "big") for at in places))
+
+
 def _has_img_header(data: bytes) -> bool:
     """A header of GEM IMG with one plane; its width and lines may be outside the screen profile."""
-    if len(data) < 2 * IMG_LEAST_HEADER:
+    header = img_header(data)
+    if header is None or header.version != IMG_VERSION:
         return False
-    version, words, planes, pattern = (int.from_bytes(data[at : at + 2], "big") for at in range(0, 8, 2))
-    known = version == IMG_VERSION and words >= IMG_LEAST_HEADER and planes == 1
-    return known and 1 <= pattern <= IMG_LONGEST_PATTERN
+    return header.planes == IMG_PLANES and header.has_good_lengths
 
 
 def _is_img(data: bytes, length: int) -> bool:
@@ -189,7 +231,7 @@ KINDS: dict[int, Traits] = {
     Kind.DEGAS: Traits("DEGAS", (*RAW_EXTENSIONS, *PACKED_EXTENSIONS), ELITE_LENGTH, _is_degas),
     Kind.NEO: Traits("NEOchrome", NEO_EXTENSIONS, 32_128, _is_neo),
     Kind.TINY: Traits("Tiny", TINY_EXTENSIONS, TINY_ROTATED_HEADER + 3 * TINY_LARGEST_COUNT, _is_tiny),
-    Kind.IMG: Traits("GEM IMG", IMG_EXTENSIONS, 2 * IMG_MOST_HEADER, _is_img),
+    Kind.IMG: Traits("GEM IMG", IMG_EXTENSIONS, WORD_BYTES * IMG_MOST_HEADER, _is_img),
 }
 
 # What the first bytes of a kind have, though its other bytes be damaged.
@@ -199,7 +241,9 @@ STARTS = {Kind.MAC: _has_plate_version, Kind.IMG: _has_img_header}
 READ_LIMIT = 1 + max(traits.longest for traits in KINDS.values())
 
 # But a scan may have any number of literals of no bytes: it is read whole, or not at all if no floppy holds so much.
-IMG_READ_LIMIT = 1 << 22
+MIB = 1 << 20
+IMG_READ_LIMIT = 4 * MIB
+IMG_TOO_LONG = f"longer than {IMG_READ_LIMIT // MIB} MiB: not judged"
 
 
 class Found(namedtuple("Found", "kind by")):
@@ -238,7 +282,7 @@ def find_kind(data: bytes, name: str = "") -> Found:
         if KINDS[kind].is_content(data, len(data)):
             return Found(kind, "content")
     if named in (UNKNOWN, Kind.IMG) and _has_img_header(data):
-        return Found(Kind.IMG, "content")  # damaged or outside the profile, and no extension speaks against it
+        return Found(Kind.IMG, "content")  # damaged or outside the profile, and the extension is of no other kind
     return Found(named, "extension" if named else "nothing")
 
 
@@ -287,7 +331,7 @@ def take_from(file, limit: int | None = None) -> bytes:
         return data
     data += front_of(file, IMG_READ_LIMIT + 1 - READ_LIMIT)
     if len(data) > IMG_READ_LIMIT:
-        raise OSError(EFBIG, os.strerror(EFBIG))
+        raise OSError(EFBIG, IMG_TOO_LONG)
     return data
 
 

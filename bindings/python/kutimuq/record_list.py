@@ -3,7 +3,7 @@
 from __future__ import annotations
 
 from .degas_records import Record, RecordKind, records
-from .files import degas_resolution
+from .files import NOT_DEGAS, Kind, degas_resolution, find_kind
 from .library import RefusalNumber, Refused, meaning_of
 from .pictures import shape
 
@@ -45,8 +45,11 @@ END_KEYS = (
 )
 
 
-def hint(refusal: Refused) -> str:
-    """What follows a refusal's words: what is needed in place of a file that is not packed."""
+def hint(refusal: Refused, data: bytes) -> str:
+    """What follows a refusal's words: which other kind the content is of, or what is needed if it is not packed."""
+    found = find_kind(data)
+    if found.by == "content" and found.kind != Kind.DEGAS:
+        return f": {NOT_DEGAS} ({found})"
     return ": a packed DEGAS file is needed" if refusal.number == RefusalNumber.UNKNOWN_KIND else ""
 
 
@@ -57,6 +60,7 @@ class RecordList:
         self.data = data
         self.records: list[dict] = []
         self.refusal: Refused | None = None
+        self.hint = ""
         try:
             reader = records(data)
             good_bytes = reader.cursor.good_bytes
@@ -66,6 +70,7 @@ class RecordList:
                 good_bytes = reader.cursor.good_bytes
         except Refused as refusal:
             self.refusal = refusal
+            self.hint = hint(refusal, data)
 
     def entry(self, record: Record, good_bytes: int) -> dict:
         """What the list says of a record in a row that has so many bytes."""
@@ -104,7 +109,7 @@ class RecordList:
         entries = self.latest(last)
         if self.refusal is not None:
             place = self.place_of_refusal(self.refusal)
-            refused = f"{self.refusal}{hint(self.refusal)}"
+            refused = f"{self.refusal}{self.hint}"
             entries.append({**place, "offset": self.refusal.place or None, "refused": refused})
         return [tuple(entry.get(column) for column in COLUMNS) for entry in entries]
 
@@ -126,7 +131,7 @@ class RecordList:
         if self.refusal is None:
             end.update(number=0, place=0, meaning=meaning_of(RefusalNumber.ACCEPTED))
             return end
-        meaning = f"{self.refusal.meaning}{hint(self.refusal)}"
+        meaning = f"{self.refusal.meaning}{self.hint}"
         end.update(number=self.refusal.number, place=self.refusal.place, meaning=meaning)
         if self.refusal.in_row:
             end["good_bytes"] = self.refusal.good_bytes

@@ -20,6 +20,7 @@ from .neochrome_animation import cycling_text
 from .pictures import PLATE_SHAPE, Picture, Shape, read_any, shape
 
 TITLES = ("low", "medium", "high")
+CLASSES_NOTE = " Colours are decoration, the register is the class."
 GOOD_NOTE = (
     "<p>Good are the bytes that the records before the one at fault make, and the pixels that have all their planes "
     "among these bytes. Damage that leaves whole records is not seen.</p>"
@@ -40,6 +41,7 @@ def page(check: Check, paths: list[str], legend, machine: Machine, jobs: int) ->
         "REFUSED": refused_table(check.records),
         "DUPLICATES": duplicates_list(first, copies),
         "COLOURS": colours_line(first, machine),
+        "CLASSES": CLASSES_NOTE if any(map(has_registers, first)) else "",
         "PICTURES": figures(first, copies, machine, jobs),
         "DATA": data_of(first, legend, machine),
     }
@@ -161,9 +163,12 @@ def cycling_mark(record: dict, others: list[dict]) -> str:
 
 
 def colours_line(records: list[dict], machine: Machine) -> str:
-    """Whose colours are shown, and what the mark of some pictures means."""
+    """Whose colours are shown, and what the mark of some pictures means; empty where none has registers."""
+    if not any(map(has_registers, records)):
+        return ""
     marked = any(ste_mark(record, machine) for record in records)
-    return f"Colours as on an {machine.name}." + (f" STE bits: {STE_HINT}." if marked else "")
+    hint = f" STE bits: {STE_HINT}." if marked else ""
+    return f"<p>Colours as on an {machine.name}.{hint}</p>"
 
 
 def ste_mark(record: dict, machine: Machine) -> str:

@@ -223,7 +223,7 @@ class Converted(Folder):
             f"{packed}: refused 2 at 0: unknown kind or form (packed or with a tail; DEGAS by content)",
             f"{torn}: refused 7 at 108: a record crosses its row's end "
             "(plane row 26, 11 bytes good; DEGAS by content)",
-            f"{neo}: refused 3 at 0: file length not allowed (NEOchrome by content)",
+            f"{neo}: refused 3 at 0: not a DEGAS file (NEOchrome by content)",
             f"{text}: refused 3 at 0: file length not allowed (kind unknown)",
             "1 written, 5 refused",
         ])

@@ -145,6 +145,13 @@ class Reading(Case):
         self.assertEqual(kutimuq.RefusalNumber.OUTSIDE_PROFILE, 21)
         self.assertEqual(kutimuq.RefusalNumber.WRONG_SCANLINE_RUN, 22)
 
+    def test_the_exception_of_a_scan(self):
+        with self.assertRaises(kutimuq.RefusedScan) as caught:
+            read_img(CROSSING)
+        refusal = caught.exception
+        self.assertIsInstance(refusal, kutimuq.Refused)
+        self.assertEqual((refusal.number, refusal.in_row, "plane row" in str(refusal)), (7, False, False))
+
 
 class Values(Case):
     def test_padding_is_in_the_bitmap_alone(self):
@@ -280,9 +287,9 @@ class LongFiles(Case):
 
     def test_what_no_floppy_holds(self):
         self.path.write_bytes(file_of(literal() * (files.IMG_READ_LIMIT // 2)))
-        self.assertRaisesRegex(OSError, "File too large", kutimuq.open_img, self.path)
+        self.assertRaisesRegex(OSError, "longer than 4 MiB: not judged", kutimuq.open_img, self.path)
         done = command("check", self.path)
-        self.assertEqual(done.stdout.decode(), f"{self.path}: not read: File too large\n0 accepted, 0 refused\n")
+        self.assertEqual(done.stdout.decode(), f"{self.path}: not read: {files.IMG_TOO_LONG}\n0 accepted, 0 refused\n")
         self.assertEqual((done.stderr, done.returncode), (b"kutimuq: 1 not read\n", 2))
 
     def test_a_long_file_with_another_header_is_not_read_whole(self):
@@ -414,7 +421,7 @@ class Box(Folder):
             f"C.IMG: refused 7 at {last_line}: a record crosses its row's end (GEM IMG by content)",
             f"D.IMG: refused 6 at {last_line}: {ends} (GEM IMG by content)",
             f"E.IMG: refused 22 at 0: {WRONG_RUN} (GEM IMG by content)",
-            f"F.IMG: refused 21 at 0: {OUTSIDE} (GEM IMG by content)",
+            f"F.IMG: refused 21 at 0: {OUTSIDE} (641 x 4, 1 plane; GEM IMG by content)",
             f"G.img: refused 8 at {len(GOOD)}: bytes after the body not as the format has them (GEM IMG by content)",
             "H.IMG: refused 3 at 0: file length not allowed (GEM IMG by extension)",
             f"I.IMG: refused 21 at 0: {OUTSIDE} (GEM IMG by extension)",
@@ -423,6 +430,42 @@ class Box(Folder):
             f"L.BAK: refused 6 at {last_line}: {ends} (GEM IMG by content)",
             "3 accepted, 9 refused",
         ])
+
+    def test_what_a_header_outside_the_profile_says(self):
+        for changed, said in (
+            (dict(width=800, lines=1000), "800 x 1000, 1 plane; GEM IMG by content"),
+            (dict(planes=4), "20 x 4, 4 planes; GEM IMG by extension"),
+            (dict(version=3), "20 x 4, 1 plane, version 3; GEM IMG by extension"),
+            (dict(pattern=9), "20 x 4, 1 plane, header of 8 words, pattern of 9 bytes; GEM IMG by extension"),
+            (dict(version=3, pattern=9), "GEM IMG by extension"),
+        ):
+            path = self.put("F.IMG", file_of(BLACK_LINE, **changed))
+            done = command("check", path, "--json", f"{self.out}.json")
+            line = f"{path}: refused 21 at 0: {OUTSIDE} ({said})"
+            self.assertEqual(done.stdout.decode().splitlines()[0], line)
+            record = json.loads(Path(f"{self.out}.json").read_text())
+            words = [*{**LEAST_WORDS, **changed}.values()] if ";" in said else None
+            self.assertEqual((record.get("header"), record["width"]), (words, None))
+
+    def test_a_scan_is_not_a_degas_file(self):
+        said = "not a DEGAS file (GEM IMG by content)"
+        done = command("elite", self.name("A.IMG"), self.name("C.IMG"), "-o", self.out)
+        lines = done.stdout.decode().splitlines()
+        self.assertEqual(lines, [
+            f"{self.name('A.IMG')}: refused 3 at 0: {said}",
+            f"{self.name('C.IMG')}: refused 3 at 0: {said}",
+            "0 written, 2 refused",
+        ])
+        done = command("records", self.name("A.IMG"))
+        self.assertTrue(done.stderr.decode().endswith(f": {said}\n"), done.stderr)
+        self.assertEqual((done.stdout.decode().count(said), done.returncode), (1, 1))
+
+    def test_a_report_of_scans_alone(self):
+        for names, count in ((["A.IMG", "C.IMG"], 0), (["A.IMG", "J.PC1"], 1)):
+            command("check", *map(self.name, names), "--report", f"{self.out}.html")
+            page = Path(f"{self.out}.html").read_text()
+            self.assertEqual(page.count("Colours as on an ST."), count)
+            self.assertEqual(page.count("the register is the class"), count)
 
     def test_kind(self):
         lines = command("check", "--kind", "img", self.folder).stdout.decode().splitlines()

@@ -72,7 +72,7 @@ impl fmt::Display for Refusal {
     fn fmt(&self, out: &mut fmt::Formatter) -> fmt::Result {
         let Refusal { number, place, plane_row, good_bytes } = *self;
         write!(out, "refused {number} at {place}: {}", self.meaning())?;
-        // Row 0 without a good byte tells nothing, and a scan's refusal has neither.
+        // A scan's refusal has neither, and a first row of which nothing is good needs no words.
         match (plane_row, good_bytes) {
             (0, 0) => Ok(()),
             _ => write!(out, " (plane row {plane_row}, {good_bytes} bytes good)"),

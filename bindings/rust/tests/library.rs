@@ -356,6 +356,20 @@ fn a_file_says_which_row_broke() {
 }
 
 #[test]
+fn the_good_part_is_told_where_there_is_one() {
+    let meaning = "a record crosses its row's end";
+    for (plane_row, good_bytes, good) in [
+        (0, 0, ""),
+        (0, 11, " (plane row 0, 11 bytes good)"),
+        (26, 0, " (plane row 26, 0 bytes good)"),
+    ] {
+        let number = refusal::RECORD_CROSSES;
+        let refused = Refusal { number, place: 108, plane_row, good_bytes };
+        assert_eq!(refused.to_string(), format!("refused 7 at 108: {meaning}{good}"));
+    }
+}
+
+#[test]
 fn every_form_reads_back() {
     for resolution in Resolution::ALL {
         let screen = screen_of(resolution, &pattern(resolution));
