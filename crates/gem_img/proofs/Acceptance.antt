@@ -22,7 +22,7 @@ use Rattle.gem_img.specs.StopsLines.{StopsLines}
 use Rattle.gem_img.specs.Reading.{areaBytes, Image, fillImage, readLines, headerRefusal, readImg}
 use Rattle.gem_img.specs.Accepts.{Profiled, AcceptsImg}
 use Rattle.gem_img.specs.Refuses.{RefusesImg, areaShort, fileShort, headerCut, notProfiled, badRun, atRecord}
-use Rattle.gem_img.specs.Refuses.{bytesLeft}
+use Rattle.gem_img.specs.Refuses.{bytesBehind}
 use Rattle.gem_img.proofs.Header.{profiled, in-profile, line-least}
 use Rattle.gem_img.proofs.Reading.{Headed, headed, below-least, below-header, profile-wrong, profile-right}
 use Rattle.gem_img.proofs.Reading.{area-short, header-refused, header-right, lines-refused, bytes-left}
@@ -56,8 +56,8 @@ module _ (file : List ℕ) where
   abbrev body : List ℕ
   body = drop (headerBytes file) file
 
-  abbrev lineBytes : ℕ
-  lineBytes = bytesPerLine (width file)
+  abbrev perLine : ℕ
+  perLine = bytesPerLine (width file)
 
   headed-from : headerBytes file ≤ length file → Profiled file → Headed file
   headed-from has p =
@@ -77,7 +77,7 @@ module _ (file : List ℕ) where
       → readImg file area ≡ accepted image
   img-accepted area image room a =
       let p = a .profiled in
-      let t = makes-lines (pattern file) lineBytes file (line-least file p) (headerBytes file)
+      let t = makes-lines (pattern file) perLine file (line-least file p) (headerBytes file)
       (body-stands (a .header)) (a .body) in
       let left : length file ≤ t .end = omega (arith, ap length (t .stands .bytes), length-drop (t .end) file) in
       header-right file area room (from-header (a .header) p)
@@ -88,10 +88,10 @@ module _ (file : List ℕ) where
 
   -- a line that stops, as the whole reading's refusal
   stops-read : (area number : ℕ) (rest : List ℕ) → areaBytes ≤ area → headerBytes file ≤ length file
-      → Profiled file → StopsLines (pattern file) lineBytes (lines file) body number rest
+      → Profiled file → StopsLines (pattern file) perLine (lines file) body number rest
       → readImg file area ≡ refused (refusalAt number (length file - length rest))
   stops-read area number rest room has p s =
-      let t = stops-lines (pattern file) lineBytes file (line-least file p) (headerBytes file) (body-stands has) s in
+      let t = stops-lines (pattern file) perLine file (line-least file p) (headerBytes file) (body-stands has) s in
       header-right file area room (from-header has p)
       ∙ lines-refused file (refusalAt number (t .place)) (t .ends)
       ∙ ap (λ (k : ℕ). refused (refusalAt number k)) (sym (offset file rest (t .place) (t .stands)))
@@ -123,8 +123,8 @@ module _ (file : List ℕ) where
   img-refused area why (badRun {rest} room has p s) = stops-read area 22 rest room has p s
   img-refused area why (atRecord {number} {rest} room has p k s) =
       stops-read area number rest room has p s ∙ ap refused (placed-at number (length file - length rest) k)
-  img-refused area why (bytesLeft {rest} {made} room has p m some) =
-      let t = makes-lines (pattern file) lineBytes file (line-least file p) (headerBytes file) (body-stands has) m in
+  img-refused area why (bytesBehind {rest} {made} room has p m some) =
+      let t = makes-lines (pattern file) perLine file (line-least file p) (headerBytes file) (body-stands has) m in
       let more : t .end < length file =
       omega (arith, ap length (t .stands .bytes), length-drop (t .end) file, t .stands .inside) in
       header-right file area room (from-header has p)
@@ -151,7 +151,7 @@ module _ (file : List ℕ) where
         done : (end : ℕ) → fillImage file .ends ≡ accepted end → length file ≤ end → AcceptsImg file image
         done end f g =
             let is = accepted-same _ image (sym (lines-read file end f g) ∙ e) in
-            let m = lines-made (pattern file) lineBytes file all (line-least file (b .fits)) (headerBytes file)
+            let m = lines-made (pattern file) perLine file all (line-least file (b .fits)) (headerBytes file)
             (lines file)
             end (b .has) f in
             record {
@@ -160,9 +160,9 @@ module _ (file : List ℕ) where
               shownWidth = ap (λ (i : Image). i .width) (sym is);
               shownLines = ap (λ (i : Image). i .lines) (sym is);
               body =
-                  subst (λ (i : Image). MakesLines (pattern file) lineBytes (lines file) body [] (i .bytes)) is
+                  subst (λ (i : Image). MakesLines (pattern file) perLine (lines file) body [] (i .bytes)) is
                   (subst (λ (l : List ℕ).
-                  MakesLines (pattern file) lineBytes (lines file) body l (fillImage file .made))
+                  MakesLines (pattern file) perLine (lines file) body l (fillImage file .made))
                   (drop-of-length-le file g) m);
             }
 
@@ -177,16 +177,16 @@ module _ (file : List ℕ) where
       where
         halted : (w : Refusal) → fillImage file .ends ≡ refused w → RefusesImg file area w
         halted w f =
-            let t = lines-halted (pattern file) lineBytes file all (line-least file (b .fits)) (headerBytes file)
+            let t = lines-halted (pattern file) perLine file all (line-least file (b .fits)) (headerBytes file)
             (lines file) w (b .has) f in
             let at : length file - length (drop (t .place) file) ≡ t .place =
             offset file (drop (t .place) file) (t .place) (record { bytes = refl; inside = t .inside }) in
             subst (λ (v : Refusal). RefusesImg file area v) (sym (t .is))
             (by-number (t .number) (t .place) at (t .stops)
-            (stops-number (pattern file) lineBytes (lines file) (t .stops)))
+            (stops-number (pattern file) perLine (lines file) (t .stops)))
           where
             by-number : (number place : ℕ) → length file - length (drop place file) ≡ place
-                → StopsLines (pattern file) lineBytes (lines file) body number (drop place file)
+                → StopsLines (pattern file) perLine (lines file) body number (drop place file)
                 → (number ≡ 22) ⊎ ((number ≡ 6) ⊎ (number ≡ 7)) → RefusesImg file area (refusalAt number place)
             by-number number place at s (inl k) = rw k (badRun (b .room) (b .has) (b .fits) (rw k at s))
             by-number number place at s (inr (inl k)) =
@@ -201,14 +201,14 @@ module _ (file : List ℕ) where
         go (accepted end) f =
             cond-ltb {A = ℕ} (λ u. RefusesImg file area why) {a = 0} {b = 0} end (length file)
             (λ h.
-            let m = lines-made (pattern file) lineBytes file all (line-least file (b .fits)) (headerBytes file)
+            let m = lines-made (pattern file) perLine file all (line-least file (b .fits)) (headerBytes file)
             (lines file)
             end (b .has) f in
             let at : length file - length (drop end file) ≡ end =
             offset file (drop end file) end (record { bytes = refl; inside = omega arith }) in
             let is = refused-same {A = Image} _ why (sym (bytes-left file end f h) ∙ e) in
             let left : RefusesImg file area (refusal 8 (length file - length (drop end file))) =
-            bytesLeft (b .room) (b .has) (b .fits) m (omega (arith, length-drop end file)) in
+            bytesBehind (b .room) (b .has) (b .fits) m (omega (arith, length-drop end file)) in
             subst (λ (v : Refusal). RefusesImg file area v) is
             (subst (λ (k : ℕ). RefusesImg file area (refusal 8 k)) at left))
             (λ h. absurd (not-both _ why (sym (lines-read file end f h) ∙ e)))
@@ -287,7 +287,7 @@ module _ (file : List ℕ) where
   refuses-number area why (badRun room has p s) e = omega arith
   refuses-number area why (atRecord room has p (inl k) s) e = omega arith
   refuses-number area why (atRecord room has p (inr k) s) e = omega arith
-  refuses-number area why (bytesLeft room has p m some) e = omega arith
+  refuses-number area why (bytesBehind room has p m some) e = omega arith
 
   -- a file fits in one way only
   pub img-unique : (i j : Image) → AcceptsImg file i → AcceptsImg file j → i ≡ j

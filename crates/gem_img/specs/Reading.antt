@@ -45,7 +45,7 @@ judgeHeader file further =
     (refuseIf (not (inProfile file)) outsideProfile
     further))
 
--- why they are refused, or none
+-- why length or profile is refused, or none
 unfoldable pub headerRefusal : List ℕ → Refusal
 headerRefusal file = refusalOf {A = Unit {0}} (judgeHeader file (accepted tt))
 

@@ -32,6 +32,6 @@ pub data RefusesImg (file : List ℕ) (area : ℕ) : Refusal → Type 0 where
       → StopsLines (pattern file) (bytesPerLine (width file)) (lines file) (drop (headerBytes file) file) number rest
       → RefusesImg file area (refusal number (length file - length rest))
   -- 8, at the first of the bytes left behind the last line
-  bytesLeft : {rest made : List ℕ} → 32000 ≤ area → headerBytes file ≤ length file → Profiled file
+  bytesBehind : {rest made : List ℕ} → 32000 ≤ area → headerBytes file ≤ length file → Profiled file
       → MakesLines (pattern file) (bytesPerLine (width file)) (lines file) (drop (headerBytes file) file) rest made
       → 0 < length rest → RefusesImg file area (refusal 8 (length file - length rest))

@@ -11,7 +11,7 @@ use Rattle.outcome.specs.Outcome.{Outcome, accepted, refused}
 use Rattle.filling.specs.Filling.{Step, stopped, after}
 use Rattle.filling.proofs.Filling.{fill-full, fill-step, fill-fault, by-steps, made-most, made-all}
 use Rattle.gem_img_records.specs.Records.{recordAt, packedLen, lineLen, lineBytes, faultAt}
-use Rattle.gem_img_records.specs.Line.{refusalAt, unlessFault, recordStep, bytesLeft, fillLine}
+use Rattle.gem_img_records.specs.Line.{refusalAt, unlessFault, recordStep, bytesAhead, fillLine}
 use Rattle.gem_img_records.proofs.Records.{Whole, whole}
 
 -- ---- what a fault does to a step
@@ -63,7 +63,7 @@ module _ (pattern : ℕ) (file : List ℕ) where
   whole-here at room e = whole pattern file at room (recordAt file at) e
 
   pub step-less : (at room : ℕ) (s : Step) → 0 < room → recordStep pattern file at room ≡ accepted s
-      → bytesLeft pattern file (s .next) (room - s .filled) < bytesLeft pattern file at room
+      → bytesAhead pattern file (s .next) (room - s .filled) < bytesAhead pattern file at room
   step-less at room s h ok =
       let f = step-accepted at room s ok in
       let w = whole-here at room (f .0) in
@@ -80,7 +80,7 @@ module _ (pattern : ℕ) (file : List ℕ) where
 
   pub line-full : (at room : ℕ) → room ≡ 0 → fillLine pattern file at room ≡ stopped (accepted at)
   unfolding fillLine
-  line-full = fill-full (recordStep pattern file) (bytesLeft pattern file) step-less
+  line-full = fill-full (recordStep pattern file) (bytesAhead pattern file) step-less
 
   pub line-step : (at room : ℕ) → 0 < room → faultAt pattern file at room ≡ 0
       → fillLine pattern file at room
@@ -88,14 +88,14 @@ module _ (pattern : ℕ) (file : List ℕ) where
       (fillLine pattern file (at + packedLen pattern (recordAt file at)) (room - lineLen pattern (recordAt file at)))
   unfolding fillLine
   line-step at room h e =
-      fill-step (recordStep pattern file) (bytesLeft pattern file) step-less at room (stepOf at) h
+      fill-step (recordStep pattern file) (bytesAhead pattern file) step-less at room (stepOf at) h
       (step-whole at room e)
 
   pub line-fault : (at room : ℕ) → 0 < room → (faultAt pattern file at room ≡ 0 → ⊥)
       → fillLine pattern file at room ≡ stopped (refused (refusalAt (faultAt pattern file at room) at))
   unfolding fillLine
   line-fault at room h e =
-      fill-fault (recordStep pattern file) (bytesLeft pattern file) step-less at room _ h (step-fault at room e)
+      fill-fault (recordStep pattern file) (bytesAhead pattern file) step-less at room _ h (step-fault at room e)
 
   -- its bytes are no more than there is room for, and as many where it is full
   pub line-most : (at room : ℕ) → length (fillLine pattern file at room .made) ≤ room
@@ -103,7 +103,7 @@ module _ (pattern : ℕ) (file : List ℕ) where
   line-most at room =
       omega (
         arith,
-        made-most (recordStep pattern file) (bytesLeft pattern file) step-less 1 sized at room,
+        made-most (recordStep pattern file) (bytesAhead pattern file) step-less 1 sized at room,
         mul-one room,
       )
 
@@ -111,14 +111,14 @@ module _ (pattern : ℕ) (file : List ℕ) where
       → length (fillLine pattern file at room .made) ≡ room
   unfolding fillLine
   line-all at room end e =
-      made-all (recordStep pattern file) (bytesLeft pattern file) step-less 1 sized at room end e ∙ mul-one room
+      made-all (recordStep pattern file) (bytesAhead pattern file) step-less 1 sized at room end e ∙ mul-one room
 
   -- and it ends in the file
   pub line-inside : (at room end : ℕ) → at ≤ length file → fillLine pattern file at room .ends ≡ accepted end
       → end ≤ length file
   unfolding fillLine
   line-inside at room end =
-      by-steps (recordStep pattern file) (bytesLeft pattern file) step-less
+      by-steps (recordStep pattern file) (bytesAhead pattern file) step-less
       (λ at room f. at ≤ length file → f .ends ≡ accepted end → end ≤ length file)
       (λ at h e. let same : at ≡ end = cc in omega arith)
       (λ at room why h bad k e. let z : _≡_ {A = ℕ} 0 1 = cc in absurd (omega arith))

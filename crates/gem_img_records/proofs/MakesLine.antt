@@ -12,7 +12,7 @@ use Rattle.filling.specs.Filling.{Step, Filling, stopped, after}
 use Rattle.filling.proofs.Filling.{by-steps}
 use Rattle.gem_img_records.specs.declared.Record.{Record}
 use Rattle.gem_img_records.specs.Records.{recordAt, packedLen, lineLen, lineBytes, faultAt}
-use Rattle.gem_img_records.specs.Line.{refusalAt, recordStep, bytesLeft, fillLine}
+use Rattle.gem_img_records.specs.Line.{refusalAt, recordStep, bytesAhead, fillLine}
 use Rattle.gem_img_records.specs.WholeRecord.{WholeRecord}
 use Rattle.gem_img_records.specs.MakesLine.{MakesLine, full, andRecord}
 use Rattle.gem_img_records.specs.StopsLine.{FaultyRecord, StopsLine, here}
@@ -128,7 +128,7 @@ module _ (pattern : ℕ) (file : List ℕ) (bytes : Bytes file) where
   line-exact : (at room : ℕ) → LineExact at room (fillLine pattern file at room)
   unfolding fillLine
   line-exact =
-      by-steps (recordStep pattern file) (bytesLeft pattern file) (step-less pattern file) LineExact exact-full
+      by-steps (recordStep pattern file) (bytesAhead pattern file) (step-less pattern file) LineExact exact-full
       exact-fault exact-step
 
   -- a line that is full

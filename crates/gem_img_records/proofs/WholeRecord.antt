@@ -19,7 +19,7 @@ use Rattle.gem_img_records.specs.declared.Record.the-variants.{ScanlineR
 use Rattle.gem_img_records.specs.Records.{recordAt, misplacedFault, packedLen, lineLen, lineBytes, fault}
 use Rattle.gem_img_records.specs.Records.{faultAt, solidByte, isScanlineRun}
 use Rattle.gem_img_records.specs.WholeRecord.{WholeRecord, clearRun, setRun, literal, patternRun}
-use Rattle.gem_img_records.specs.StopsLine.{FaultyRecord, none, lone, runCut, runMisplaced, clearCrosses}
+use Rattle.gem_img_records.specs.StopsLine.{FaultyRecord, noByte, lone, runCut, runMisplaced, clearCrosses}
 use Rattle.gem_img_records.specs.StopsLine.{setCrosses, literalLone, literalCrosses, literalCut, patternCrosses}
 use Rattle.gem_img_records.specs.StopsLine.{patternCut}
 use Rattle.gem_img_records.proofs.Records.{control-scanline, control-pattern, control-literal, control-solid}
@@ -200,7 +200,7 @@ module _ (pattern room : ℕ) where
   pub record-exact : (input : List ℕ) → Bytes input → JudgedRecord pattern room input
   unfolding recordAt
   record-exact [] b =
-      judged-run pattern room [] ScanlineRun (control-scanline 0 0 refl refl) refl (λ h. none)
+      judged-run pattern room [] ScanlineRun (control-scanline 0 0 refl refl) refl (λ h. noByte)
       (λ h. absurd (omega arith))
   record-exact (x ∷ []) b = single-exact x (b 0)
   record-exact (x ∷ n ∷ rest) b = pair-exact x n rest (b 0) (b 1)
@@ -262,7 +262,7 @@ module _ (pattern room : ℕ) where
   pub faulty-judged : {input : List ℕ} {number : ℕ} → FaultyRecord pattern room input number
       → faultAt pattern input 0 room ≡ number
   unfolding recordAt
-  faulty-judged none = fault-is pattern room [] ScanlineRun (control-scanline 0 0 refl refl)
+  faulty-judged noByte = fault-is pattern room [] ScanlineRun (control-scanline 0 0 refl refl)
   faulty-judged lone = fault-is pattern room (0 ∷ []) ScanlineRun (control-scanline 0 0 refl refl)
   faulty-judged (runCut {rest} h) =
       fault-is pattern room (0 ∷ 0 ∷ rest) ScanlineRun (control-scanline 0 0 refl refl)
@@ -301,7 +301,7 @@ module _ (pattern room : ℕ) where
   -- the numbers of a fault
   pub faulty-numbers : {input : List ℕ} {number : ℕ} → FaultyRecord pattern room input number
       → (number ≡ 22) ⊎ ((number ≡ 6) ⊎ (number ≡ 7))
-  faulty-numbers none = inr (inl refl)
+  faulty-numbers noByte = inr (inl refl)
   faulty-numbers lone = inr (inl refl)
   faulty-numbers (runCut h) = inr (inl refl)
   faulty-numbers (runMisplaced h) = inl refl

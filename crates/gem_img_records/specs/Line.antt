@@ -30,9 +30,9 @@ module _ (pattern : ℕ) (file : List ℕ) where
       }))
 
   -- each record takes a byte of the file at least
-  abbrev pub bytesLeft : ℕ → ℕ → ℕ
-  bytesLeft at room = length file - at
+  abbrev pub bytesAhead : ℕ → ℕ → ℕ
+  bytesAhead at room = length file - at
 
   -- the records from an offset on, until a line of `room` bytes is full
   unfoldable pub fillLine : ℕ → ℕ → Filling
-  fillLine at room = fill recordStep bytesLeft at room
+  fillLine at room = fill recordStep bytesAhead at room

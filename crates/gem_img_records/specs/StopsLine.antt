@@ -10,7 +10,7 @@ use Rattle.gem_img_records.specs.WholeRecord.{WholeRecord}
 -- missing input.
 pub data FaultyRecord (pattern room : ℕ) : List ℕ → ℕ → Type 0 where
   -- no byte is left
-  none : FaultyRecord pattern room [] 6
+  noByte : FaultyRecord pattern room [] 6
   -- a lone 00
   lone : FaultyRecord pattern room (0x00 ∷ []) 6
   -- a scanline run of under 4 bytes
