@@ -1,4 +1,6 @@
 // The packed body of a raster: read from a file, and the least one below a limit packed. Definitions: specs/.
+#![tactic(auto)]
+
 ghost use Rattle.std.specs.Prelude.{◌≡◌, ◌+◌, ◌-◌, ◌≤◌, ◌<◌, length, ltb, leb, eqb};
 ghost use Rattle.lists.specs.Over.{over};
 ghost use Rattle.outcome.specs.Outcome.{later};

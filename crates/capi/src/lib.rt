@@ -1,4 +1,6 @@
 // The C library: every operation under a C name. The declarations for C are in include/kutimuq.h.
+#![tactic(auto)]
+
 ghost use Rattle.std.specs.Prelude.{◌≡◌, length};
 ghost use Rattle.lists.specs.Over.{over};
 ghost use Rattle.outcome.specs.Outcome.{refusal_of, later};

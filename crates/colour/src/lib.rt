@@ -1,4 +1,6 @@
 // The colour that a register shows on a machine. Definitions: specs/.
+#![tactic(auto)]
+
 ghost use Rattle.std.specs.Prelude.{◌≡◌, cond, ◌<◌, get_or, eqb};
 ghost use Rattle.outcome.specs.Outcome.{accepted, refused};
 ghost use Rattle.colour.specs.Machines.{chosen_machine, with_machine, stretch, ste_level, nibble_shown};

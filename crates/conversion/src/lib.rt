@@ -1,4 +1,6 @@
 // DEGAS files converted: plain to Elite, and Elite to plain (document 02, ticket 7). Definitions: specs/.
+#![tactic(auto)]
+
 ghost use Rattle.std.specs.Prelude.{◌≡◌, ◌≤◌, length};
 ghost use Rattle.picture.specs.Writing.{file_bytes, write_answer, write_output};
 ghost use Rattle.conversion.specs.Converting.{zero_tail, write_elite, plain_to_elite, elite_to_plain, convert};

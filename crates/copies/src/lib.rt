@@ -1,4 +1,6 @@
 // Bytes copied, and one byte repeated, to the front of an output. Definitions: specs/.
+#![tactic(auto)]
+
 ghost use Rattle.std.specs.Prelude.{◌≡◌, ◌+◌, ◌≤◌, length, take, drop, replicate};
 ghost use Rattle.lists.specs.Over.{over};
 ghost use Rattle.copies.specs.Copies.{put_part, put_run};

@@ -1,4 +1,6 @@
 // DEGAS files, plain, Elite raw and Elite packed: opened, read and written. Definitions: specs/.
+#![tactic(auto)]
+
 ghost use Rattle.std.specs.Prelude.{◌≡◌, length};
 ghost use Rattle.picture.specs.Reading.{read_answer, read_area};
 ghost use Rattle.picture.specs.Writing.{write_answer, write_output};

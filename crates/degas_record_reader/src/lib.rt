@@ -1,4 +1,6 @@
 // A record reader that stays open on the bytes of a packed DEGAS file. Definitions: specs/.
+#![tactic(auto)]
+
 ghost use Rattle.std.specs.Prelude.{◌≡◌};
 ghost use Rattle.degas_records.specs.Opening.{packed_opening};
 ghost use Rattle.degas_records.specs.Listing.{cursor_at};

@@ -1,4 +1,6 @@
 // The records of a packed DEGAS file, one at a time, for finding where a damaged one fails. Definitions: specs/.
+#![tactic(auto)]
+
 ghost use Rattle.std.specs.Prelude.{◌≡◌, ◌+◌, ◌<◌, ◌^◌};
 ghost use Rattle.packbits.specs.Records.{packed_len, row_len};
 ghost use Rattle.degas_records.specs.Opening.{judge_packed, packed_opening, opened_as};

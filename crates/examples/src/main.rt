@@ -1,5 +1,7 @@
 // Runs document 01's examples that are not proved, one function each, then its house choices and its orders of judging,
 // and writes what comes of them after a short label. The blank file's summary is run by crates/summary.
+#![tactic(auto)]
+
 ghost use Rattle.std.specs.Prelude.{◌+◌, ◌≤◌, length, ◌≡◌};
 ghost use Rattle.pack.specs.Pack.{max_body};
 

@@ -1,4 +1,6 @@
 // GEM IMG files of the screen profile, read (document 02, ticket 11; source 002). Definitions: specs/.
+#![tactic(auto)]
+
 ghost use Rattle.std.specs.Prelude.{◌≡◌, ℕ, ◌*◌, ◌≤◌, length, take};
 ghost use Rattle.lists.specs.Over.{over};
 ghost use Rattle.lists.specs.Repeated.{repeated};

@@ -1,4 +1,6 @@
 // The records of a GEM IMG file, and a line of them unpacked (document 02, ticket 11; source 002). Definitions: specs/.
+#![tactic(auto)]
+
 ghost use Rattle.std.specs.Prelude.{◌≡◌, ◌+◌, ◌-◌, ◌*◌, ◌≤◌, length, get_or};
 ghost use Rattle.lists.specs.Over.{over};
 ghost use Rattle.lists.specs.Repeated.{repeated};

@@ -2,6 +2,8 @@
 // depends on its own successful calls alone (noninterference; document 02, ticket 8). The theorems are in
 // proofs/Isolation.antt. The functions here only call public operations, and promise that one call of another party
 // leaves a reading as it was, on any legend. Definitions: specs/.
+#![tactic(auto)]
+
 ghost use Rattle.std.specs.Prelude.{◌≡◌};
 ghost use Rattle.legend.specs.Setting.{setting, releasing, legend_answer};
 ghost use Rattle.isolation.specs.Answers.{answer_to};

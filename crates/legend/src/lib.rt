@@ -1,5 +1,7 @@
 // The legend that two parties share: what each of 16 registers stands for, and whose entry it is; entries set and
 // released. Definitions: specs/.
+#![tactic(auto)]
+
 ghost use Rattle.std.specs.Prelude.{◌≡◌, ◌<◌};
 ghost use Rattle.outcome.specs.Outcome.{refuse};
 ghost use Rattle.legend.specs.Entries.{entries, is_party, owns, is_anothers, new_legend, with_entry};

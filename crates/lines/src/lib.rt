@@ -1,4 +1,6 @@
 // The registers of a scan line, or of all, taken from a screen or put into it. Definitions: specs/.
+#![tactic(auto)]
+
 ghost use Rattle.std.specs.Prelude.{◌≡◌, ℕ, ◌+◌, ◌-◌, ◌*◌, ◌/◌, ◌^◌, ◌<◌, ◌≤◌, true, cond, length, get_or, ltb};
 ghost use Rattle.lists.specs.All.{all_first};
 ghost use Rattle.lists.specs.Over.{over, over_at};

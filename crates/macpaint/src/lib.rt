@@ -1,4 +1,6 @@
 // MacPaint files: a plate read and written (document 02, ticket 9; source 003). Definitions: specs/.
+#![tactic(auto)]
+
 ghost use Rattle.std.specs.Prelude.{◌≡◌, ◌≤◌, length};
 ghost use Rattle.bodies.specs.Reading.{read_body, body_area};
 ghost use Rattle.bodies.specs.Unpacking.{unpacked_answer};

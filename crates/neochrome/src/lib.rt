@@ -1,4 +1,6 @@
 // NEOchrome files: opened, read and written. Definitions: specs/.
+#![tactic(auto)]
+
 ghost use Rattle.std.specs.Prelude.{◌≡◌, ◌≤◌, length};
 ghost use Rattle.lists.specs.Written.{Written};
 ghost use Rattle.outcome.specs.Outcome.{accepted};

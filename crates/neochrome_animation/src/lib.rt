@@ -1,5 +1,7 @@
 // The colour animation that the header of a NEOchrome picture holds, as two lists of picture formats read it; not the
 // format NEOchrome Animation (*.ANI). Definitions: specs/.
+#![tactic(auto)]
+
 ghost use Rattle.std.specs.Prelude.{◌≡◌, cond, length};
 ghost use Rattle.outcome.specs.Outcome.{accepted, refused};
 ghost use Rattle.neochrome.specs.Layout.{file_length};

@@ -1,4 +1,6 @@
 // Refusals: their numbers, and the value that every answer carries. Definitions: specs/.
+#![tactic(auto)]
+
 ghost use Rattle.std.specs.Prelude.{◌≡◌};
 ghost use Rattle.outcome.specs.Outcome.{none, refusal, row_refusal};
 

@@ -1,5 +1,7 @@
 // One row of 1 to 128 bytes packed to its least body, from the left: runs of three or more that are near one by one,
 // and what is between others by a mask of equal neighbours. Definitions, of rows end to end as well: specs/.
+#![tactic(auto)]
+
 ghost use Rattle.std.specs.Prelude.{◌≡◌, true, [], ◌∷◌, ◌+◌, ◌-◌, ◌^◌, ◌≤◌, ◌<◌, length, drop, ltb};
 ghost use Rattle.lists.specs.Over.{over};
 ghost use Rattle.packbits.specs.Row.{row_answer, row_output};

@@ -1,5 +1,7 @@
 // PackBits records: what a control byte says, and the record at an offset of a file. Definitions: specs/. Rows are
 // unpacked in the crate unpack and packed in the crate pack.
+#![tactic(auto)]
+
 ghost use Rattle.std.specs.Prelude.{◌≡◌, ◌<◌, drop};
 ghost use Rattle.outcome.specs.Outcome.{refused};
 ghost use Rattle.packbits.specs.Records.{control, packed_len, row_len, fault, judged, record_at};

@@ -1,5 +1,7 @@
 // A picture (document 01's term): what a file holds besides its screen; and the answers of reading and writing one.
 // Definitions: specs/.
+#![tactic(auto)]
+
 ghost use Rattle.std.specs.Prelude.{◌≡◌};
 ghost use Rattle.outcome.specs.Outcome.{none, refused};
 ghost use Rattle.picture.specs.Tables.{without_tail, with_tail};

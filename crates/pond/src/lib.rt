@@ -1,4 +1,6 @@
 // Pond readings: the pixels of a class in a rectangle for a party, sure and unsure ones apart. Definitions: specs/.
+#![tactic(auto)]
+
 ghost use Rattle.std.specs.Prelude.{◌≡◌, ℕ, ◌<◌, ◌≤◌, get_or};
 ghost use Rattle.outcome.specs.Outcome.{refused};
 ghost use Rattle.tally.specs.Counts.{most_pixels};

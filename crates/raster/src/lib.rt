@@ -1,4 +1,6 @@
 // A raster of plane rows: scan lines of groups of 16 pixels, a group one word for each plane. Definitions: specs/.
+#![tactic(auto)]
+
 ghost use Rattle.std.specs.Prelude.{◌≡◌, ◌+◌, ◌-◌, ◌*◌, ◌^◌, ◌<◌, ◌≤◌, true, length, take};
 ghost use Rattle.lists.specs.Over.{over};
 ghost use Rattle.raster.specs.Shape.{row_bytes, rows, line_bytes, bytes};

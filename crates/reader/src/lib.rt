@@ -1,4 +1,6 @@
 // Reads a picture file of any kind into a lent area: the kind chooses the format. Definitions: specs/.
+#![tactic(auto)]
+
 ghost use Rattle.std.specs.Prelude.{◌≡◌, length};
 ghost use Rattle.picture.specs.Reading.{read_answer, read_area};
 ghost use Rattle.reader.specs.Reading.{read_file};

@@ -1,4 +1,6 @@
 // The three resolutions of the ST screen, with the shape of each as an associated constant. Definitions: specs/.
+#![tactic(auto)]
+
 ghost use Rattle.std.specs.Prelude.{◌≡◌};
 ghost use Rattle.resolution.specs.Shapes.{shape_of, width_of, height_of, planes_of, row_bytes_of, plane_rows_of};
 ghost use Rattle.resolution.specs.Shapes.{groups_of, line_bytes_of, registers_of, raster_of};

@@ -1,4 +1,6 @@
 // Spectrum 512 pictures, SPU and SPC, read (document 02, ticket 5; sources 000 and 001). Definitions: specs/.
+#![tactic(auto)]
+
 ghost use Rattle.std.specs.Prelude.{◌≡◌, ◌+◌, ◌≤◌, ◌<◌, length, ltb};
 ghost use Rattle.lists.specs.Over.{over};
 ghost use Rattle.outcome.specs.Outcome.{accepted, refusal_of};

@@ -1,5 +1,7 @@
 // The colour words of a Spectrum 512 picture, of a pixel and of a scan line (document 02, ticket 5; sources 000 and
 // 001). Definitions: specs/.
+#![tactic(auto)]
+
 ghost use Rattle.std.specs.Prelude.{◌≡◌, ◌||◌, ℕ, ◌+◌, ◌≤◌, ◌<◌, length, get_or, ltb};
 ghost use Rattle.lists.specs.Over.{over};
 ghost use Rattle.lists.specs.Tabulate.{tabulate};

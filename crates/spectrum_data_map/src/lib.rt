@@ -1,4 +1,6 @@
 // The data map of an SPC file unpacked (document 02, ticket 5; sources 000 and 001). Definitions: specs/.
+#![tactic(auto)]
+
 ghost use Rattle.std.specs.Prelude.{◌≡◌, ◌+◌, ◌≤◌, ◌<◌, length};
 ghost use Rattle.lists.specs.Over.{over};
 ghost use Rattle.filling.specs.Ended.{ended};

@@ -1,5 +1,7 @@
 // The palette position in force at a column for a register of a Spectrum 512 picture (document 02, ticket 5; source
 // 000). Definitions: specs/.
+#![tactic(auto)]
+
 ghost use Rattle.std.specs.Prelude.{◌≡◌, ◌<◌};
 ghost use Rattle.outcome.specs.Outcome.{accepted, refused};
 ghost use Rattle.spectrum_positions.specs.Positions.{columns, registers, second_from, position_of};

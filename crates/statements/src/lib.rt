@@ -2,6 +2,8 @@
 // themselves: each function here only calls public operations, and promises the demand. Nothing is assumed of an
 // argument but its type. The clause `refused` is demand 1, "then no byte of any lent area has changed", and `whole` the
 // complete answer of the operations. Definitions: specs/.
+#![tactic(auto)]
+
 ghost use Rattle.std.specs.Prelude.{◌≡◌, ◌↔◌, List, ℕ, length};
 ghost use Rattle.outcome.specs.Refusal.{no_packed_body};
 ghost use Rattle.resolution.specs.declared.Resolution.{Resolution};

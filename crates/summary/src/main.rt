@@ -1,5 +1,7 @@
 // Reads a DEGAS file on standard input and writes its summary. A file longer than the buffer is longer than any
 // picture, and its first bytes decide what the summary says (report/proofs/Long.antt, `summary-first`).
+#![tactic(auto)]
+
 ghost use Rattle.std.specs.Prelude.{◌≤◌, length};
 ghost use Rattle.report.specs.Summary.{deciding_bytes};
 

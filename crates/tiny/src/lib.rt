@@ -1,4 +1,6 @@
 // Tiny files, read (document 02, ticket 1; source 001, <Tiny>). Definitions: specs/ here and of tiny_runs.
+#![tactic(auto)]
+
 ghost use Rattle.std.specs.Prelude.{◌≡◌, ◌+◌, ◌*◌, ◌≤◌, ◌<◌, length};
 ghost use Rattle.lists.specs.Over.{over};
 ghost use Rattle.lists.specs.Tabulate.{tabulate};

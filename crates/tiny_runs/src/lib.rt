@@ -1,5 +1,7 @@
 // The runs of a Tiny file: control bytes and data words expanded to words (document 02, ticket 1; source 001, <Tiny>).
 // Definitions: specs/.
+#![tactic(auto)]
+
 ghost use Rattle.std.specs.Prelude.{◌≡◌, cond, ◌+◌, ◌*◌, ◌/◌, ◌^◌, ◌≤◌, ◌<◌, length, drop};
 ghost use Rattle.lists.specs.Over.{over};
 ghost use Rattle.lists.specs.Tabulate.{tabulate};

@@ -1,5 +1,7 @@
 // PackBits rows unpacked: one over an output as wide as the row, or to the front of a longer one; several of one width,
 // each behind the one before it. Definitions: specs/ here and of packbits.
+#![tactic(auto)]
+
 ghost use Rattle.std.specs.Prelude.{◌≡◌, ◌+◌, ◌-◌, ◌*◌, ◌/◌, ◌≤◌, ◌<◌, false, length, take, drop, replicate};
 ghost use mathlib.Core.List.{flatten};
 ghost use Rattle.lists.specs.Over.{over};

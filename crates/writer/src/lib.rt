@@ -1,4 +1,6 @@
 // Writes a picture as a file of any form into a lent output: the form chooses the format. Definitions: specs/.
+#![tactic(auto)]
+
 ghost use Rattle.std.specs.Prelude.{◌≡◌, length};
 ghost use Rattle.picture.specs.Writing.{judge_areas, write_answer, write_output};
 ghost use Rattle.outcome.specs.Outcome.{refuse};
