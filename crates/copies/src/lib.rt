@@ -16,7 +16,7 @@ fn copy_part(source: &[u8], from: usize, n: usize, out: &mut [u8])
         return;
     }
     let end = from + n;
-    bytes::copy(&source[from..end], out);
+    byte_copy::copy(&source[from..end], out);
 }
 
 // Copies n bytes from an offset of a source to the front of an output. Where the source or the output has not so many

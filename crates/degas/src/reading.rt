@@ -36,7 +36,7 @@ fn copy_screen(file: &[u8], picture: Picture, area: &mut [u8]) -> ReadAnswer
     ensures area { area.new
         ≡ read_area (accepted (raw_reading picture file.now header_length)) area.old }
 {
-    bytes::copy(&file[HEADER_LENGTH..PLAIN_LENGTH], area);
+    byte_copy::copy(&file[HEADER_LENGTH..PLAIN_LENGTH], area);
     picture::read_done(picture, 0, 0)
 }
 

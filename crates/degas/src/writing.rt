@@ -22,8 +22,8 @@ fn put_header(word: u16, picture: Picture, out: &mut [u8]) -> usize
     let palette = picture.palette;
     let first = picture::parts::word_bytes(word);
     let words = picture::parts::palette_bytes(palette);
-    let start = bytes::copy(&first, out);
-    start + bytes::copy(&words, &mut out[start..])
+    let start = byte_copy::copy(&first, out);
+    start + byte_copy::copy(&words, &mut out[start..])
 }
 
 // The screen: the first 32,000 bytes of the area.
@@ -33,7 +33,7 @@ fn put_screen(screen: &[u8], out: &mut [u8]) -> usize
     ensures part { Written (take screen_bytes screen.now) out.old out.new result }
     ensures size { result ≡ screen_bytes }
 {
-    bytes::copy(&screen[..SCREEN_BYTES], out)
+    byte_copy::copy(&screen[..SCREEN_BYTES], out)
 }
 
 // The tail's words as given, marked present or not.
@@ -43,7 +43,7 @@ fn put_tail(tail: [Table; 4], out: &mut [u8]) -> usize
     ensures size { result ≡ tail_length }
 {
     let words = picture::parts::tail_bytes(tail);
-    bytes::copy(&words, out)
+    byte_copy::copy(&words, out)
 }
 
 // Form 1, plain DEGAS.

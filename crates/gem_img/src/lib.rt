@@ -216,7 +216,7 @@ fn put_line(line: &[u8], times: usize, out: &mut [u8])
     let mut to: usize = 0;
     let mut k: usize = 0;
     while k < times {
-        bytes::copy(line, &mut out[to..]);
+        byte_copy::copy(line, &mut out[to..]);
         to += line.len();
         k += 1;
     }
@@ -324,7 +324,7 @@ fn put_image(file: &[u8], end: usize, made: &[u8], area: &mut [u8]) -> ImgAnswer
     let width = words::word_at(file, WIDTH_START);
     let lines = words::word_at(file, LINES_START);
     let all = lines as usize * bytes_per_line(width);
-    bytes::copy(&made[..all], area);
+    byte_copy::copy(&made[..all], area);
     ImgAnswer {
         refusal: outcome::none(),
         width,

@@ -188,7 +188,7 @@ fn put_pattern(pattern: &[u8], times: usize, out: &mut [u8])
     let mut to: usize = 0;
     let mut k: usize = 0;
     while k < times {
-        bytes::copy(pattern, &mut out[to..]);
+        byte_copy::copy(pattern, &mut out[to..]);
         to += n;
         k += 1;
     }
@@ -208,7 +208,7 @@ fn put_line_bytes(file: &[u8], at: usize, r: Record, pattern: u16, out: &mut [u8
             out,
         ),
         Record::Literal(n) => {
-            bytes::copy(&file[at + 2..at + 2 + n as usize], out);
+            byte_copy::copy(&file[at + 2..at + 2 + n as usize], out);
         }
         Record::SolidRun(x) => copies::put_run(solid_byte(x), solid_len(x), out),
     }

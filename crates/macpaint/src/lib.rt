@@ -137,6 +137,6 @@ pub fn write(plate: &[u8], out: &mut [u8]) -> WriteAnswer
         return picture::write_refused(packed.refusal);
     }
     let header = [0u8; HEADER_LENGTH];
-    let start = bytes::copy(&header, out);
+    let start = byte_copy::copy(&header, out);
     picture::write_done(start + packed.body, packed.body, packed.records)
 }

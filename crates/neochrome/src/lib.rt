@@ -65,7 +65,7 @@ fn read_opened(file: &[u8], r: Resolution, area: &mut [u8]) -> ReadAnswer
     ensures area { area.new
         ≡ read_area (accepted (neochrome_reading file.now r)) area.old }
 {
-    bytes::copy(&file[SCREEN_START..], area);
+    byte_copy::copy(&file[SCREEN_START..], area);
     let palette = picture::parts::palette_at(file, PALETTE_START);
     picture::read_done(picture::without_tail(r.number(), palette), 0, 0)
 }
@@ -92,13 +92,13 @@ fn put_middle(out: &mut [u8]) -> usize
 {
     let mut name = [b' '; NAME_LENGTH];
     name[8] = b'.';
-    let end = bytes::copy(&name, out);
+    let end = byte_copy::copy(&name, out);
     // no animation, no offset; the size, 320 and 200
     let mut rest = [0u8; REST_LENGTH];
     rest[10] = 1;
     rest[11] = 64;
     rest[13] = 200;
-    end + bytes::copy(&rest, &mut out[end..])
+    end + byte_copy::copy(&rest, &mut out[end..])
 }
 
 // All that stands before the screen.
@@ -111,9 +111,9 @@ fn put_header(picture: Picture, out: &mut [u8]) -> usize
     let resolution = picture::parts::word_bytes(picture.resolution);
     let words = picture.palette;
     let palette = picture::parts::palette_bytes(words);
-    let mut end = bytes::copy(&flag, out);
-    end += bytes::copy(&resolution, &mut out[end..]);
-    end += bytes::copy(&palette, &mut out[end..]);
+    let mut end = byte_copy::copy(&flag, out);
+    end += byte_copy::copy(&resolution, &mut out[end..]);
+    end += byte_copy::copy(&palette, &mut out[end..]);
     end + put_middle(&mut out[end..])
 }
 
@@ -124,7 +124,7 @@ fn put_file(picture: Picture, screen: &[u8], out: &mut [u8]) -> usize
     ensures { Written (neochrome_file picture screen.now) out.old out.new result }
 {
     let start = put_header(picture, out);
-    start + bytes::copy(&screen[..SCREEN_BYTES], &mut out[start..])
+    start + byte_copy::copy(&screen[..SCREEN_BYTES], &mut out[start..])
 }
 
 // Writes a picture and its screen, over the front of the output. The tail is dropped.

@@ -340,7 +340,7 @@ fn put_literal(shown: &[u8], out: &mut [u8])
     if shown.len() == 1 {
         out[0] = shown[0];
     } else {
-        bytes::copy(shown, out);
+        byte_copy::copy(shown, out);
     }
 }
 

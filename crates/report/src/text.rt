@@ -19,7 +19,7 @@ fn put_decimal(n: usize, out: &mut [u8]) -> usize
 {
     let mut digits = [0u8; MAX_DIGITS];
     let count = io::decimal(n as u64, &mut digits);
-    bytes::copy(&digits[..count], out)
+    byte_copy::copy(&digits[..count], out)
 }
 
 // A label and a number.
@@ -28,7 +28,7 @@ fn put_item(label: &[u8], n: usize, out: &mut [u8]) -> usize
     ensures part { Written (item label.now n) out.old out.new result }
     ensures size { result ≤ max_item label.now }
 {
-    let end = bytes::copy(label, out);
+    let end = byte_copy::copy(label, out);
     end + put_decimal(n, &mut out[end..])
 }
 
@@ -39,7 +39,7 @@ pub(crate) fn put_line(label: &[u8], n: usize, out: &mut [u8]) -> usize
     ensures size { result ≤ max_line label.now }
 {
     let end = put_item(label, n, out);
-    end + bytes::copy(b"\n", &mut out[end..])
+    end + byte_copy::copy(b"\n", &mut out[end..])
 }
 
 // A register's count after a blank.
@@ -72,9 +72,9 @@ pub(crate) fn put_tally(counts: [u32; 16], out: &mut [u8]) -> usize
     ensures part { Written (tally_line counts) out.old out.new result }
     ensures size { result ≤ max_tally_line }
 {
-    let mut end = bytes::copy(b"tally", out);
+    let mut end = byte_copy::copy(b"tally", out);
     end += put_counts(counts, &mut out[end..]);
-    end + bytes::copy(b"\n", &mut out[end..])
+    end + byte_copy::copy(b"\n", &mut out[end..])
 }
 
 // The line of a refusal.

@@ -26,7 +26,7 @@ fn put_part(source: &[u8], from: usize, n: usize, out: &mut [u8])
         return;
     }
     let end = from + n;
-    bytes::copy(&source[from..end], out);
+    byte_copy::copy(&source[from..end], out);
 }
 
 // Writes one byte n times to the front of an output.
@@ -123,7 +123,7 @@ fn unpack_through(packed: &[u8], row: &mut [u8], out: &mut [u8]) -> RowAnswer
     if answer.refusal.number != 0 {
         return answer;
     }
-    bytes::copy(row, out);
+    byte_copy::copy(row, out);
     answer
 }
 

@@ -11,17 +11,17 @@ use borrow.Author.Rules.{rules}
 use Rattle.words.proofs.exchanged_sixteen.Statement.{statement}
 use Rattle.words.proofs.exchanged_sixteen.Tie as tie
 
-abbrev invariant-loop : tie.invariant-loop
+abbrev invariant-loop : tie.invariant-loop-k
 invariant-loop s at bytes₀ k₀ bytes k =
     (k ≤ 16) × (length bytes₀ ≡ 16) × (length bytes ≡ 16)
     × (bytes ≡ over (take k (tabulate 16 (exchanged s at))) bytes₀)
 
-abbrev decreases-loop : tie.decreases-loop
+abbrev decreases-loop : tie.decreases-loop-k
 decreases-loop s at bytes₀ k₀ bytes k = 16 - k
 
-loop-again : tie.Need-loop-preserved invariant-loop decreases-loop
+loop-again : tie.Need-loop-k-preserved invariant-loop decreases-loop
 loop-again c =
-    let l = c.before.before.loop in
+    let l = c.before.before.loop-k in
     let a = c.before.before.before.args in (
       omega arith,
       l.invariant.1,
@@ -32,10 +32,10 @@ loop-again c =
 
 returns : tie.Need-returns invariant-loop decreases-loop
 returns c =
-    let l = c.before.loop in tabulate-done 16 _ _ l.bytes l.k (omega arith) (omega arith) l.invariant.3
+    let l = c.before.loop-k in tabulate-done 16 _ _ l.bytes l.k (omega arith) (omega arith) l.invariant.3
 
-pub exchanged-sixteen-spec : {M : Type 1} → statement M
-exchanged-sixteen-spec =
+pub exchanged_sixteen_spec : {M : Type 1} → statement M
+exchanged_sixteen_spec =
     tie.close
     (tie.spec
     invariant-loop

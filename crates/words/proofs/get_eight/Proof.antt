@@ -13,20 +13,20 @@ use borrow.Author.Rules.{rules}
 use Rattle.words.proofs.get_eight.Statement.{statement}
 use Rattle.words.proofs.get_eight.Tie as tie
 
-put-exchanged-requires : tie.Need-put-exchanged-requires
+put-exchanged-requires : tie.Need-put_exchanged-requires
 put-exchanged-requires c κs =
     let a = c.before.before.before.before.args in
-    let is = c.before.exchanged-sixteen.ensures in
+    let is = c.before.exchanged_sixteen.ensures in
     (ap length is ∙ length-tabulate 16 (exchanged a.s.now a.at), omega arith)
 
 returns : tie.Need-returns
 returns c =
     let t = c.before.before.before.before in
     let a = t.before.before.before.args in
-    c.before.before.put-exchanged.ensures
-    ∙ ap (λ (l : List ℕ). over (tabulate 8 (exchanged_word l)) a.out.now) t.exchanged-sixteen.ensures
+    c.before.before.put_exchanged.ensures
+    ∙ ap (λ (l : List ℕ). over (tabulate 8 (exchanged_word l)) a.out.now) t.exchanged_sixteen.ensures
     ∙ ap (λ (l : List ℕ). over l a.out.now) (eight-words a.s.now a.at)
 
-pub get-eight-spec : {M : Type 1} → statement M
-get-eight-spec =
+pub get_eight_spec : {M : Type 1} → statement M
+get_eight_spec =
     tie.close (tie.spec (λ c κs. search rules) put-exchanged-requires (λ c. search rules) returns)

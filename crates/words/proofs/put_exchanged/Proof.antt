@@ -12,35 +12,35 @@ use borrow.Author.Rules.{rules}
 use Rattle.words.proofs.put_exchanged.Statement.{statement}
 use Rattle.words.proofs.put_exchanged.Tie as tie
 
-abbrev invariant-loop : tie.invariant-loop
+abbrev invariant-loop : tie.invariant-loop-k
 invariant-loop out₀ bytes k₀ out k =
     (k ≤ 8) × (length bytes ≡ 16) × (8 ≤ length out₀) × (length out ≡ length out₀)
     × (out ≡ over (take k (tabulate 8 (exchanged_word bytes))) out₀)
 
-abbrev decreases-loop : tie.decreases-loop
+abbrev decreases-loop : tie.decreases-loop-k
 decreases-loop out₀ bytes k₀ out k = 8 - k
 
-loop-again : tie.Need-loop-preserved invariant-loop decreases-loop
+loop-again : tie.Need-loop-k-preserved invariant-loop decreases-loop
 loop-again c =
-    let l = c.before.before.loop in
+    let l = c.before.before.loop-k in
     let a = c.before.before.before.before.args in (
       omega arith,
       l.invariant.1,
       l.invariant.2,
       length-set l.out _ _ ∙ l.invariant.3,
-      tabulate-turn 8 (exchanged_word a.t1) a.out.now l.out l.k _ (omega arith) (omega arith) l.invariant.4
+      tabulate-turn 8 (exchanged_word a.bytes) a.out.now l.out l.k _ (omega arith) (omega arith) l.invariant.4
           c.word_of.ensures,
     )
 
 returns : tie.Need-returns invariant-loop decreases-loop
 returns c =
-    let l = c.before.loop in
+    let l = c.before.loop-k in
     let a = c.before.before.before.args in
-    over_done (tabulate 8 (exchanged_word a.t1)) a.out.now l.out l.k
-    (omega (arith, length-tabulate 8 (exchanged_word a.t1))) l.invariant.4
+    over_done (tabulate 8 (exchanged_word a.bytes)) a.out.now l.out l.k
+    (omega (arith, length-tabulate 8 (exchanged_word a.bytes))) l.invariant.4
 
-pub put-exchanged-spec : {M : Type 1} → statement M
-put-exchanged-spec =
+pub put_exchanged_spec : {M : Type 1} → statement M
+put_exchanged_spec =
     tie.close
     (tie.spec
     invariant-loop

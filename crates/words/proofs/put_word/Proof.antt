@@ -11,7 +11,7 @@ returns : tie.Need-returns
 unfolding word_bytes
 returns c = sets-eq (c.args.word / 256 ∷ c.args.word % 256 ∷ []) c.args.out.now 0 c.requires
 
-pub put-word-spec : {M : Type 1} → statement M
-put-word-spec =
+pub put_word_spec : {M : Type 1} → statement M
+put_word_spec =
     tie.close (tie.spec (λ c. search rules) (λ c. search rules) (λ c. search rules) (λ c. search rules)
     (λ c. search rules) returns)
