@@ -5,8 +5,8 @@ use Rattle.packbits.specs.Records.{packed_len}
 use Rattle.packbits.proofs.packed_len.Statement.{statement}
 use Rattle.packbits.proofs.packed_len.Tie as tie
 
-pub packed-len-spec : {M : Type 1} → statement M
-packed-len-spec =
+pub packed_len_spec : {M : Type 1} → statement M
+packed_len_spec =
     tie.close
     (tie.spec
     (λ c. search rules)
@@ -16,7 +16,7 @@ packed-len-spec =
     (λ c. search rules)
     (λ c. search rules)
     (λ c. search rules)
-    (λ c. sym (ap packed_len c.before.r.given.1))
+    (λ c. sym (ap packed_len c.in-Literal.is))
     (λ c. search rules)
     (λ c. search rules)
     (λ c. search rules)

@@ -4,11 +4,13 @@ use borrow.Author.Tests.{eq-eqb, ne_eqb}
 use Rattle.packbits.proofs.width_out_of_range.Statement.{statement}
 use Rattle.packbits.proofs.width_out_of_range.Tie as tie
 
-returns : tie.Need-returns
-returns c = simp (eq-eqb c.before.args.width 0 (omega arith))
+returns : tie.Need-returns-then-width-eq0
+returns c = simp (eq-eqb c.args.width 0 (omega arith))
 
-returns-2 : tie.Need-returns-2
-returns-2 c = simp (ne_eqb c.before.args.width 0 (λ e. omega arith))
+returns-2 : tie.Need-returns-else-width-eq0
+returns-2 c = simp (ne_eqb c.args.width 0 (λ e. omega arith))
 
-pub width-out-of-range-spec : {M : Type 1} → statement M
-width-out-of-range-spec = tie.close (tie.spec returns returns-2)
+pub width_out_of_range_spec : {M : Type 1} → statement M
+width_out_of_range_spec = tie.close (tie.spec
+    returns
+    returns-2)
