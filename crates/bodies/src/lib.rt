@@ -21,7 +21,7 @@ use raster::Raster;
 
 // The answer of a body packed or unpacked: its packed bytes and its records; both 0 of a refusal.
 #[repr(C)]
-#[derive(Drop)]
+#[derive(Clone, Copy)]
 pub struct BodyAnswer {
     pub refusal: Refusal,
     pub body: usize,

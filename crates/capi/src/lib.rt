@@ -50,7 +50,7 @@ use tally::{Rectangle, TallyAnswer};
 
 // The 16 words of a palette: C passes no array by value.
 #[repr(C)]
-#[derive(Drop)]
+#[derive(Clone, Copy)]
 pub struct Palette {
     pub words: [u16; 16],
 }

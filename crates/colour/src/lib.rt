@@ -17,14 +17,14 @@ const LEVELS: [u8; 8] = [0, 36, 72, 109, 145, 182, 218, 255];
 const STE_STEP: u16 = 17;
 
 // The machine whose colours are shown.
-#[derive(Drop)]
+#[derive(Clone, Copy)]
 pub enum Machine {
     St,
     Ste,
 }
 
 // The machine that a number names, if any.
-#[derive(Drop)]
+#[derive(Clone, Copy)]
 pub enum ChosenMachine {
     Known(Machine),
     Unknown,
@@ -44,7 +44,7 @@ impl Machine {
 }
 
 // Red, green and blue, each 0 to 255.
-#[derive(Drop)]
+#[derive(Clone, Copy)]
 pub struct Rgb {
     pub red: u8,
     pub green: u8,
@@ -53,7 +53,7 @@ pub struct Rgb {
 
 // The answer of a colour: red, green and blue, 0 to 255; all 0 of a refusal.
 #[repr(C)]
-#[derive(Drop)]
+#[derive(Clone, Copy)]
 pub struct ColourAnswer {
     pub refusal: Refusal,
     pub red: u8,

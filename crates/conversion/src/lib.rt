@@ -13,7 +13,7 @@ use resolution::SCREEN_BYTES;
 
 // A plain file to Elite with a zero tail, packed where a body below 32,000 bytes exists and else raw; or an Elite file
 // with a zero tail, raw or packed, to plain.
-#[derive(Drop)]
+#[derive(Clone, Copy)]
 pub enum Conversion {
     ToElite,
     ToPlain,

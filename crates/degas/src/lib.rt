@@ -40,21 +40,21 @@ pub const PACKED_MOST: usize = 32065;
 pub const PACKED_BIT: u16 = 0x8000;
 
 // What the first word says.
-#[derive(Drop)]
+#[derive(Clone, Copy)]
 pub struct Header {
     pub resolution: Resolution,
     pub packed: bool,
 }
 
 // An opened file, or why it is refused.
-#[derive(Drop)]
+#[derive(Clone, Copy)]
 pub enum Opened {
     File(Header),
     Refused(Refusal),
 }
 
 // The form of a file to write.
-#[derive(Drop)]
+#[derive(Clone, Copy)]
 pub enum Form {
     Plain,
     Elite,

@@ -24,7 +24,7 @@ pub const RECORD_REPEAT: u8 = 2;
 pub const RECORD_NOTHING: u8 = 3;
 
 // What a record does: takes bytes as they stand, takes one byte several times, or nothing.
-#[derive(Drop)]
+#[derive(Clone, Copy)]
 pub enum RecordKind {
     Literal,
     Repeat,
@@ -33,7 +33,7 @@ pub enum RecordKind {
 
 // A whole record: its kind, the offset of its control byte, its plane row, and how many bytes of the row it makes. In
 // this order it lies in memory as a refusal does, so that a step's answer is put together without odd pieces.
-#[derive(Drop)]
+#[derive(Clone, Copy)]
 pub struct ListedRecord {
     pub kind: RecordKind,
     pub offset: usize,
@@ -43,7 +43,7 @@ pub struct ListedRecord {
 
 // Where the next step stands: an offset of the file, the plane row there, and the bytes that this row has.
 #[repr(C)]
-#[derive(Drop)]
+#[derive(Clone, Copy)]
 pub struct RecordCursor {
     pub offset: usize,
     pub plane_row: usize,
@@ -51,7 +51,7 @@ pub struct RecordCursor {
 }
 
 // What a step gives: a record; after the last one done; or the refusal.
-#[derive(Drop)]
+#[derive(Clone, Copy)]
 pub enum Found {
     Listed(ListedRecord),
     Done,
@@ -59,14 +59,14 @@ pub enum Found {
 }
 
 // What a step gives, and where the next one stands; after done or a refusal where this one stood.
-#[derive(Drop)]
+#[derive(Clone, Copy)]
 pub struct Stepped {
     pub found: Found,
     pub next: RecordCursor,
 }
 
 // The resolution of a packed file, or why it is refused.
-#[derive(Drop)]
+#[derive(Clone, Copy)]
 pub enum OpenedPacked {
     At(Resolution),
     Refused(Refusal),
@@ -74,7 +74,7 @@ pub enum OpenedPacked {
 
 // The answer of an opening: the cursor before the first record, all 0 of a refusal.
 #[repr(C)]
-#[derive(Drop)]
+#[derive(Clone, Copy)]
 pub struct CursorAnswer {
     pub refusal: Refusal,
     pub cursor: RecordCursor,
@@ -82,7 +82,7 @@ pub struct CursorAnswer {
 
 // The answer of a step: a record's kind, offset, plane row and length; all 0 of done and of a refusal.
 #[repr(C)]
-#[derive(Drop)]
+#[derive(Clone, Copy)]
 pub struct RecordAnswer {
     pub refusal: Refusal,
     pub kind: u8,

@@ -8,7 +8,7 @@ ghost use Rattle.filling.specs.Ended.{ended_refusal};
 use outcome::Refusal;
 
 // Where filling ended.
-#[derive(Drop)]
+#[derive(Clone, Copy)]
 pub enum Ended {
     // All is filled, and the offset behind the last step.
     At(usize),

@@ -59,7 +59,7 @@ const SCANLINE_FLAG: u8 = 0xFF;
 
 // The answer of a file read: a line's pixels and the lines; both 0 of a refusal.
 #[repr(C)]
-#[derive(Drop)]
+#[derive(Clone, Copy)]
 pub struct ImgAnswer {
     pub refusal: Refusal,
     pub width: u16,

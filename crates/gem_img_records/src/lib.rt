@@ -24,7 +24,7 @@ const SET_BIT: u8 = 128;
 pub const SCANLINE_RUN_LEN: usize = 4;
 
 // What stands at an offset of a file.
-#[derive(Drop)]
+#[derive(Clone, Copy)]
 pub enum Record {
     // The line that it begins is used as often as its count says.
     ScanlineRun,

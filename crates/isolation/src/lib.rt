@@ -13,7 +13,7 @@ use pond::PondAnswer;
 use tally::Rectangle;
 
 // The question of a pond reading: who asks, and for what.
-#[derive(Drop)]
+#[derive(Clone, Copy)]
 pub struct Question {
     pub resolution: u16,
     pub rectangle: Rectangle,
@@ -23,7 +23,7 @@ pub struct Question {
 }
 
 // A party's pond reading before and after a call, and the call's answer.
-#[derive(Drop)]
+#[derive(Clone, Copy)]
 pub struct Beside {
     pub before: PondAnswer,
     pub call: LegendAnswer,

@@ -28,7 +28,7 @@ pub const MAX_CONFIDENCE: u8 = 100;
 // What each of 16 registers stands for: an owner (0 free, 1 or 2 a party), a class, and a confidence of 0 to 100. A
 // free entry has class and confidence 0.
 #[repr(C)]
-#[derive(Drop)]
+#[derive(Clone, Copy)]
 pub struct Legend {
     pub owners: [u8; 16],
     pub classes: [u8; 16],
@@ -37,7 +37,7 @@ pub struct Legend {
 
 // The answer of a set or a release, and the legend that it leaves: after a refusal the one that was given.
 #[repr(C)]
-#[derive(Drop)]
+#[derive(Clone, Copy)]
 pub struct LegendAnswer {
     pub refusal: Refusal,
     pub legend: Legend,

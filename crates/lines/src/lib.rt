@@ -24,7 +24,7 @@ use resolution::{Resolution, ScreenChosen};
 use spread::SPREAD;
 
 // The bytes that hold eight pixels, one for each plane; 0 for a plane that is not there.
-#[derive(Drop)]
+#[derive(Clone, Copy)]
 struct PlaneBytes {
     first: u8,
     second: u8,

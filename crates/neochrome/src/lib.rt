@@ -35,7 +35,7 @@ const NAME_LENGTH: usize = 12;
 const REST_LENGTH: usize = 80;
 
 // A file that passed, at its resolution, or why it is refused.
-#[derive(Drop)]
+#[derive(Clone, Copy)]
 pub enum Opened {
     File(Resolution),
     Refused(Refusal),

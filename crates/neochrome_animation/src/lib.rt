@@ -39,7 +39,7 @@ const STEP_COUNT_START: usize = 52;
 const HIGH_BIT: u8 = 128;
 
 // The direction that a signed speed gives: stopped where the speed is 0, whether the animation is on or not.
-#[derive(Drop)]
+#[derive(Clone, Copy)]
 pub enum Direction {
     Stopped,
     Left,
@@ -73,7 +73,7 @@ impl Direction {
 }
 
 // What a list shows of a header.
-#[derive(Drop)]
+#[derive(Clone, Copy)]
 pub struct ColourAnimation {
     pub limits_valid: bool,
     // The first and the last register that cycle, 0 to 15, as they stand: neither their order nor the resolution is
@@ -89,7 +89,7 @@ pub struct ColourAnimation {
 }
 
 // What a list shows of a file, or why the file is refused.
-#[derive(Drop)]
+#[derive(Clone, Copy)]
 pub enum AnimationOutcome {
     Shown(ColourAnimation),
     Refused(Refusal),
@@ -97,7 +97,7 @@ pub enum AnimationOutcome {
 
 // The answer of an animation: what is shown, the direction by its number; all 0 of a refusal.
 #[repr(C)]
-#[derive(Drop)]
+#[derive(Clone, Copy)]
 pub struct AnimationAnswer {
     pub refusal: Refusal,
     pub limits_valid: bool,

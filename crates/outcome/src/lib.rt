@@ -71,7 +71,7 @@ pub const WRONG_SCANLINE_RUN: u8 = 22;
 
 // Why an input is refused. All are 0 where it is accepted.
 #[repr(C)]
-#[derive(Drop)]
+#[derive(Clone, Copy)]
 pub struct Refusal {
     pub number: u8,
     pub place: usize,

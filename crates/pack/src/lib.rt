@@ -103,7 +103,7 @@ fn run_at(row: &[u8], at: usize) -> usize
 }
 
 // Packed bytes counted, and whether a literal is under way.
-#[derive(Drop)]
+#[derive(Clone, Copy)]
 struct Count {
     len: usize,
     literal: bool,
@@ -168,7 +168,7 @@ pub fn least_len(row: &[u8]) -> usize
 
 // The short runs, of one or two bytes each, from a place on: where the literal of them ends, where they end, and the
 // length of the run there, 0 at the end of the row.
-#[derive(Drop)]
+#[derive(Clone, Copy)]
 struct Ahead {
     single: usize,
     end: usize,
@@ -326,7 +326,7 @@ fn runs_ahead(row: &[u8], i: usize, equal: u64) -> Ahead
 }
 
 // One record: the bytes of the row that it stands for, and the bytes that it is.
-#[derive(Drop)]
+#[derive(Clone, Copy)]
 struct Put {
     taken: usize,
     made: usize,
@@ -385,7 +385,7 @@ fn put_next(i: usize, s: Ahead, row: &[u8], out: &mut [u8]) -> Put
 }
 
 // Some records: their bytes and their number.
-#[derive(Drop)]
+#[derive(Clone, Copy)]
 struct Packed {
     bytes: usize,
     records: usize,
@@ -467,7 +467,7 @@ fn singles_before(a: u8, b: u8, c: u8, d: u8) -> usize
 }
 
 // Records from the left: the place of the row that they reach, their bytes and their number.
-#[derive(Drop)]
+#[derive(Clone, Copy)]
 struct Part {
     place: usize,
     bytes: usize,

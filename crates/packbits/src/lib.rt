@@ -13,7 +13,7 @@ use outcome::{INPUT_ENDS, RECORD_CROSSES, Refusal};
 pub const MAX_WIDTH: usize = 128;
 
 // What stands at a control byte, with some room left in the row.
-#[derive(Drop)]
+#[derive(Clone, Copy)]
 pub enum Record {
     // The next n bytes as they stand.
     Literal(u8),
@@ -29,7 +29,7 @@ pub enum Record {
 
 // The answer of a row packed or unpacked: the packed bytes, written or used, and the records; both 0 of a refusal.
 #[repr(C)]
-#[derive(Drop)]
+#[derive(Clone, Copy)]
 pub struct RowAnswer {
     pub refusal: Refusal,
     pub bytes: usize,

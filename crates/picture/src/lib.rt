@@ -18,7 +18,7 @@ pub const FILE_BYTES: usize = 32128;
 
 // One table of the animation tail.
 #[repr(C)]
-#[derive(Drop)]
+#[derive(Clone, Copy)]
 pub struct Table {
     pub words: [u16; 4],
 }
@@ -26,7 +26,7 @@ pub struct Table {
 // A resolution's number, 16 palette words kept whole, whether an animation tail is present, and its four tables of four
 // words: left limits, right limits, directions, delays.
 #[repr(C)]
-#[derive(Drop)]
+#[derive(Clone, Copy)]
 pub struct Picture {
     pub resolution: u16,
     pub palette: [u16; 16],
@@ -36,7 +36,7 @@ pub struct Picture {
 
 // The answer of a reading: the picture, the packed body's length and its records; zero in all of a refusal.
 #[repr(C)]
-#[derive(Drop)]
+#[derive(Clone, Copy)]
 pub struct ReadAnswer {
     pub refusal: Refusal,
     pub picture: Picture,
@@ -46,7 +46,7 @@ pub struct ReadAnswer {
 
 // The answer of a writing: the file's length, the packed body's length and its records; zero in all of a refusal.
 #[repr(C)]
-#[derive(Drop)]
+#[derive(Clone, Copy)]
 pub struct WriteAnswer {
     pub refusal: Refusal,
     pub length: usize,
@@ -55,7 +55,7 @@ pub struct WriteAnswer {
 }
 
 // What judging a writing's screen, output and resolution comes to.
-#[derive(Drop)]
+#[derive(Clone, Copy)]
 pub enum Writable {
     At(Resolution),
     Refused(Refusal),

@@ -13,7 +13,7 @@ use tally::{Rectangle, tally};
 
 // The answer of a pond reading: how many pixels are sure, unsure and other; all 0 of a refusal.
 #[repr(C)]
-#[derive(Drop)]
+#[derive(Clone, Copy)]
 pub struct PondAnswer {
     pub refusal: Refusal,
     pub sure: u32,
@@ -22,7 +22,7 @@ pub struct PondAnswer {
 }
 
 // How many pixels are sure, unsure and other.
-#[derive(Drop)]
+#[derive(Clone, Copy)]
 pub struct PondCounts {
     pub sure: u32,
     pub unsure: u32,

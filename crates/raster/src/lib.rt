@@ -12,7 +12,7 @@ ghost use Rattle.raster.specs.Interleave.{interleaved_line, interleaved_lines, L
 ghost use Rattle.raster.specs.Interleave.{Interleaved};
 
 // Scan lines, groups of 16 pixels in a scan line, and planes. The types keep every product below 2^34.
-#[derive(Drop)]
+#[derive(Clone, Copy)]
 pub struct Raster {
     pub lines: u16,
     pub groups: u8,

@@ -26,7 +26,7 @@ pub const SUMMARY_BYTES: usize = 512;
 pub const DECIDING_BYTES: usize = 32067;
 
 // The answer of a summary: the text's length, 0 of a refusal.
-#[derive(Drop)]
+#[derive(Clone, Copy)]
 pub struct SummaryAnswer {
     pub refusal: Refusal,
     pub length: usize,

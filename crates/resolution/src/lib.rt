@@ -14,7 +14,7 @@ use raster::Raster;
 pub const SCREEN_BYTES: usize = 32000;
 
 // Pixels in a scan line, scan lines, planes, bytes of a plane row, and plane rows.
-#[derive(Drop)]
+#[derive(Clone, Copy)]
 pub struct Shape {
     pub width: usize,
     pub height: usize,
@@ -24,7 +24,7 @@ pub struct Shape {
 }
 
 // One of the three resolutions.
-#[derive(Drop)]
+#[derive(Clone, Copy)]
 pub enum Resolution {
     Low,
     Medium,
@@ -32,14 +32,14 @@ pub enum Resolution {
 }
 
 // The resolution that a number names, if any.
-#[derive(Drop)]
+#[derive(Clone, Copy)]
 pub enum Chosen {
     Known(Resolution),
     Unknown,
 }
 
 // The resolution of a screen, or the number of the refusal.
-#[derive(Drop)]
+#[derive(Clone, Copy)]
 pub enum ScreenChosen {
     Fits(Resolution),
     Refused(u8),

@@ -35,7 +35,7 @@ const GROUP_BYTES: usize = 8;
 
 // The answer of a colour word question; the word is 0 of a refusal.
 #[repr(C)]
-#[derive(Drop)]
+#[derive(Clone, Copy)]
 pub struct ColourWordAnswer {
     pub refusal: Refusal,
     pub word: u16,

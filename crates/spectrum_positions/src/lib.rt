@@ -26,7 +26,7 @@ const PALETTE_COLUMNS: u16 = 160;
 
 // The answer of a position question: 0 to 47; 0 of a refusal.
 #[repr(C)]
-#[derive(Drop)]
+#[derive(Clone, Copy)]
 pub struct PositionAnswer {
     pub refusal: Refusal,
     pub position: u8,

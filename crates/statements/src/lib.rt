@@ -58,28 +58,28 @@ use reader::{KIND_DEGAS, KIND_NEOCHROME};
 use writer::{FORM_NEOCHROME, FORM_PACKED};
 
 // The answers of a writing and of its reading back.
-#[derive(Drop)]
+#[derive(Clone, Copy)]
 pub struct RoundTrip {
     pub written: WriteAnswer,
     pub read: ReadAnswer,
 }
 
 // The answers of both lists.
-#[derive(Drop)]
+#[derive(Clone, Copy)]
 pub struct AnswersByList {
     pub list_1989: AnimationAnswer,
     pub list_2008: AnimationAnswer,
 }
 
 // The answers of a plate's writing and of its reading back.
-#[derive(Drop)]
+#[derive(Clone, Copy)]
 pub struct PlateRoundTrip {
     pub written: WriteAnswer,
     pub read: BodyAnswer,
 }
 
 // The answers of a conversion to Elite and of the conversion back.
-#[derive(Drop)]
+#[derive(Clone, Copy)]
 pub struct ConversionRoundTrip {
     pub to_elite: WriteAnswer,
     pub to_plain: WriteAnswer,

@@ -19,7 +19,7 @@ use resolution::{Resolution, ScreenChosen};
 
 // A rectangle of pixels: its left column, top line, columns and lines.
 #[repr(C)]
-#[derive(Drop)]
+#[derive(Clone, Copy)]
 pub struct Rectangle {
     pub left: usize,
     pub top: usize,
@@ -29,7 +29,7 @@ pub struct Rectangle {
 
 // The answer of a tally: how many pixels have each of 16 registers. A refusal has 0 in all else.
 #[repr(C)]
-#[derive(Drop)]
+#[derive(Clone, Copy)]
 pub struct TallyAnswer {
     pub refusal: Refusal,
     pub counts: [u32; 16],
@@ -57,7 +57,7 @@ fn rectangle_fits(r: Resolution, rectangle: Rectangle) -> bool
 }
 
 // 64 pixels of a scan line in each plane: eight bytes, the first the lowest, so that bytes side by side are one load.
-#[derive(Drop)]
+#[derive(Clone, Copy)]
 struct Block {
     first: u64,
     second: u64,

@@ -17,16 +17,16 @@ const LEAST_COUNT: u16 = 128;
 const MOST_COUNT: u16 = 32767;
 
 // A count of control bytes.
-#[derive(Drop)]
+#[derive(Clone, Copy)]
 pub struct ControlBytes(pub usize);
 
 // A count of data words.
-#[derive(Drop)]
+#[derive(Clone, Copy)]
 pub struct DataWords(pub usize);
 
 // What stands at a control byte: its fault, or 0; whether it repeats one data word; the words it makes; and what it
 // takes of each section.
-#[derive(Drop)]
+#[derive(Clone, Copy)]
 struct Run {
     fault: u8,
     repeats: bool,
@@ -37,7 +37,7 @@ struct Run {
 
 // How far expanding came: the fault of the run at which it ended, or 0; what was used of each section; the runs, and
 // the words they make.
-#[derive(Drop)]
+#[derive(Clone, Copy)]
 pub struct Expanded {
     pub fault: u8,
     pub controls: ControlBytes,

@@ -152,7 +152,7 @@ const LONGEST_RECORD: usize = 129;
 const ROWS_AHEAD: usize = 256;
 
 // How far rows are unpacked.
-#[derive(Drop)]
+#[derive(Clone, Copy)]
 struct Reached {
     // The offset of the next record.
     from: usize,

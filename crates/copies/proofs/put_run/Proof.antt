@@ -6,19 +6,19 @@ use Rattle.copies.proofs.Copies.{run_fits, run-past-output}
 use Rattle.copies.proofs.put_run.Statement.{statement}
 use Rattle.copies.proofs.put_run.Tie as tie
 
-returns : tie.Need-returns
+returns : tie.Need-returns-then-out-n
 returns c =
-    let a = c.before.before.args in
+    let a = c.args in
     (sym (run-past-output a.byte a.n a.out.now (omega arith)), λ hd. absurd (omega arith))
 
-returns-2 : tie.Need-returns-2
+returns-2 : tie.Need-returns
 returns-2 c =
-    let a = c.before.before.before.before.before.before.args in
-    let e = c.before.before.fill-run.ensures in
+    let a = c.args in
+    let e = c.fill_run.ensures in
     (e ∙ sym (run_fits a.byte a.n a.out.now (omega arith)), λ hd. e)
 
-pub put-run-spec : {M : Type 1} → statement M
-put-run-spec =
+pub put_run_spec : {M : Type 1} → statement M
+put_run_spec =
     tie.close
     (tie.spec
     returns
