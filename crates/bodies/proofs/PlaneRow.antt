@@ -15,7 +15,7 @@ use Rattle.pack.proofs.Pack.{pack-done}
 use Rattle.raster.specs.declared.Raster.{Raster}
 use Rattle.raster.specs.Shape.{row_bytes, rows}
 use Rattle.raster.specs.PlaneRows.{plane_row, plane_rows, take_row}
-use Rattle.raster.proofs.Fits.{row_fits}
+use Rattle.raster.proofs.Fits.{row_fits_lem}
 use Rattle.raster.proofs.PlaneRows.{length-plane_row, length-plane_rows, get_or-plane_rows, wide-plane_rows}
 use Rattle.bodies.specs.Body.{RowRoom}
 use Rattle.bodies.specs.Packing.{packed_row}
@@ -32,7 +32,7 @@ module _ {r : Raster} {s row₀ : List ℕ} (room : RowRoom r s row₀) (n : ℕ
   row-taken : take_row s r n row₀ ≡ plane_row s r n
   row-taken =
       let taken : take_row s r n row₀ ≡ over (plane_row s r n) row₀ =
-      simp (row_fits (length s) r n (length row₀) room.full more (omega (arith, room.width))) in
+      simp (row_fits_lem (length s) r n (length row₀) room.full more (omega (arith, room.width))) in
       taken ∙ over-whole (plane_row s r n) row₀ (omega (arith, length-plane_row s r n, room.width))
 
   pub taken-least_len : least_len (take_row s r n row₀) ≡ length (least (plane_row s r n))

@@ -14,8 +14,8 @@ use Rattle.outcome.specs.declared.Refusal.{Refusal}
 use Rattle.outcome.specs.Outcome.{Outcome, accepted, refused, refusal}
 use Rattle.outcome.specs.Refusal.{wrong_length, outside_profile}
 use Rattle.filling.specs.Filling.{Filling}
-use Rattle.filling.proofs.Makes.{Stands, length-stands}
 use Rattle.gem_img_records.specs.Line.{refusal_at}
+use Rattle.gem_img_records.proofs.MakesLine.{Stands}
 use Rattle.gem_img.specs.Header.{least_header_bytes, header_bytes, pattern, width, lines, in_profile, bytes_per_line}
 use Rattle.gem_img.specs.MakesLines.{MakesLines}
 use Rattle.gem_img.specs.StopsLines.{StopsLines}
@@ -50,7 +50,7 @@ placed_at number place (inr e) = rw e
 
 -- the length of the bytes from an offset of a file on gives the offset
 offset : (file rest : List ℕ) (at : ℕ) → Stands file at rest → length file - length rest ≡ at
-offset file rest at s = omega (arith, length-stands file at s)
+offset file rest at s = omega (arith, ap length s.bytes, length-drop at file, s.inside)
 
 module _ (file : List ℕ) where
   abbrev body : List ℕ

@@ -18,11 +18,10 @@ use Rattle.filling.specs.declared.Ended.TheVariants.{At, Refused}
 use Rattle.filling.specs.Ended.{ended}
 use Rattle.filling.specs.Filling.{Step, Filling, stopped, after}
 use Rattle.filling.proofs.Filling.{fill-full, fill_step, fill-fault, made-most, made_all, ended_at, ended-refused}
-use Rattle.filling.proofs.Records.{without-fault, with-fault, accepted-fault}
 use Rattle.gem_img_records.specs.Records.{record_at, scanline_run_len, fault_at}
 use Rattle.gem_img_records.specs.Line.{refusal_at, fill_line}
 use Rattle.gem_img_records.proofs.Records.{scanline-known}
-use Rattle.gem_img_records.proofs.Line.{line-all}
+use Rattle.gem_img_records.proofs.Line.{without-fault, with-fault, accepted-fault, line-all}
 use Rattle.gem_img.specs.Lines.{scanline_flag, run_allowed, has_run, run_flag, run_count, run_fault, records_from}
 use Rattle.gem_img.specs.Lines.{times_used, line_step, lines_left, fill_lines}
 
@@ -162,18 +161,18 @@ module _ (pattern bytes : ℕ) (file : List ℕ) where
     pub run-refused : (run_fault file at left ≡ 0 → ⊥)
         → line_step pattern bytes file at left ≡ refused (refusal_at (run_fault file at left) at)
     unfolding line_step
-    run-refused e = with-fault (run_fault file at left) _ _ e
+    run-refused e = with-fault (run_fault file at left) at _ e
 
     module _ (ok : run_fault file at left ≡ 0) where
       pub line_refused : (why : Refusal) → (line_at at).ends ≡ refused why
           → line_step pattern bytes file at left ≡ refused why
       unfolding line_step
-      line_refused why e = without-fault (run_fault file at left) _ _ ok ∙ rw e
+      line_refused why e = without-fault (run_fault file at left) at _ ok ∙ rw e
 
       pub line-accepted : (next : ℕ) → (line_at at).ends ≡ accepted next
           → line_step pattern bytes file at left ≡ accepted (step_to at next)
       unfolding line_step
-      line-accepted next e = without-fault (run_fault file at left) _ _ ok ∙ rw e
+      line-accepted next e = without-fault (run_fault file at left) at _ ok ∙ rw e
 
     -- an accepted step
     pub record Begun (s : Step) : Type 0 where
@@ -191,7 +190,7 @@ module _ (pattern bytes : ℕ) (file : List ℕ) where
     pub begun : (s : Step) → line_step pattern bytes file at left ≡ accepted s → Begun s
     unfolding line_step
     begun s e =
-        let f = accepted-fault (run_fault file at left) _ (map (step_to at) (line_at at).ends) s e in
+        let f = accepted-fault (run_fault file at left) at (map (step_to at) (line_at at).ends) s e in
         let m = mapped (line_at at).ends s f.1 in
         record { ok = f.0; ends = m.0; is = m.1 }
 

@@ -18,18 +18,18 @@ use Rattle.outcome.specs.declared.Refusal.{Refusal}
 use Rattle.outcome.specs.Outcome.{Outcome, accepted, refused}
 use Rattle.outcome.specs.Refusal.{input_ends, wrong_scanline_run}
 use Rattle.filling.specs.Filling.{Step, Filling, stopped, after}
-use Rattle.filling.specs.Makes.{Makes, Stops}
 use Rattle.filling.proofs.Filling.{by-steps}
-use Rattle.filling.proofs.Makes.{Stands, FullAt, HaltsAt, stops-fault}
 use Rattle.gem_img_records.specs.Records.{record_at, scanline_run_len, fault_at}
 use Rattle.gem_img_records.specs.Line.{refusal_at, fill_line}
-use Rattle.gem_img_records.specs.MakesLine.{MakesLine}
+use Rattle.gem_img_records.specs.MakesLine.{MakesLine, full, and_record}
 use Rattle.gem_img_records.specs.WholeRecord.{WholeRecord}
-use Rattle.gem_img_records.specs.StopsLine.{FaultyRecord, StopsLine}
+use Rattle.gem_img_records.specs.StopsLine.{FaultyRecord, StopsLine, here}
+use Rattle.gem_img_records.specs.StopsLine as stops
 use Rattle.gem_img_records.proofs.Records.{scanline-known, scanline-zeros, control-scanline, not-run}
-use Rattle.gem_img_records.proofs.WholeRecord.{record-front, faulty-numbers}
-use Rattle.gem_img_records.proofs.MakesLine.{LineStoppedAt, faulty-at, line-makes, line-stops, whole-known}
-use Rattle.gem_img_records.proofs.MakesLine.{faulty-known, makes-line, stops-line}
+use Rattle.gem_img_records.proofs.WholeRecord.{record-front, fault-front, whole-counted, faulty-judged}
+use Rattle.gem_img_records.proofs.WholeRecord.{faulty-numbers}
+use Rattle.gem_img_records.proofs.MakesLine.{Stands, faulty-at, StoppedAt, line-makes, line-stops, makes-line}
+use Rattle.gem_img_records.proofs.MakesLine.{stops-line}
 use Rattle.gem_img_records.proofs.Line.{line-inside}
 use Rattle.gem_img.specs.Lines.{run_allowed, has_run, run_flag, run_count, run_fault, records_from}
 use Rattle.gem_img.specs.Lines.{times_used, line_step, lines_left, fill_lines}
@@ -143,7 +143,7 @@ module _ (pattern bytes : ℕ) (file : List ℕ) (all : Bytes file) (wide : 0 < 
           let f : FaultyRecord pattern bytes (drop at file) input_ends =
           subst (λ (k : ℕ). FaultyRecord pattern bytes (drop at file) k) cut
           (faulty-at pattern file all at bytes (λ z. let y : input_ends ≡ 0 = sym cut ∙ z in omega arith)) in
-          rw (run-cut file at run n short) (in_line h (run_short file at short) (Stops.here wide f)))
+          rw (run-cut file at run n short) (in_line h (run_short file at short) (here wide f)))
           (λ has. whole run has)
 
   -- of its other records
@@ -151,7 +151,7 @@ module _ (pattern bytes : ℕ) (file : List ℕ) (all : Bytes file) (wide : 0 < 
       → (line_at pattern bytes file at).ends ≡ refused why → HaltedAt at n why
   record-halted at n why h inside ok e = go (has_run file at) refl
     where
-      t : LineStoppedAt pattern file (records_from file at) bytes why
+      t : StoppedAt pattern file all (records_from file at) bytes why
       t = line-stops pattern file all (records_from file at) bytes why (from-inside file at n inside ok) e
 
       go : (b : Bool) → has_run file at ≡ b → HaltedAt at n why
@@ -356,20 +356,28 @@ module _ (pattern bytes : ℕ) (file : List ℕ) (all : Bytes file) (wide : 0 < 
 record-plain : (pattern : ℕ) (file : List ℕ) (room at : ℕ) {input next made : List ℕ} → Stands file at input
     → WholeRecord pattern input next made → length made ≤ room → has_run file at ≡ false
 record-plain pattern file room at a w fits =
-    not-run pattern file at room (whole-known pattern file at room a w fits).ok
+    not-run pattern file at room
+    (fault-front file at pattern room
+    ∙ ap (λ (l : List ℕ). fault_at pattern l 0 room) a.bytes
+    ∙ (whole-counted pattern room w fits).ok)
 
 line_plain : (pattern : ℕ) (file : List ℕ) (room at : ℕ) {input next line : List ℕ} → 0 < room → Stands file at input
     → MakesLine pattern room input next line → has_run file at ≡ false
-line_plain pattern file room at h a Makes.full = absurd (omega arith)
-line_plain pattern file room at h a (Makes.and_record made k w fits further) = record-plain pattern file room at a w fits
+line_plain pattern file room at h a full = absurd (omega arith)
+line_plain pattern file room at h a (and_record made k w fits further) = record-plain pattern file room at a w fits
 
 -- a scanline run that is cut short stops its line
 stops-cut : (pattern : ℕ) (file : List ℕ) (room at : ℕ) {number : ℕ} {input rest : List ℕ} → Stands file at input
     → has_run file at ≡ true → length file - at < scanline_run_len → StopsLine pattern room input number rest
     → (number ≡ input_ends) × Stands file at rest
-stops-cut pattern file room at a run short (Stops.here h f) =
-    (sym (faulty-known pattern file at room a f) ∙ run-cut-fault file at run pattern room short, a)
-stops-cut pattern file room at a run short (Stops.and_record made h w fits further) =
+stops-cut pattern file room at a run short (here h f) = (
+  sym (faulty-judged pattern room f)
+      ∙ ap (λ (l : List ℕ). fault_at pattern l 0 room) (sym a.bytes)
+      ∙ sym (fault-front file at pattern room)
+      ∙ run-cut-fault file at run pattern room short,
+  a,
+)
+stops-cut pattern file room at a run short (stops.and_record made h w fits further) =
     let z : true ≡ false = sym run ∙ record-plain pattern file room at a w fits in
     let y : ◌≡◌ {A = ℕ} 0 1 = cc in
     absurd (omega arith)
@@ -446,8 +454,13 @@ module _ (pattern bytes : ℕ) (file : List ℕ) (wide : 0 < bytes) where
       let r = run_at at n count a some few in
       line-at at n count (at + scanline_run_len) (omega arith) r.ok r.from r.used r.stands m
 
+  pub record MadeAt (at n : ℕ) (rest made : List ℕ) : Type 0 where
+    pub end : ℕ
+    pub stands : Stands file end rest
+    pub fills : fill_lines pattern bytes file at n ≡ record { made = made; ends = accepted end }
+
   pub makes-lines : (at : ℕ) {n : ℕ} {input rest made : List ℕ} → Stands file at input
-      → MakesLines pattern bytes n input rest made → FullAt file (fill_lines pattern bytes file at n) rest made
+      → MakesLines pattern bytes n input rest made → MadeAt at n rest made
   makes-lines at a no_line = record { end = at; stands = a; fills = lines-full pattern bytes file at 0 refl }
   makes-lines at a (once {n} line m further) =
       let s = once-at at n a m in
@@ -466,9 +479,10 @@ module _ (pattern bytes : ℕ) (file : List ℕ) (wide : 0 < bytes) where
       let t = makes-lines s.to s.stands further in
       record { end = t.end; stands = t.stands; fills = s.fills ∙ ap (after (repeated count line)) t.fills }
 
-  -- where lines stop
-  abbrev pub StopsAt : ℕ → ℕ → ℕ → List ℕ → Type 0
-  StopsAt at n = HaltsAt file refusal_at (fill_lines pattern bytes file at n)
+  pub record StopsAt (at n number : ℕ) (rest : List ℕ) : Type 0 where
+    pub place : ℕ
+    pub stands : Stands file place rest
+    pub ends : (fill_lines pattern bytes file at n).ends ≡ refused (refusal_at number place)
 
   -- a line that stops, from where its records begin
   stops-from : (at n number from : ℕ) {input rest : List ℕ} → 0 < n → run_fault file at n ≡ 0
@@ -542,8 +556,8 @@ module _ (pattern bytes : ℕ) (file : List ℕ) (wide : 0 < bytes) where
 
 pub line-number : (pattern room : ℕ) {number : ℕ} {input rest : List ℕ} → StopsLine pattern room input number rest
     → (number ≡ 22) ⊎ ((number ≡ 6) ⊎ (number ≡ 7))
-line-number pattern room =
-    stops-fault (λ k. (k ≡ 22) ⊎ ((k ≡ 6) ⊎ (k ≡ 7))) (λ room input number f. faulty-numbers pattern room f)
+line-number pattern room (here h f) = faulty-numbers pattern room f
+line-number pattern room (stops.and_record made h w fits further) = line-number pattern (room - length made) further
 
 pub stops-number : (pattern bytes n : ℕ) {number : ℕ} {input rest : List ℕ}
     → StopsLines pattern bytes n input number rest → (number ≡ 22) ⊎ ((number ≡ 6) ⊎ (number ≡ 7))

@@ -1,19 +1,21 @@
 -- Laws of reading: each test picks a case.
 use mathlib.Core.Path.{◌≡◌, refl, sym, ap, ◌∙◌}
 use mathlib.Core.Bool.{Bool, true, false, not}
-use mathlib.Core.List.{List}
-use Prim.Native.Nat.{ℕ, ◌*◌, ◌≤◌, ◌<◌}
+use mathlib.Core.List.{List, ◌++◌}
+use Prim.Native.Nat.{ℕ, ◌+◌, ◌*◌, ◌≤◌, ◌<◌}
 use native.Mathlib.Omega.{arith}
-use lib.ListN.{length, take}
+use lib.ListN.{length, take, drop}
 use lib.Dec.{ltb}
 use borrow.Author.Tests.{lt-ltb, le-ltb, ltb-false}
+use Rattle.lists.proofs.Parts.{over-cut, kept-cut}
 use Rattle.outcome.specs.declared.Refusal.{Refusal}
 use Rattle.outcome.specs.Outcome.{Outcome, accepted, refused, refusal, refuse, none, refuse_if, refusal_of}
 use Rattle.outcome.specs.Refusal.{area_too_short, wrong_length, wrong_tail, outside_profile}
 use Rattle.gem_img.specs.Header.{least_header_bytes, most_line_bytes, header_bytes, pattern, width, lines}
 use Rattle.gem_img.specs.Header.{in_profile, bytes_per_line}
 use Rattle.gem_img.specs.Lines.{fill_lines}
-use Rattle.gem_img.specs.Reading.{area_bytes, fill_image, read_lines, judge_header, header_refusal, read_img}
+use Rattle.gem_img.specs.Reading.{area_bytes, Image, fill_image, read_lines, judge_header, header_refusal, read_img}
+use Rattle.gem_img.specs.Reading.{img_area}
 use Rattle.gem_img.proofs.Header.{profiled, lines_fit}
 use Rattle.gem_img.proofs.Lines.{lines-all}
 
@@ -154,3 +156,10 @@ module _ (file : List ℕ) where
             le-ltb (length file) (header_bytes file) p.has,
             p.profile,
           )
+
+-- ---- the area's later content, where the area is lent up to n bytes
+
+pub area-cut : (o : Outcome Image) (area part : List ℕ) (n : ℕ) → length part ≡ length (take n area)
+    → part ≡ img_area o (take n area) → part ++ drop n area ≡ img_area o area
+area-cut (accepted i) area part n kept is = over-cut i.bytes area part n kept is
+area-cut (refused why) area part n kept is = kept-cut area part n is

@@ -211,6 +211,7 @@ module _ (pattern room : ℕ) where
 pub record Counted (pattern room : ℕ) (input next bytes : List ℕ) : Type 0 where
   pub ok : fault_at pattern input 0 room ≡ 0
   pub makes : line_bytes pattern (record_at input 0) input 0 ≡ bytes
+  pub long : line_len pattern (record_at input 0) ≡ length bytes
   pub behind : drop (packed_len pattern (record_at input 0)) input ≡ next
 
 module _ (pattern room : ℕ) where
@@ -225,6 +226,7 @@ module _ (pattern room : ℕ) where
             ∙ fault-other pattern r (length input) room other
             ∙ fit-whole pattern r (length input) room (omega (arith, size)) has;
         makes = rw is made;
+        long = rw is size;
         behind = rw is rest;
       }
 

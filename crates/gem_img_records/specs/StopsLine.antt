@@ -1,7 +1,6 @@
 -- Where a line stops at a record at fault, and with which number (document 02, ticket 11: "at the first record at fault
 -- 6 for a scanline run of under 4 bytes, 22 for a bad one, 7, 6").
-use Rattle.std.specs.Prelude.{ℕ, ◌+◌, ◌*◌, ◌≤◌, ◌<◌, List, [], ◌∷◌, length}
-use Rattle.filling.specs.Makes.{Stops}
+use Rattle.std.specs.Prelude.{ℕ, ◌+◌, ◌-◌, ◌*◌, ◌≤◌, ◌<◌, List, [], ◌∷◌, length}
 use Rattle.gem_img_records.specs.WholeRecord.{WholeRecord}
 
 -- `FaultyRecord pattern room input number`: with so much room left in its line, the record at the front of the input is
@@ -32,5 +31,9 @@ pub data FaultyRecord (pattern room : ℕ) : List ℕ → ℕ → Type 0 where
 
 -- `StopsLine pattern room input number rest`: of a line of `room` bytes, whole records at the front of the input come
 -- before one at fault with this number, which begins `rest`
-abbrev pub StopsLine : ℕ → ℕ → List ℕ → ℕ → List ℕ → Type 0
-StopsLine pattern = Stops (WholeRecord pattern) (FaultyRecord pattern)
+pub data StopsLine (pattern : ℕ) : ℕ → List ℕ → ℕ → List ℕ → Type 0 where
+  here : {room number : ℕ} {input : List ℕ} → 0 < room → FaultyRecord pattern room input number
+      → StopsLine pattern room input number input
+  and_record : {room number : ℕ} {input next rest : List ℕ} (bytes : List ℕ) → 0 < room
+      → WholeRecord pattern input next bytes → length bytes ≤ room
+      → StopsLine pattern (room - length bytes) next number rest → StopsLine pattern room input number rest

@@ -1,7 +1,7 @@
 // The records of a GEM IMG file, and a line of them unpacked (document 02, ticket 11; source 002). Definitions: specs/.
 #![tactic(auto)]
 
-ghost use Rattle.std.specs.Prelude.{◌≡◌, ◌+◌, ◌-◌, ◌*◌, ◌≤◌, length, get_or};
+ghost use Rattle.std.specs.Prelude.{◌≡◌, ◌+◌, ◌-◌, ◌*◌, ◌≤◌, length, get_or, take, drop, replicate};
 ghost use Rattle.lists.specs.Over.{over};
 ghost use Rattle.lists.specs.Repeated.{repeated};
 ghost use Rattle.filling.specs.Ended.{ended};
@@ -179,16 +179,39 @@ pub fn refusal_at(number: u8, at: usize) -> Refusal
 
 // ---- what a record makes
 
-// Writes a pattern, so many times, to the front of an output.
-fn put_pattern(pattern: &[u8], times: usize, out: &mut [u8])
-    requires { times * length pattern.now ≤ length out.old }
-    ensures { out.new ≡ over (repeated times pattern.now) out.old }
+// Copies n bytes from an offset of a source to the front of an output.
+fn put_part(source: &[u8], from: usize, n: usize, out: &mut [u8])
+    requires n_in_bounds { from + n ≤ length source.now }
+    requires n_in_bounds_2 { n ≤ length out.old }
+    ensures { out.new ≡ over (take n (drop from source.now)) out.old }
 {
-    let n = pattern.len();
+    let end = from + n;
+    byte_copy::copy(&source[from..end], out);
+}
+
+// Writes one byte n times to the front of an output.
+fn put_solid(byte: u8, n: usize, out: &mut [u8])
+    requires { n ≤ length out.old }
+    ensures { out.new ≡ over (replicate n byte) out.old }
+{
+    let mut k: usize = 0;
+    while k < n {
+        out[k] = byte;
+        k += 1;
+    }
+}
+
+// Writes n bytes from an offset of a source, so many times, to the front of an output.
+fn put_pattern(source: &[u8], from: usize, n: usize, times: usize, out: &mut [u8])
+    requires n_in_bounds { from + n ≤ length source.now }
+    requires n_in_bounds_2 { times * n ≤ length out.old }
+    ensures { out.new
+        ≡ over (repeated times (take n (drop from source.now))) out.old }
+{
     let mut to: usize = 0;
     let mut k: usize = 0;
     while k < times {
-        byte_copy::copy(pattern, &mut out[to..]);
+        put_part(source, from, n, &mut out[to..]);
         to += n;
         k += 1;
     }
@@ -202,15 +225,9 @@ fn put_line_bytes(file: &[u8], at: usize, r: Record, pattern: u16, out: &mut [u8
 {
     match r {
         Record::ScanlineRun => {}
-        Record::PatternRun(n) => put_pattern(
-            &file[at + 2..at + 2 + pattern as usize],
-            n as usize,
-            out,
-        ),
-        Record::Literal(n) => {
-            byte_copy::copy(&file[at + 2..at + 2 + n as usize], out);
-        }
-        Record::SolidRun(x) => copies::put_run(solid_byte(x), solid_len(x), out),
+        Record::PatternRun(n) => put_pattern(file, at + 2, pattern as usize, n as usize, out),
+        Record::Literal(n) => put_part(file, at + 2, n as usize, out),
+        Record::SolidRun(x) => put_solid(solid_byte(x), solid_len(x), out),
     }
 }
 

@@ -10,9 +10,9 @@ use Rattle.raster.specs.Shape.{row_bytes, rows, bytes}
 use Rattle.raster.specs.PlaneRows.{row_fits}
 
 module _ (room : ℕ) (r : Raster) (n width : ℕ) where
-  pub row_fits : bytes r ≤ room → n < rows r → row_bytes r ≤ width → row_fits room r n width ≡ true
+  pub row_fits_lem : bytes r ≤ room → n < rows r → row_bytes r ≤ width → row_fits room r n width ≡ true
   unfolding row_fits
-  row_fits h k l = rw (le-leb _ _ h, lt-ltb _ _ k, le-leb _ _ l)
+  row_fits_lem h k l = rw (le-leb _ _ h, lt-ltb _ _ k, le-leb _ _ l)
 
   pub fits-row : row_fits room r n width ≡ true → (bytes r ≤ room) × (n < rows r) × (row_bytes r ≤ width)
   unfolding row_fits

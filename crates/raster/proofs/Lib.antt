@@ -1,12 +1,9 @@
-pub mod Examples
 pub mod Fits
 pub mod Joined
 pub mod Offsets
 pub mod Places
-pub mod Planar
 pub mod PlaneRows
 pub mod PutRows
-pub mod Spaced
 pub mod Strides
 pub mod Interleave
 pub mod InterleaveLines

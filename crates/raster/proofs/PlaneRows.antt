@@ -56,8 +56,7 @@ byte-of-image r list n c h k =
     get_or-image_of r list (row_offset r n c) (row_within r n c h k)
     ∙ ap₂ (λ (i j : ℕ). get_or (get_or list i []) j 0) (row_at-row_offset r n c some k) (column_at-row_offset r n c some k)
 
--- a plane row of the image made from rows is that row
-pub row-of-image : (r : Raster) (list : List (List ℕ)) (n : ℕ) → n < rows r → length (get_or list n []) ≡ row_bytes r
+row-of-image : (r : Raster) (list : List (List ℕ)) (n : ℕ) → n < rows r → length (get_or list n []) ≡ row_bytes r
     → plane_row (image_of r list) r n ≡ get_or list n []
 unfolding plane_row
 row-of-image r list n h e =

@@ -1,6 +1,6 @@
 -- Plane rows that stand one behind the other in one list, as unpacking leaves them, and the raster's bytes made from
 -- them (document 01, "Packed rows").
-use Rattle.std.specs.Prelude.{ℕ, ◌+◌, ◌*◌, cond, ◌&&◌, List, length, get_or, leb}
+use Rattle.std.specs.Prelude.{ℕ, ◌+◌, ◌*◌, ◌/◌, ◌%◌, ◌≤◌, ◌≡◌, Bool, cond, ◌&&◌, List, length, get_or, leb, eqb}
 use Rattle.lists.specs.Over.{over}
 use Rattle.lists.specs.Tabulate.{tabulate}
 use Rattle.raster.specs.declared.Raster.{Raster}
@@ -19,3 +19,29 @@ joined_image r list = tabulate (bytes r) (joined_byte r list)
 -- changes
 abbrev pub put_joined : Raster → List ℕ → List ℕ → List ℕ
 put_joined r list s = cond (leb (bytes r) (length s) && leb (bytes r) (length list)) (over (joined_image r list) s) s
+
+-- where byte x of a scan line stands in the scan line's plane rows of `width` bytes each
+abbrev pub interleaved : ℕ → ℕ → ℕ → ℕ
+interleaved planes width x = x / 2 % planes * width + (x / (planes * 2) * 2 + x % 2)
+
+-- the first n bytes of a scan line whose plane rows start at an offset
+abbrev pub interleaved_line : List ℕ → ℕ → ℕ → ℕ → ℕ → List ℕ
+interleaved_line s at planes width n = tabulate n (λ x. get_or s (at + interleaved planes width x) 0)
+
+-- scan lines of `line` bytes each, one behind the other
+abbrev pub interleaved_lines : List ℕ → ℕ → ℕ → ℕ → ℕ → List ℕ
+interleaved_lines s lines planes width line =
+    tabulate (lines * line) (λ o. get_or s (o / line * line + interleaved planes width (o % line)) 0)
+
+-- four planes or two, and the bytes of eight columns of them
+abbrev pub planes_of : Bool → ℕ
+planes_of four = cond four 4 2
+
+abbrev pub plane_bytes : Bool → ℕ
+plane_bytes four = cond four 32 16
+
+-- a raster of two planes or four, whose plane rows have a multiple of eight bytes, 128 at most
+pub record Interleaved (r : Raster) : Type 0 where
+  pub planes : r.planes ≡ planes_of (eqb r.planes 4)
+  pub eights : r.groups / 4 * 4 ≡ r.groups
+  pub narrow : r.groups / 4 ≤ 16

@@ -1,15 +1,12 @@
 // A raster of plane rows: scan lines of groups of 16 pixels, a group one word for each plane. Definitions: specs/.
 #![tactic(auto)]
 
-ghost use Rattle.std.specs.Prelude.{◌≡◌, ◌+◌, ◌-◌, ◌*◌, ◌^◌, ◌<◌, ◌≤◌, true, length, take};
+ghost use Rattle.std.specs.Prelude.{◌≡◌, ◌+◌, ◌*◌, ◌/◌, ◌%◌, ◌<◌, ◌≤◌, true, length, take};
 ghost use Rattle.lists.specs.Over.{over};
 ghost use Rattle.raster.specs.Shape.{row_bytes, rows, line_bytes, bytes};
 ghost use Rattle.raster.specs.PlaneRows.{row_offset, plane_row, with_row, row_fits, take_row, put_row};
-ghost use Rattle.raster.specs.Spaced.{start_at, spaced_image, put_spaced, Spaced};
-ghost use Rattle.raster.specs.Joined.{put_joined};
-ghost use Rattle.raster.specs.Planar.{put_planar};
-ghost use Rattle.raster.specs.Interleave.{interleaved_line, interleaved_lines, LinesWithin, planes_of, plane_bytes};
-ghost use Rattle.raster.specs.Interleave.{Interleaved};
+ghost use Rattle.raster.specs.Joined.{joined_image, put_joined, interleaved_line, interleaved_lines, planes_of};
+ghost use Rattle.raster.specs.Joined.{plane_bytes, Interleaved};
 
 // Scan lines, groups of 16 pixels in a scan line, and planes. The types keep every product below 2^34.
 #[derive(Clone, Copy)]
@@ -66,12 +63,12 @@ fn row_fits(room: usize, r: Raster, n: usize, width: usize) -> bool
     r.row_bytes() <= width
 }
 
-// Where plane row n begins: each scan line `step` behind the one before, each plane `gap` behind the one before.
-fn start_at(n: usize, planes: usize, step: usize, gap: usize) -> usize
-    requires { (0 < planes) × (start_at planes step gap n < 2 ^ 64) }
-    ensures { result ≡ start_at planes step gap n }
+// Where plane row n begins in a raster that has these planes and, in a scan line, line bytes.
+fn start_at(n: usize, planes: usize, line: usize) -> usize
+    requires { (0 < planes) × (planes ≤ 255) × (n / planes ≤ 65535) × (line ≤ 130050) }
+    ensures { result ≡ n / planes * line + n % planes * 2 }
 {
-    n / planes * step + n % planes * gap
+    n / planes * line + n % planes * 2
 }
 
 // Where plane row n begins. The usual numbers of planes stand as constants, so that the compiler divides by constants.
@@ -82,10 +79,10 @@ fn row_start(r: Raster, n: usize) -> usize
     let line = r.line_bytes();
     let planes = r.planes as usize;
     match planes {
-        1 => start_at(n, 1, line, 2),
-        2 => start_at(n, 2, line, 2),
-        4 => start_at(n, 4, line, 2),
-        _ => start_at(n, planes, line, 2),
+        1 => start_at(n, 1, line),
+        2 => start_at(n, 2, line),
+        4 => start_at(n, 4, line),
+        _ => start_at(n, planes, line),
     }
 }
 
@@ -186,46 +183,38 @@ fn interleave_two(source: &[u8], at: usize, gap: usize, eights: usize, out: &mut
     }
 }
 
-// Interleaves the four plane rows of a scan line, each one `gap` behind the one before: the first and the third, and
-// the second and the fourth, into a buffer, and then those two to the front of out.
-fn interleave_four(
-    source: &[u8],
-    at: usize,
-    gap: usize,
-    eights: usize,
-    half: &mut [u8],
-    out: &mut [u8],
-)
-    requires eights_in_bounds { (at + 3 * gap + eights * 8 ≤ length source.now) × (eights * 32 ≤ length half.old) }
+// Interleaves the four plane rows of a scan line: the first and the third, and the second and the fourth, into a
+// buffer, and then those two to the front of out.
+fn interleave_four(source: &[u8], at: usize, eights: usize, half: &mut [u8], out: &mut [u8])
+    requires eights_in_bounds { (at + eights * 32 ≤ length source.now) × (eights * 32 ≤ length half.old) }
     requires eights_in_bounds_2 { eights * 32 ≤ length out.old }
     ensures { out.new
-        ≡ over (interleaved_line source.now at 4 gap (eights * 32)) out.old }
+        ≡ over (interleaved_line source.now at 4 (eights * 8) (eights * 32)) out.old }
 {
     let pair = eights * 16;
-    interleave_two(source, at, gap * 2, eights, half);
-    interleave_two(source, at + gap, gap * 2, eights, &mut half[pair..]);
+    interleave_two(source, at, pair, eights, half);
+    interleave_two(source, at + eights * 8, pair, eights, &mut half[pair..]);
     interleave_two(half, 0, pair, eights * 2, out);
 }
 
-// Interleaves the plane rows of a scan line, two or four, each one `gap` behind the one before, to the front of out.
+// Interleaves the plane rows of a scan line, two or four, to the front of out.
 fn interleave_line(
     source: &[u8],
     at: usize,
-    gap: usize,
     four: bool,
     eights: usize,
     half: &mut [u8],
     out: &mut [u8],
 )
-    requires eights_in_bounds { at + (planes_of four - 1) * gap + eights * 8 ≤ length source.now }
-    requires eights_in_bounds_2 { (eights * 32 ≤ length half.old) × (eights * plane_bytes four ≤ length out.old) }
-    ensures { out.new ≡ over (interleaved_line source.now at (planes_of four) gap
+    requires four_in_bounds { (at + eights * plane_bytes four ≤ length source.now) × (eights * 32 ≤ length half.old) }
+    requires four_in_bounds_2 { eights * plane_bytes four ≤ length out.old }
+    ensures { out.new ≡ over (interleaved_line source.now at (planes_of four) (eights * 8)
         (eights * plane_bytes four)) out.old }
 {
     if four {
-        interleave_four(source, at, gap, eights, half, out);
+        interleave_four(source, at, eights, half, out);
     } else {
-        interleave_two(source, at, gap, eights, out);
+        interleave_two(source, at, eights * 8, eights, out);
     }
 }
 
@@ -236,34 +225,20 @@ fn plane_bytes(four: bool) -> usize
     if four { 32 } else { 16 }
 }
 
-// Interleaves the plane rows of all scan lines, of two planes or four, that stand evenly spaced.
-fn interleave_lines(
-    source: &[u8],
-    step: usize,
-    gap: usize,
-    lines: usize,
-    four: bool,
-    eights: usize,
-    area: &mut [u8],
-)
-    requires lines_within { LinesWithin step lines (planes_of four) gap (eights * 8) (length source.now) }
-    requires eights_bound { (eights ≤ 16) × (lines * (eights * plane_bytes four) ≤ length area.old) }
-    ensures { area.new ≡ over (interleaved_lines source.now step lines (planes_of four) gap
+// Interleaves the plane rows of all scan lines, of two planes or four.
+fn interleave_lines(source: &[u8], lines: usize, four: bool, eights: usize, area: &mut [u8])
+    requires four_in_bounds { (lines * (eights * plane_bytes four) ≤ length source.now) × (eights ≤ 16) }
+    requires four_in_bounds_2 { lines * (eights * plane_bytes four) ≤ length area.old }
+    ensures { area.new ≡ over (interleaved_lines source.now lines (planes_of four) (eights * 8)
         (eights * plane_bytes four)) area.old }
 {
     let line = eights * plane_bytes(four);
     let mut half = [0u8; 512];
+    let mut at: usize = 0;
     let mut y: usize = 0;
     while y < lines {
-        interleave_line(
-            source,
-            y * step,
-            gap,
-            four,
-            eights,
-            &mut half,
-            &mut area[y * line..],
-        );
+        interleave_line(source, at, four, eights, &mut half, &mut area[at..]);
+        at += line;
         y += 1;
     }
 }
@@ -280,18 +255,18 @@ fn copy_front(source: &[u8], n: usize, out: &mut [u8])
     }
 }
 
-// Puts plane rows that stand evenly spaced into the area row by row.
-fn put_each(area: &mut [u8], r: Raster, rows: &[u8], step: usize, gap: usize)
-    requires r_in_bounds { (bytes r ≤ length area.old) × (bytes r ≤ length rows.now) }
-    requires spaced { Spaced r step gap }
-    ensures { area.new ≡ over (spaced_image r step gap rows.now) area.old }
+// Puts joined plane rows into the area row by row.
+fn put_each(area: &mut [u8], r: Raster, rows: &[u8])
+    requires { (bytes r ≤ length area.old) × (bytes r ≤ length rows.now) }
+    ensures { area.new ≡ over (joined_image r rows.now) area.old }
 {
     let count = r.rows();
-    let planes = r.planes as usize;
+    let width = r.row_bytes();
+    let mut at: usize = 0;
     let mut n: usize = 0;
     while n < count {
-        let at = start_at(n, planes, step, gap);
         store_row(area, r, n, &rows[at..]);
+        at += width;
         n += 1;
     }
 }
@@ -312,41 +287,24 @@ fn is_interleaved(r: Raster) -> bool
     r.planes == 4
 }
 
-// Puts plane rows that stand evenly spaced into the area.
-fn put_all(area: &mut [u8], r: Raster, rows: &[u8], step: usize, gap: usize)
-    requires r_in_bounds { (bytes r ≤ length area.old) × (bytes r ≤ length rows.now) }
-    requires spaced { Spaced r step gap }
-    ensures { area.new ≡ over (spaced_image r step gap rows.now) area.old }
+// Puts joined plane rows into the area.
+fn put_all(area: &mut [u8], r: Raster, rows: &[u8])
+    requires { (bytes r ≤ length area.old) × (bytes r ≤ length rows.now) }
+    ensures { area.new ≡ over (joined_image r rows.now) area.old }
 {
     if r.planes == 1 {
         copy_front(rows, r.bytes(), area);
     } else if is_interleaved(r) {
         interleave_lines(
             rows,
-            step,
-            gap,
             r.lines as usize,
             r.planes == 4,
             r.groups as usize / 4,
             area,
         );
     } else {
-        put_each(area, r, rows, step, gap);
+        put_each(area, r, rows);
     }
-}
-
-// The same, where the area or the rows may be shorter than the raster: then nothing changes.
-fn put_spaced(area: &mut [u8], r: Raster, rows: &[u8], step: usize, gap: usize)
-    requires { Spaced r step gap }
-    ensures { area.new ≡ put_spaced r step gap rows.now area.old }
-{
-    if area.len() < r.bytes() {
-        return;
-    }
-    if rows.len() < r.bytes() {
-        return;
-    }
-    put_all(area, r, rows, step, gap);
 }
 
 // Puts all plane rows into the area, from where they stand one behind the other. Where the area or the rows are shorter
@@ -354,14 +312,11 @@ fn put_spaced(area: &mut [u8], r: Raster, rows: &[u8], step: usize, gap: usize)
 pub fn put_rows(area: &mut [u8], r: Raster, rows: &[u8])
     ensures { area.new ≡ put_joined r rows.now area.old }
 {
-    put_spaced(area, r, rows, r.line_bytes(), r.row_bytes());
-}
-
-// Puts all planes into the area, from where they stand one behind the other. Where the area or the planes are shorter
-// than the raster nothing changes.
-pub fn put_planes(area: &mut [u8], r: Raster, planes: &[u8])
-    ensures { area.new ≡ put_planar r planes.now area.old }
-{
-    let width = r.row_bytes();
-    put_spaced(area, r, planes, width, r.lines as usize * width);
+    if area.len() < r.bytes() {
+        return;
+    }
+    if rows.len() < r.bytes() {
+        return;
+    }
+    put_all(area, r, rows);
 }

@@ -6,8 +6,8 @@ use lib.ListN.{length}
 use lib.Seq.{length_front, length-take-le}
 use borrow.Author.Rules.{rules}
 use borrow.Fn.PlainCycle.{Measures, is, falls, and}
-use Rattle.outcome.proofs.Areas.{area-cut}
-use Rattle.gem_img.specs.Reading.{area_bytes, Image, read_lines}
+use Rattle.gem_img.specs.Reading.{area_bytes, read_lines}
+use Rattle.gem_img.proofs.Reading.{area-cut}
 use Rattle.gem_img.proofs.read_by_buffer.Reads as read-by-buffer
 use Rattle.gem_img.proofs.read_lines.Reads as read-lines
 use Rattle.gem_img.proofs.read_lines.Kinds.{ps}
@@ -41,8 +41,6 @@ pub +read-lines-spec : {M : Type 1} → statement M
     let a = c.before.before.before.before.before.before.before.args in
     let again = c.before.before.read-lines in
     let image = read_lines a.file.now in
-    let part = again.new.1.0 in
-    let same = area-cut image (λ (i : Image). i.bytes) a.area.now part area_bytes again.auto.1.0
-    again.ensures.1 in
+    let same = area-cut image a.area.now again.new.1.0 area_bytes again.auto.1.0 again.ensures.1 in
     (again.ensures.0, same))
     (λ c κs. search rules) (λ c. search rules) (λ c. search rules))

@@ -1,62 +1,89 @@
--- `gem_img_records::put_pattern` meets its contract. The invariant: the pattern is written k times over the front.
+-- `gem_img_records::put_pattern` meets its contract. The invariant: the part is written k times over the front.
 use mathlib.Core.Path.{◌≡◌, refl, sym, ap, ◌∙◌}
 use Prim.Native.Nat.{ℕ, ◌+◌, ◌-◌, ◌*◌, ◌≤◌}
 use native.Mathlib.Omega.{arith}
 use native.Mathlib.Nat.{zero-mul}
-use lib.ListN.{length, length-drop}
+use lib.ListN.{length, take, drop, length-drop}
+use lib.Seq.{length-take-le}
 use Rattle.lists.specs.Over.{over}
 use Rattle.lists.specs.Repeated.{repeated}
 use Rattle.lists.proofs.Over.{length_over}
-use Rattle.lists.proofs.Parts.{tail-part, copied-over}
+use Rattle.lists.proofs.Parts.{tail-part}
 use Rattle.lists.proofs.Repeated.{length-repeated, times_more, times-next, repeated-start, repeated-turn}
 use borrow.Author.Rules.{rules}
 use Rattle.gem_img_records.proofs.put_pattern.Statement.{statement}
 use Rattle.gem_img_records.proofs.put_pattern.Tie as tie
 
 abbrev invariant-loop : tie.invariant-loop
-invariant-loop pattern times out₀ n to₀ k₀ out to k =
-    (k ≤ times) × (length out ≡ length out₀) × (to ≡ k * length pattern) × (out ≡ over (repeated k pattern) out₀)
+invariant-loop source from n times out₀ to₀ k₀ out to k =
+    (k ≤ times) × (length out ≡ length out₀) × (to ≡ k * n)
+    × (out ≡ over (repeated k (take n (drop from source))) out₀)
 
 abbrev decreases-loop : tie.decreases-loop
-decreases-loop pattern times out₀ n to₀ k₀ out to k = times - k
+decreases-loop source from n times out₀ to₀ k₀ out to k = times - k
 
 loop-holds : tie.Need-loop-init invariant-loop decreases-loop
 loop-holds c =
-    let a = c.before.before.args in
-    (omega arith, refl, sym (zero-mul (length a.pattern.now)), repeated-start a.pattern.now a.out.now)
+    let a = c.before.before.args in (
+      omega arith,
+      refl,
+      sym (zero-mul a.n),
+      repeated-start (take a.n (drop a.from a.source.now)) a.out.now,
+    )
 
--- in the loop there is room for the pattern once more
-room : (c : tie.In-loop invariant-loop decreases-loop)
-    → c.before.loop.to + length c.before.before.before.before.args.pattern.now
-    ≤ length c.before.loop.out
-room c =
+sub-put-part : tie.Need-overflow-sub-put-part invariant-loop decreases-loop
+sub-put-part c =
     let l = c.before.loop in
     let a = c.before.before.before.before.args in
-    omega (arith, times_more l.k a.times (length a.pattern.now) (omega arith))
+    omega (arith, times_more l.k a.times a.n (omega arith))
 
-copy-requires : tie.Need-copy-requires invariant-loop decreases-loop
-copy-requires c κs =
+part-put-part-start : tie.Need-slice-bounds-put-part-start invariant-loop decreases-loop
+part-put-part-start c =
+    let l = c.before.loop in
+    let a = c.before.before.before.before.args in
+    omega (arith, times_more l.k a.times a.n (omega arith))
+
+part-put-part-end : tie.Need-slice-bounds-put-part-end invariant-loop decreases-loop
+part-put-part-end c =
+    let l = c.before.loop in
+    let a = c.before.before.before.before.args in
+    omega (arith, times_more l.k a.times a.n (omega arith))
+
+put-part-requires : tie.Need-put-part-requires invariant-loop decreases-loop
+put-part-requires c κs =
     let l = c.before.before.loop in
-    rw (tail-part l.out l.to) (omega (arith, length-drop l.to l.out, room c.before))
+    let a = c.before.before.before.before.before.args in (
+      c.before.before.before.before.before.requires.0,
+      rw (tail-part l.out l.to)
+          (omega (arith, length-drop l.to l.out, times_more l.k a.times a.n (omega arith))),
+    )
+
+add-to : tie.Need-overflow-add-to invariant-loop decreases-loop
+add-to c =
+    let l = c.before.before.before.before.before.loop in
+    let a = c.before.before.before.before.before.before.before.before.args in
+    omega (arith, times_more l.k a.times a.n (omega arith))
 
 loop-again : tie.Need-loop-preserved invariant-loop decreases-loop
 loop-again c =
     let l = c.before.before.before.before.before.loop in
     let a = c.before.before.before.before.before.before.before.before.args in
-    let n = length a.pattern.now in
-    let put = c.before.before.copy.ensures.1 ∙ copied-over a.pattern.now _ in
-    let is = repeated-turn a.pattern.now a.out.now l.out _ l.k n l.to refl l.invariant.2 l.invariant.3
-    put in (
+    let part = take a.n (drop a.from a.source.now) in
+    let long : length (take a.n (drop a.from a.source.now)) ≡ a.n =
+    length-take-le a.n (drop a.from a.source.now) (omega (arith, length-drop a.from a.source.now)) in
+    let put = c.before.before.put-part.ensures in
+    let is = repeated-turn part a.out.now l.out _ l.k a.n l.to long l.invariant.2 l.invariant.3 put in (
       omega arith,
       ap length is
-          ∙ length_over (repeated (l.k + 1) a.pattern.now) a.out.now
+          ∙ length_over (repeated (l.k + 1) part) a.out.now
           (omega (
             arith,
-            length-repeated (l.k + 1) a.pattern.now,
-            times-next l.k n,
-            times_more l.k a.times n (omega arith),
+            length-repeated (l.k + 1) part,
+            ap (λ (m : ℕ). (l.k + 1) * m) long,
+            times-next l.k a.n,
+            times_more l.k a.times a.n (omega arith),
           )),
-      ap (λ (k : ℕ). k + n) l.invariant.2 ∙ times-next l.k n,
+      ap (λ (k : ℕ). k + a.n) l.invariant.2 ∙ times-next l.k a.n,
       is,
     )
 
@@ -74,11 +101,11 @@ put-pattern-spec =
     invariant-loop
     decreases-loop
     loop-holds
-    (λ c. omega (arith, room c))
-    (λ c. omega (arith, room c))
-    (λ c. omega (arith, room c))
-    copy-requires
-    (λ c. omega (arith, room c.before.before.before.before))
+    sub-put-part
+    part-put-part-start
+    part-put-part-end
+    put-part-requires
+    add-to
     (λ c. search rules)
     (λ c. search rules)
     loop-again

@@ -113,7 +113,7 @@ add-from c =
 add-to : tie.Need-overflow-add-to invariant-loop decreases-loop
 add-to c =
     let e = c.before.before.before.before.before.before in
-    omega (arith, (whole e).ranges, makes e c.line-len.ensures)
+    omega (arith, (whole e).fits, makes e c.line-len.ensures)
 
 loop-less : tie.Need-loop-smaller invariant-loop decreases-loop
 loop-less c =

@@ -10,16 +10,16 @@ use Rattle.lists.proofs.Over.{over-turn, over_done}
 use Rattle.raster.proofs.copy_front.Statement.{statement}
 use Rattle.raster.proofs.copy_front.Tie as tie
 
-abbrev invariant-loop : tie.invariant-loop
+abbrev invariant-loop : tie.invariant-loop-k
 invariant-loop source n out₀ k₀ out k = (k ≤ n) × (length out ≡ length out₀) × (out ≡ over (take k (take n source)) out₀)
 
-abbrev decreases-loop : tie.decreases-loop
+abbrev decreases-loop : tie.decreases-loop-k
 decreases-loop source n out₀ k₀ out k = n - k
 
-loop-again : tie.Need-loop-preserved invariant-loop decreases-loop
+loop-again : tie.Need-loop-k-preserved invariant-loop decreases-loop
 loop-again c =
-    let l = c.before.before.loop in
-    let a = c.before.before.before.args in
+    let l = c.loop-k in
+    let a = c.args in
     let long = length-take-le a.n a.source.now (omega arith) in (
       omega arith,
       length-set l.out _ _ ∙ l.invariant.1,
@@ -29,12 +29,12 @@ loop-again c =
 
 returns : tie.Need-returns invariant-loop decreases-loop
 returns c =
-    let l = c.before.loop in
-    let a = c.before.before.args in
+    let l = c.loop-k in
+    let a = c.args in
     over_done _ _ l.out l.k (omega (arith, length-take-le a.n a.source.now (omega arith))) l.invariant.2
 
-pub copy-front-spec : {M : Type 1} → statement M
-copy-front-spec =
+pub copy_front_spec : {M : Type 1} → statement M
+copy_front_spec =
     tie.close
     (tie.spec
     invariant-loop

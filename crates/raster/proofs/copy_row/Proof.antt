@@ -10,28 +10,28 @@ use Rattle.raster.proofs.Strides.{words_of, copy-turn, copy_done}
 use Rattle.raster.proofs.copy_row.Statement.{statement}
 use Rattle.raster.proofs.copy_row.Tie as tie
 
-abbrev invariant-loop : tie.invariant-loop
+abbrev invariant-loop : tie.invariant-loop-g
 invariant-loop area n row₀ groups stride at₀ g₀ row at g =
     AtWord at₀ stride groups (length area) at g × (groups * 2 ≤ length row₀) × (length row ≡ length row₀)
     × (row ≡ over (take (g * 2) (words_of area at₀ stride groups)) row₀)
 
-abbrev decreases-loop : tie.decreases-loop
+abbrev decreases-loop : tie.decreases-loop-g
 decreases-loop area n row₀ groups stride at₀ g₀ row at g = groups - g
 
-words : (c : tie.After-row-start invariant-loop decreases-loop) → let a = c.before.before.before.before.before.args in
-    RowWords a.r a.n c.row-start.result (a.r.planes * 2) a.r.groups
-words c = record { first = c.row-start.ensures; apart = refl; count = refl }
+words : (c : tie.After-row_start-at invariant-loop decreases-loop) → let a = c.args in
+    RowWords a.r a.n c.row_start-at.result (a.r.planes * 2) a.r.groups
+words c = record { first = c.row_start-at.ensures; apart = refl; count = refl }
 
-loop-holds : tie.Need-loop-init invariant-loop decreases-loop
+loop-holds : tie.Need-loop-g-init invariant-loop decreases-loop
 loop-holds c =
     let b = c.before.before.before.before.before in
     let w = first_word (words c) (length b.args.area.now) (omega arith) b.requires.0 b.requires.1 in
     (w, omega (arith, row-bytes (words c)), refl, refl)
 
-loop-again : tie.Need-loop-preserved invariant-loop decreases-loop
+loop-again : tie.Need-loop-g-preserved invariant-loop decreases-loop
 loop-again c =
-    let l = c.before.before.before.loop in
-    let a = c.before.before.before.before.before.before.before.before.before.args in (
+    let l = c.loop-g in
+    let a = c.args in (
       next_word l.invariant.0 (omega arith),
       l.invariant.1,
       simp length-set l.invariant.2,
@@ -40,12 +40,12 @@ loop-again c =
 
 returns : tie.Need-returns invariant-loop decreases-loop
 returns c =
-    let l = c.before.loop in
-    let a = c.before.before.before.before.before.before.before.args in
+    let l = c.loop-g in
+    let a = c.args in
     copy_done (words c.before.before) a.area.now a.row.now l.row l.g (omega arith) l.invariant.3
 
-pub copy-row-spec : {M : Type 1} → statement M
-copy-row-spec =
+pub copy_row_spec : {M : Type 1} → statement M
+copy_row_spec =
     tie.close
     (tie.spec
     invariant-loop
@@ -55,15 +55,15 @@ copy-row-spec =
     (λ c. search rules)
     (λ c κs. search rules)
     loop-holds
-    (λ c. omega (arith, at-within c.before.before.loop.invariant.0 (omega arith)))
-    (λ c. omega (arith, at-within c.before.before.loop.invariant.0 (omega arith)))
-    (λ c. omega (arith, at-within c.before.before.before.loop.invariant.0 (omega arith)))
+    (λ c. omega (arith, at-within c.loop-g.invariant.0 (omega arith)))
+    (λ c. omega (arith, at-within c.loop-g.invariant.0 (omega arith)))
+    (λ c. omega (arith, at-within c.loop-g.invariant.0 (omega arith)))
     (λ c. search rules)
     (λ c. search rules)
     (λ c. search rules)
     (λ c. search rules)
     (λ c. simp length-set (omega arith))
-    (λ c. omega (arith, at-within c.before.before.before.loop.invariant.0 (omega arith)))
+    (λ c. omega (arith, at-within c.loop-g.invariant.0 (omega arith)))
     (λ c. search rules)
     (λ c. search rules)
     loop-again

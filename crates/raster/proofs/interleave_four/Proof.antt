@@ -10,19 +10,18 @@ use Rattle.raster.proofs.interleave_four.Tie as tie
 
 returns : tie.Need-returns
 returns c =
-    let t = c.before.before.before.before.before.before.before.before.before.before.before in
-    let a = t.before.before.before.before.before.args in
+    let t = c.before.before.before.before.before.before.before.before.before.before in
+    let a = t.args in
     let pairs =
-    interleave-pairs a.source.now a.at a.gap a.eights a.half.now _ _
-    t.interleave-two.ensures
-    c.before.before.before.before.before.before.before.interleave-two2.ensures in
-    c.before.before.interleave-two3.ensures ∙ ap (λ (l : List ℕ). over l a.out.now) pairs
+    interleave-pairs a.source.now a.at a.eights a.half.now _ _
+    t.interleave_two.ensures
+    c.interleave_two-2.ensures in
+    c.interleave_two-3.ensures ∙ ap (λ (l : List ℕ). over l a.out.now) pairs
 
-pub interleave-four-spec : {M : Type 1} → statement M
-interleave-four-spec =
+pub interleave_four_spec : {M : Type 1} → statement M
+interleave_four_spec =
     tie.close
     (tie.spec
-    (λ c. search rules)
     (λ c. search rules)
     (λ c κs. search rules)
     (λ c. search rules)

@@ -8,29 +8,29 @@ use borrow.Author.Rules.{rules}
 use borrow.Rule.Slice.PartMut.{same_len_mid}
 use Rattle.lists.specs.Over.{over}
 use Rattle.lists.proofs.Over.{over_done}
-use Rattle.raster.specs.Interleave.{interleaved_line}
+use Rattle.raster.specs.Joined.{interleaved_line}
 use Rattle.raster.proofs.Interleave.{length-interleaved, interleave-turn}
 use Rattle.raster.proofs.interleave_two.Statement.{statement}
 use Rattle.raster.proofs.interleave_two.Tie as tie
 
-abbrev invariant-loop : tie.invariant-loop
+abbrev invariant-loop : tie.invariant-loop-k
 invariant-loop source at gap eights out₀ k₀ out k =
     (k ≤ eights) × (length out ≡ length out₀)
     × (out ≡ over (take (k * 16) (interleaved_line source at 2 gap (eights * 16))) out₀)
 
-abbrev decreases-loop : tie.decreases-loop
+abbrev decreases-loop : tie.decreases-loop-k
 decreases-loop source at gap eights out₀ k₀ out k = eights - k
 
-loop-again : tie.Need-loop-preserved invariant-loop decreases-loop
+loop-again : tie.Need-loop-k-preserved invariant-loop decreases-loop
 loop-again c =
-    let l = c.before.before.before.before.before.before.loop in
-    let a = c.before.before.before.before.before.before.before.before.before.args in
-    let e = c.before.before.put-sixteen in
+    let l = c.loop-k in
+    let a = c.args in
+    let e = c.put_sixteen in
     let part : List ℕ = take (length l.out - l.k * 16) (drop (l.k * 16) l.out) in
     let interleaved-here =
-    ap (λ (w : List ℕ). over w part) c.before.before.before.before.interleaved-eight.ensures in (
+    ap (λ (w : List ℕ). over w part) c.interleaved_eight-interleaved.ensures in (
       omega arith,
-      same_len_mid (l.k * 16) (length l.out - l.k * 16) l.out e.new.1.0 e.auto.1.0 ∙ l.invariant.1,
+      same_len_mid (l.k * 16) (length l.out - l.k * 16) l.out e.new.out e.auto.out ∙ l.invariant.1,
       interleave-turn a.source.now a.at a.gap a.eights a.out.now l.out _ l.k (omega arith)
           (omega arith)
           l.invariant.2 (e.ensures ∙ interleaved-here),
@@ -38,13 +38,13 @@ loop-again c =
 
 returns : tie.Need-returns invariant-loop decreases-loop
 returns c =
-    let l = c.before.loop in
-    let a = c.before.before.before.before.args in
+    let l = c.loop-k in
+    let a = c.args in
     over_done _ _ l.out (l.k * 16)
     (omega (arith, length-interleaved a.source.now a.at 2 a.gap (a.eights * 16))) l.invariant.2
 
-pub interleave-two-spec : {M : Type 1} → statement M
-interleave-two-spec =
+pub interleave_two_spec : {M : Type 1} → statement M
+interleave_two_spec =
     tie.close
     (tie.spec
     invariant-loop

@@ -6,28 +6,28 @@ use borrow.Author.Rules.{rules}
 use lib.ListN.{length, get_or, take, length-set}
 use Rattle.lists.specs.Over.{over}
 use Rattle.lists.proofs.Over.{tabulate-turn, tabulate-done}
-use Rattle.raster.specs.Interleave.{interleaved, interleaved_line}
+use Rattle.raster.specs.Joined.{interleaved, interleaved_line}
 use Rattle.raster.proofs.Interleave.{interleaved-within}
 use Rattle.raster.proofs.interleaved_eight.Statement.{statement}
 use Rattle.raster.proofs.interleaved_eight.Tie as tie
 
-abbrev invariant-loop : tie.invariant-loop
+abbrev invariant-loop : tie.invariant-loop-k
 invariant-loop source at gap interleaved₀ k₀ made k =
     (k ≤ 16) × (length interleaved₀ ≡ 16) × (length made ≡ 16)
     × (made ≡ over (take k (interleaved_line source at 2 gap 16)) interleaved₀)
 
-abbrev decreases-loop : tie.decreases-loop
+abbrev decreases-loop : tie.decreases-loop-k
 decreases-loop source at gap interleaved₀ k₀ made k = 16 - k
 
 -- a byte of either row's eight
-within-here : (c : tie.In-loop invariant-loop decreases-loop) → interleaved 2 c.before.before.args.gap c.before.loop.k
-    < c.before.before.args.gap + 8
-within-here c = interleaved-within c.before.before.args.gap 8 c.before.loop.k (omega arith)
+within-here : (c : tie.In-loop-k invariant-loop decreases-loop) → interleaved 2 c.args.gap c.loop-k.k
+    < c.args.gap + 8
+within-here c = interleaved-within c.args.gap 8 c.loop-k.k (omega arith)
 
-loop-again : tie.Need-loop-preserved invariant-loop decreases-loop
+loop-again : tie.Need-loop-k-preserved invariant-loop decreases-loop
 loop-again c =
-    let l = c.before.before.loop in
-    let a = c.before.before.before.args in (
+    let l = c.loop-k in
+    let a = c.args in (
       omega arith,
       l.invariant.1,
       length-set l.interleaved _ _ ∙ l.invariant.2,
@@ -38,10 +38,10 @@ loop-again c =
 
 returns : tie.Need-returns invariant-loop decreases-loop
 returns c =
-    let l = c.before.loop in tabulate-done 16 _ _ l.interleaved l.k (omega arith) (omega arith) l.invariant.3
+    let l = c.loop-k in tabulate-done 16 _ _ l.interleaved l.k (omega arith) (omega arith) l.invariant.3
 
-pub interleaved-eight-spec : {M : Type 1} → statement M
-interleaved-eight-spec =
+pub interleaved_eight_spec : {M : Type 1} → statement M
+interleaved_eight_spec =
     tie.close
     (tie.spec
     invariant-loop

@@ -1,106 +1,99 @@
 -- `raster::put_each` meets its contract: the loop has put the first n rows.
-use mathlib.Core.Path.{◌≡◌, refl, ap, ◌∙◌}
+use mathlib.Core.Path.{◌≡◌, refl, sym, ap, ◌∙◌}
 use mathlib.Core.List.{List}
-use Prim.Native.Nat.{ℕ, ◌+◌, ◌-◌, ◌≤◌, ◌<◌}
+use Prim.Native.Nat.{ℕ, ◌+◌, ◌-◌, ◌*◌, ◌≤◌, ◌<◌}
+use native.Mathlib.Nat.{zero-mul, suc-mul}
+use native.Mathlib.Numerals.{add-one}
 use native.Mathlib.Omega.{arith}
 use lib.ListN.{length, length-drop}
 use borrow.Author.Rules.{rules}
 use Rattle.lists.specs.Over.{over}
 use Rattle.lists.proofs.Parts.{tail-part}
-use Rattle.raster.specs.Shape.{row_bytes, rows}
+use Rattle.raster.specs.Shape.{row_bytes, rows, bytes}
 use Rattle.raster.specs.PlaneRows.{put_rows}
-use Rattle.raster.specs.Spaced.{start_at}
-use Rattle.raster.proofs.Places.{row-planes}
-use Rattle.raster.proofs.Spaced.{row_tails, image-spaced, tails-turn}
+use Rattle.raster.proofs.Joined.{row_ends, row_tails, image-joined, tails-turn}
 use Rattle.raster.proofs.PutRows.{put_all}
 use Rattle.raster.proofs.put_each.Statement.{statement}
 use Rattle.raster.proofs.put_each.Tie as tie
 
-abbrev invariant-loop : tie.invariant-loop
-invariant-loop area₀ r list step gap count planes n₀ area n =
-    (count ≡ rows r) × (planes ≡ r.planes) × (length area ≡ length area₀) × (n ≤ count)
-    × (area ≡ put_rows r n (row_tails r step gap list) area₀)
+abbrev invariant-loop : tie.invariant-loop-n
+invariant-loop area₀ r list count width at₀ n₀ area at n =
+    (count ≡ rows r) × (width ≡ row_bytes r) × (length area ≡ length area₀) × (n ≤ count) × (at ≡ n * row_bytes r)
+    × (area ≡ put_rows r n (row_tails r list) area₀)
 
-abbrev decreases-loop : tie.decreases-loop
-decreases-loop area₀ r list step gap count planes n₀ area n = count - n
+abbrev decreases-loop : tie.decreases-loop-n
+decreases-loop area₀ r list count width at₀ n₀ area at n = count - n
 
 -- the next row is one of the raster's, and ends inside
-more-here : (c : tie.In-loop invariant-loop decreases-loop)
-    → c.before.loop.n < rows c.before.before.before.before.before.before.args.r
-more-here c = omega (arith, c.before.loop.invariant.0)
+more-here : (c : tie.In-loop-n invariant-loop decreases-loop) → c.loop-n.n < rows
+    c.args.r
+more-here c = omega (arith, c.loop-n.invariant.0)
 
-ends-here : (c : tie.In-loop invariant-loop decreases-loop)
-    → let a = c.before.before.before.before.before.before.args in
-    start_at a.r.planes a.step a.gap c.before.loop.n + row_bytes a.r ≤ length a.rows.now
-ends-here c =
-    let b = c.before.before.before.before.before.before in
-    omega (arith, b.requires.1.within c.before.loop.n (more-here c))
+ends-here : (c : tie.In-loop-n invariant-loop decreases-loop)
+    → let r = c.args.r in c.loop-n.n * row_bytes r + row_bytes
+    r ≤ bytes r
+ends-here c = row_ends c.args.r c.loop-n.n (more-here c)
 
-inside-here : (c : tie.After-start-at invariant-loop decreases-loop)
-    → c.start-at.result + row_bytes c.before.before.before.before.before.before.before.args.r ≤ length
-    c.before.before.before.before.before.before.before.args.rows.now
-inside-here c = omega (arith, c.start-at.ensures, ends-here c.before)
+inside-here : (c : tie.In-loop-n invariant-loop decreases-loop) → c.loop-n.at ≤ length
+    c.args.rows.now
+inside-here c = omega (arith, ends-here c)
 
-loop-holds : tie.Need-loop-init invariant-loop decreases-loop
+loop-holds : tie.Need-loop-n-init invariant-loop decreases-loop
 unfolding put_rows
-loop-holds c = (c.before.rows.ensures.0, refl, refl, omega arith, refl)
+loop-holds c =
+    (c.rows-count.ensures.0, c.row_bytes-width.ensures.0, refl, omega arith, sym (zero-mul _), refl)
 
-start-at-requires : tie.Need-start-at-requires invariant-loop decreases-loop
-start-at-requires c κs =
-    let a = c.before.before.before.before.before.before.args in
-    (row-planes a.r c.before.loop.n (more-here c), omega (arith, ends-here c))
-
-store-row-requires : tie.Need-store-row-requires invariant-loop decreases-loop
+store-row-requires : tie.Need-store_row-requires invariant-loop decreases-loop
 store-row-requires c κs =
     let t = c.before.before in
-    let at = t.start-at.result in
-    let list = t.before.before.before.before.before.before.before.args.rows.now in (
+    let l = t.loop-n in
+    let list = t.args.rows.now in (
       omega arith,
-      more-here t.before,
-      omega (arith, inside-here t, ap length (tail-part list at), length-drop at list),
+      more-here t,
+      omega (arith, ends-here t, ap length (tail-part list l.at), length-drop l.at list),
     )
 
-loop-again : tie.Need-loop-preserved invariant-loop decreases-loop
+loop-again : tie.Need-loop-n-preserved invariant-loop decreases-loop
 loop-again c =
-    let t = c.before.before.before.before.before in
-    let l = t.before.before.loop in
-    let a = t.before.before.before.before.before.before.before.args in
-    let e = c.before.before.store-row in (
+    let l = c.loop-n in
+    let a = c.args in
+    let e = c.store_row in (
       l.invariant.0,
       l.invariant.1,
-      e.auto.0 ∙ l.invariant.2,
+      e.auto.area ∙ l.invariant.2,
       omega arith,
+      omega (arith, suc-mul l.n (row_bytes a.r)) ∙ ap (λ (k : ℕ). k * row_bytes a.r)
+          (sym (add-one l.n)),
       e.ensures
-          ∙ tails-turn a.r a.step a.gap a.rows.now a.area.now l.area l.n t.start-at.result _
-          (more-here t.before) t.start-at.ensures l.invariant.4
-          (tail-part a.rows.now t.start-at.result),
+          ∙ tails-turn a.r a.rows.now a.area.now l.area l.n l.at _
+          (more-here c.before.before.before.before.before) l.invariant.4 l.invariant.5
+          (tail-part a.rows.now l.at),
     )
 
 returns : tie.Need-returns invariant-loop decreases-loop
 returns c =
-    let l = c.before.loop in
-    let a = c.before.before.before.before.before.before.args in
+    let l = c.loop-n in
+    let a = c.args in
     let all : l.n ≡ rows a.r = omega (arith, l.invariant.0) in
-    let tails = row_tails a.r a.step a.gap a.rows.now in
-    l.invariant.4
-    ∙ ap (λ (k : ℕ). put_rows a.r k tails a.area.now) all
-    ∙ put_all a.r tails a.area.now (omega arith)
-    ∙ ap (λ (image : List ℕ). over image a.area.now) (image-spaced a.r a.step a.gap a.rows.now)
+    l.invariant.5
+    ∙ ap (λ (k : ℕ). put_rows a.r k (row_tails a.r a.rows.now) a.area.now) all
+    ∙ put_all a.r (row_tails a.r a.rows.now) a.area.now (omega arith)
+    ∙ ap (λ (image : List ℕ). over image a.area.now) (image-joined a.r a.rows.now)
 
-pub put-each-spec : {M : Type 1} → statement M
-put-each-spec =
+pub put_each_spec : {M : Type 1} → statement M
+put_each_spec =
     tie.close
     (tie.spec
     invariant-loop
     decreases-loop
     (λ c κs. search rules)
-    (λ c. search rules)
+    (λ c κs. search rules)
     loop-holds
-    start-at-requires
-    (λ c. omega (arith, inside-here c.before))
-    (λ c. omega (arith, inside-here c.before))
+    (λ c. inside-here c.before)
+    (λ c. inside-here c.before)
     (λ c. search rules)
     store-row-requires
+    (λ c. omega (arith, ends-here c.before.before.before.before.before))
     (λ c. search rules)
     (λ c. search rules)
     loop-again

@@ -6,20 +6,25 @@ use Rattle.raster.proofs.Fits.{fits-row}
 use Rattle.raster.proofs.put_row.Statement.{statement}
 use Rattle.raster.proofs.put_row.Tie as tie
 
-store-row-requires : tie.Need-store-row-requires
+store-row-requires : tie.Need-store_row-requires
 store-row-requires c κs =
-    let a = c.before.before.before.before.before.args in
+    let a = c.args in
     fits-row (length a.area.now) a.r a.n (length a.row.now)
-    (sym c.before.before.row_fits.ensures ∙ c.before.if1.true)
+    (sym c.row_fits.ensures ∙ c.if-row_fits.true)
 
-returns : tie.Need-returns
+returns : tie.Need-returns-then-row_fits
 returns c =
     let i = c.before.before.before.before in
-    rw (← i.before.row_fits.ensures, i.if1.true) c.before.before.store-row.ensures
+    rw (← i.row_fits.ensures, i.if-row_fits.true) c.store_row.ensures
 
-returns-2 : tie.Need-returns-2
-returns-2 c = rw (← c.before.row_fits.ensures, c.if1.false)
+returns-2 : tie.Need-returns-else-row_fits
+returns-2 c = rw (← c.row_fits.ensures, c.if-row_fits.false)
 
-pub put-row-spec : {M : Type 1} → statement M
-put-row-spec =
-    tie.close (tie.spec (λ c κs. search rules) store-row-requires (λ c. search rules) returns returns-2)
+pub put_row_spec : {M : Type 1} → statement M
+put_row_spec =
+    tie.close (tie.spec
+    (λ c κs. search rules)
+    store-row-requires
+    (λ c. search rules)
+    returns
+    returns-2)

@@ -1,23 +1,45 @@
--- `raster::put_rows` meets its contract: joined plane rows are evenly spaced.
-use mathlib.Core.Path.{refl, ◌∙◌}
+-- `raster::put_rows` meets its contract: the two tests are those of `put_joined`.
+use mathlib.Core.Path.{refl}
+use native.Mathlib.Omega.{arith}
+use lib.ListN.{length}
+use borrow.Author.Tests.{le-leb, lt-leb}
+use Rattle.raster.specs.Shape.{bytes}
 use borrow.Author.Rules.{rules}
-use Rattle.raster.proofs.Joined.{joined-spaced, spaced-joined}
 use Rattle.raster.proofs.put_rows.Statement.{statement}
 use Rattle.raster.proofs.put_rows.Tie as tie
 
-put-spaced-requires : tie.Need-put-spaced-requires
-put-spaced-requires c κs =
-    rw (c.before.line-bytes.ensures.0, c.row-bytes.ensures.0)
-    (joined-spaced c.before.before.before.before.before.args.r)
-
-returns : tie.Need-returns
+returns : tie.Need-returns-then-area-bytes
 returns c =
-    let t = c.before.before.before in
-    let a = t.before.before.before.before.before.args in
-    c.before.before.put-spaced.ensures
-    ∙ rw (t.before.line-bytes.ensures.0, t.row-bytes.ensures.0, spaced-joined a.r a.rows.now) refl
+    let a = c.args in
+    rw (lt-leb (bytes a.r) (length a.area.now) (omega (arith, c.bytes.ensures.0))) refl
 
-pub put-rows-spec : {M : Type 1} → statement M
-put-rows-spec =
+returns-2 : tie.Need-returns-then-rows-bytes
+returns-2 c =
+    let a = c.args in
+    rw (
+      le-leb (bytes a.r) (length a.area.now) (omega (arith, c.bytes.ensures.0)),
+      lt-leb (bytes a.r) (length a.rows.now) (omega (arith, c.bytes-2.ensures.0)),
+    ) refl
+
+returns-3 : tie.Need-returns
+returns-3 c =
+    let a = c.args in
+    rw (
+      le-leb (bytes a.r) (length a.area.now)
+          (omega (arith, c.bytes.ensures.0)),
+      le-leb (bytes a.r) (length a.rows.now)
+          (omega (arith, c.bytes-2.ensures.0)),
+    )
+    c.put_all.ensures
+
+pub put_rows_spec : {M : Type 1} → statement M
+put_rows_spec =
     tie.close
-    (tie.spec (λ c κs. search rules) (λ c κs. search rules) put-spaced-requires (λ c. search rules) returns)
+    (tie.spec
+    (λ c κs. search rules)
+    returns
+    (λ c κs. search rules)
+    returns-2
+    (λ c κs. search rules)
+    (λ c. search rules)
+    returns-3)

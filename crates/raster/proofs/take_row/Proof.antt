@@ -6,20 +6,25 @@ use Rattle.raster.proofs.Fits.{fits-row}
 use Rattle.raster.proofs.take_row.Statement.{statement}
 use Rattle.raster.proofs.take_row.Tie as tie
 
-copy-row-requires : tie.Need-copy-row-requires
+copy-row-requires : tie.Need-copy_row-requires
 copy-row-requires c κs =
-    let a = c.before.before.before.before.before.args in
+    let a = c.args in
     fits-row (length a.area.now) a.r a.n (length a.row.now)
-    (sym c.before.before.row_fits.ensures ∙ c.before.if1.true)
+    (sym c.row_fits.ensures ∙ c.if-row_fits.true)
 
-returns : tie.Need-returns
+returns : tie.Need-returns-then-row_fits
 returns c =
     let i = c.before.before.before.before in
-    rw (← i.before.row_fits.ensures, i.if1.true) c.before.before.copy-row.ensures
+    rw (← i.row_fits.ensures, i.if-row_fits.true) c.copy_row.ensures
 
-returns-2 : tie.Need-returns-2
-returns-2 c = rw (← c.before.row_fits.ensures, c.if1.false)
+returns-2 : tie.Need-returns-else-row_fits
+returns-2 c = rw (← c.row_fits.ensures, c.if-row_fits.false)
 
-pub take-row-spec : {M : Type 1} → statement M
-take-row-spec =
-    tie.close (tie.spec (λ c κs. search rules) copy-row-requires (λ c. search rules) returns returns-2)
+pub take_row_spec : {M : Type 1} → statement M
+take_row_spec =
+    tie.close (tie.spec
+    (λ c κs. search rules)
+    copy-row-requires
+    (λ c. search rules)
+    returns
+    returns-2)

@@ -80,7 +80,7 @@ add-from c =
 add-to : tie.Need-overflow-add-to invariant-loop decreases-loop
 add-to c =
     let e = c.before.before.before.before.before.before.before in
-    omega (arith, (whole e).ranges, c.made_by.ensures)
+    omega (arith, (whole e).fits, c.made_by.ensures)
 
 loop-less : tie.Need-loop-smaller invariant-loop decreases-loop
 loop-less c =

@@ -8,32 +8,37 @@ use Rattle.tiny_runs.proofs.WordBytes.{Putting, putting-start, putting-done, wor
 use Rattle.tiny_runs.proofs.put_repeat.Statement.{statement}
 use Rattle.tiny_runs.proofs.put_repeat.Tie as tie
 
-abbrev invariant-loop : tie.invariant-loop
+abbrev invariant-loop : tie.invariant-loop-i
 invariant-loop high low count out₀ i₀ out i =
     (i ≤ count) × (length out ≡ length out₀) × Putting count 1 (λ j. high * 256 + low) out₀ out i
 
-abbrev decreases-loop : tie.decreases-loop
+abbrev decreases-loop : tie.decreases-loop-i
 decreases-loop high low count out₀ i₀ out i = count - i
 
-loop-holds : tie.Need-loop-init invariant-loop decreases-loop
+loop-holds : tie.Need-loop-i-init invariant-loop decreases-loop
 loop-holds c =
-    let a = c.before.args in
+    let a = c.args in
     (omega arith, refl, putting-start a.count 1 _ a.out.now)
 
-loop-again : tie.Need-loop-preserved invariant-loop decreases-loop
+loop-again : tie.Need-loop-i-preserved invariant-loop decreases-loop
 loop-again c =
-    let l = c.before.before.before.before.before.loop in
-    (omega arith, search rules, word-turn l.invariant.2 (omega arith) _ _ refl c.before.before.put_word.ensures)
+    let l = c.loop-i in
+    (omega arith, search rules, word-turn l.invariant.2 (omega arith) _ _ refl c.put_word.ensures)
 
-pub put-repeat-spec : {M : Type 1} → statement M
-put-repeat-spec =
+pub put_repeat_spec : {M : Type 1} → statement M
+put_repeat_spec =
     tie.close
     (tie.spec
     invariant-loop
     decreases-loop
     loop-holds
-    (λ c. search rules) (λ c. search rules) (λ c. search rules) (λ c. search rules) (λ c κs. search rules)
-    (λ c. search rules) (λ c. search rules)
+    (λ c. search rules)
+    (λ c. search rules)
+    (λ c. search rules)
+    (λ c. search rules)
+    (λ c κs. search rules)
+    (λ c. search rules)
+    (λ c. search rules)
     loop-again
     (λ c. search rules)
-    (λ c. putting-done c.before.loop.invariant.2 (omega arith)))
+    (λ c. putting-done c.loop-i.invariant.2 (omega arith)))

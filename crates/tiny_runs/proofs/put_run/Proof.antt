@@ -36,50 +36,51 @@ module _ (repeats : Bool) (count taken size : ℕ) (h : (taken + cond repeats 1 
   literal-within : repeats ≡ false → (taken + count) * 2 ≤ size
   literal-within is = rw is at h
 
-shared-slice-read-put-repeat : tie.Need-shared-slice-read-put-repeat
+shared-slice-read-put-repeat : tie.Need-bounds-section-at
 shared-slice-read-put-repeat c =
     let s = c.before.before.before.before in
     let a = s.args in
-    omega (arith, repeat-within a.run.repeats a.run.count a.taken.0 _ s.requires.1 c.before.if1.true)
+    omega (arith, repeat-within a.run.repeats a.run.count a.taken.0 _ s.requires.1 c.if-run.true)
 
-shared-slice-read-put-repeat-2 : tie.Need-shared-slice-read-put-repeat-2
+shared-slice-read-put-repeat-2 : tie.Need-bounds-section-at-then-run
 shared-slice-read-put-repeat-2 c =
     let s = c.before.before.before.before.before in
     let a = s.args in
     omega (
       arith,
-      repeat-within a.run.repeats a.run.count a.taken.0 _ s.requires.1 c.before.before.if1.true,
+      repeat-within a.run.repeats a.run.count a.taken.0 _ s.requires.1 c.if-run.true,
     )
 
-returns : tie.Need-returns
+returns : tie.Need-returns-then-run
 returns c =
-    let a = c.before.before.before.before.before.before.before.before.before.args in
+    let a = c.args in
     repeat-put a.run.repeats a.run.count a.taken.0 a.section.now a.out.now _
-    c.before.before.before.before.before.before.if1.true c.before.before.put-repeat.ensures
+    c.if-run.true c.put_repeat.ensures
 
-put-literal-requires : tie.Need-put-literal-requires
+put-literal-requires : tie.Need-put_literal-requires
 put-literal-requires c κs =
     let s = c.before.before.before.before in
     let a = s.args in (
-      literal-within a.run.repeats a.run.count a.taken.0 _ s.requires.1 c.before.if1.false,
+      literal-within a.run.repeats a.run.count a.taken.0 _ s.requires.1 c.if-run.false,
       s.requires.0,
     )
 
-returns-2 : tie.Need-returns-2
+returns-2 : tie.Need-returns
 returns-2 c =
-    let a = c.before.before.before.before.before.before.before.args in
+    let a = c.args in
     literal-put a.run.repeats a.run.count a.taken.0 a.section.now a.out.now _
-    c.before.before.before.before.if1.false c.before.before.put-literal.ensures
+    c.if-run.false c.put_literal.ensures
 
-pub put-run-spec : {M : Type 1} → statement M
-put-run-spec =
+pub put_run_spec : {M : Type 1} → statement M
+put_run_spec =
     tie.close
     (tie.spec
     (λ c. search rules)
     shared-slice-read-put-repeat
     (λ c. search rules)
     shared-slice-read-put-repeat-2
-    (λ c κs. search rules) (λ c. search rules)
+    (λ c κs. search rules)
+    (λ c. search rules)
     returns
     put-literal-requires
     (λ c. search rules)

@@ -8,14 +8,17 @@ use Rattle.tiny_runs.proofs.run_at.Tie as tie
 
 returns : tie.Need-returns
 returns c =
-    let a = c.before.before.before.before.args in
+    let a = c.args in
     c.fitted.ensures
-    ∙ rw c.before.run_of.ensures
+    ∙ rw c.run_of-r.ensures
     (sym (run-at-offset a.controls.now a.used.0 a.left.0 a.room (omega arith)))
 
-pub run-at-spec : {M : Type 1} → statement M
-run-at-spec =
+pub run_at_spec : {M : Type 1} → statement M
+run_at_spec =
     tie.close
     (tie.spec
-    (λ c. search rules) (λ c. search rules) (λ c κs. search rules) (λ c κs. search rules)
+    (λ c. search rules)
+    (λ c. search rules)
+    (λ c κs. search rules)
+    (λ c κs. search rules)
     returns)

@@ -6,20 +6,21 @@ use borrow.Author.Rules.{rules}
 use Rattle.tiny_runs.proofs.run_of.Statement.{statement}
 use Rattle.tiny_runs.proofs.run_of.Tie as tie
 
-returns-4 : tie.Need-returns-4
+returns-4 : tie.Need-returns
 returns-4 c =
-    let a = c.before.before.before.before.before.args in
-    c.defined2.ensures ∙ sym (run-literal a.x _ (omega arith))
+    let a = c.args in
+    c.defined-2.ensures ∙ sym (run-literal a.x _ (omega arith))
 
-pub run-of-spec : {M : Type 1} → statement M
-run-of-spec =
+pub run_of_spec : {M : Type 1} → statement M
+run_of_spec =
     tie.close
     (tie.spec
     (λ c κs. search rules)
-    (λ c. c.long-run.ensures ∙ sym (run_long _ _ c.before.if1.true))
+    (λ c. c.long_run.ensures ∙ sym (run_long _ _ c.if-x-lt2.true))
     (λ c κs. search rules)
     (λ c. c.defined.ensures ∙ sym (run-repeat _ _ (omega arith) (omega arith)))
     (λ c κs. search rules)
-    (λ c. c.faulty.ensures ∙ sym (run-undefined _ _ c.before.if3.true))
-    (λ c. search rules) (λ c κs. search rules)
+    (λ c. c.faulty.ensures ∙ sym (run-undefined _ _ c.if-x-eq128.true))
+    (λ c. search rules)
+    (λ c κs. search rules)
     returns-4)

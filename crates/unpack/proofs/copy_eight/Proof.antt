@@ -9,9 +9,13 @@ use Rattle.unpack.proofs.copy_eight.Tie as tie
 
 returns : tie.Need-returns
 returns c =
-    let a = c.before.before.before.before.before.before.before.args in
-    c.before.before.put-eight.ensures ∙ ap (λ (l : List ℕ). over l a.out.now)
-    c.before.before.before.before.eight-at.ensures
+    let a = c.args in
+    c.put_eight.ensures ∙ ap (λ (l : List ℕ). over l a.out.now)
+    c.eight_at.ensures
 
-pub copy-eight-spec : {M : Type 1} → statement M
-copy-eight-spec = tie.close (tie.spec (λ c κs. search rules) (λ c κs. search rules) (λ c. search rules) returns)
+pub copy_eight_spec : {M : Type 1} → statement M
+copy_eight_spec = tie.close (tie.spec
+    (λ c κs. search rules)
+    (λ c κs. search rules)
+    (λ c. search rules)
+    returns)

@@ -11,24 +11,24 @@ use Rattle.unpack.proofs.Front.{part-byte}
 use Rattle.unpack.proofs.eight_at.Statement.{statement}
 use Rattle.unpack.proofs.eight_at.Tie as tie
 
-abbrev invariant-loop : tie.invariant-loop
+abbrev invariant-loop : tie.invariant-loop-k
 invariant-loop source at eight₀ k₀ eight k =
     (k ≤ 8) × (length eight₀ ≡ 8) × (length eight ≡ 8)
     × (length (take 8 (drop at source)) ≡ 8) × (eight ≡ over (take k (take 8 (drop at source))) eight₀)
 
-abbrev decreases-loop : tie.decreases-loop
+abbrev decreases-loop : tie.decreases-loop-k
 decreases-loop source at eight₀ k₀ eight k = 8 - k
 
-loop-holds : tie.Need-loop-init invariant-loop decreases-loop
+loop-holds : tie.Need-loop-k-init invariant-loop decreases-loop
 loop-holds c =
     let a = c.args in
     let all = length-take-le 8 (drop a.at a.source.now) (omega (arith, length-drop a.at a.source.now)) in
     (omega arith, refl, refl, all, refl)
 
-loop-again : tie.Need-loop-preserved invariant-loop decreases-loop
+loop-again : tie.Need-loop-k-preserved invariant-loop decreases-loop
 loop-again c =
-    let l = c.before.before.loop in
-    let a = c.before.before.before.args in
+    let l = c.loop-k in
+    let a = c.args in
     let s = a.source.now in (
       omega arith,
       l.invariant.1,
@@ -40,11 +40,11 @@ loop-again c =
 
 returns : tie.Need-returns invariant-loop decreases-loop
 returns c =
-    let l = c.before.loop in
+    let l = c.loop-k in
     over_done _ _ l.eight l.k (omega arith) l.invariant.4 ∙ over-whole _ _ (omega arith)
 
-pub eight-at-spec : {M : Type 1} → statement M
-eight-at-spec =
+pub eight_at_spec : {M : Type 1} → statement M
+eight_at_spec =
     tie.close
     (tie.spec
     invariant-loop

@@ -5,8 +5,8 @@ use borrow.Author.Rules.{rules}
 use Rattle.unpack.proofs.is_long.Statement.{statement}
 use Rattle.unpack.proofs.is_long.Tie as tie
 
-pub is-long-spec : {M : Type 1} → statement M
-is-long-spec =
+pub is_long_spec : {M : Type 1} → statement M
+is_long_spec =
     tie.close
     (tie.spec
     (λ c. search rules)
@@ -14,7 +14,7 @@ is-long-spec =
     (λ c. search rules)
     (λ c. search rules)
     (λ c. search rules)
-    (λ c. sym (ap long c.before.r.given.1))
+    (λ c. sym (ap long c.in-Literal.is))
     (λ c. search rules)
     (λ c. search rules)
     (λ c. search rules)

@@ -5,23 +5,23 @@ use Rattle.unpack.proofs.Front.{front-run}
 use Rattle.unpack.proofs.put_blocks.Statement.{statement}
 use Rattle.unpack.proofs.put_blocks.Tie as tie
 
-returns : tie.Need-returns
+returns : tie.Need-returns-then-n-le16
 returns c =
-    let a = c.before.before.before.before.before.before.args in front-run a.byte a.out.now _ a.n 16
-    (omega arith) c.before.before.put-run.ensures
+    let a = c.args in front-run a.byte a.out.now _ a.n 16
+    (omega arith) c.put_run.ensures
 
-returns-2 : tie.Need-returns-2
+returns-2 : tie.Need-returns-then-n-le32
 returns-2 c =
-    let a = c.before.before.before.before.before.before.before.args in front-run a.byte a.out.now _
-    a.n 32 (omega arith) c.before.before.put-run2.ensures
+    let a = c.args in front-run a.byte a.out.now _
+    a.n 32 (omega arith) c.put_run-then-n-le32.ensures
 
-returns-3 : tie.Need-returns-3
+returns-3 : tie.Need-returns-else-n-le32
 returns-3 c =
-    let a = c.before.before.before.before.before.before.before.args in front-run a.byte a.out.now _
-    a.n 128 (omega arith) c.before.before.put-run3.ensures
+    let a = c.args in front-run a.byte a.out.now _
+    a.n 128 (omega arith) c.put_run-else-n-le32.ensures
 
-pub put-blocks-spec : {M : Type 1} → statement M
-put-blocks-spec =
+pub put_blocks_spec : {M : Type 1} → statement M
+put_blocks_spec =
     tie.close
     (tie.spec
     (λ c κs. search rules)

@@ -7,18 +7,18 @@ use Rattle.unpack.proofs.Records.{put_one}
 use Rattle.unpack.proofs.put_part.Statement.{statement}
 use Rattle.unpack.proofs.put_part.Tie as tie
 
-returns : tie.Need-returns
+returns : tie.Need-returns-then-n-eq1
 returns c =
-    let a = c.before.before.before.before.args in
+    let a = c.args in
     put_one a.source.now a.out.now a.from a.n (omega arith) (omega arith) (omega arith)
 
-returns-2 : tie.Need-returns-2
+returns-2 : tie.Need-returns
 returns-2 c =
-    let a = c.before.before.before.before.before.before.before.before.args in
-    copied-part a.source.now a.out.now _ a.from a.n _ refl c.before.before.copy.ensures.1
+    let a = c.args in
+    copied-part a.source.now a.out.now _ a.from a.n _ refl c.copy.ensures.1
 
-pub put-part-spec : {M : Type 1} → statement M
-put-part-spec =
+pub put_part_spec : {M : Type 1} → statement M
+put_part_spec =
     tie.close
     (tie.spec
     (λ c. search rules)

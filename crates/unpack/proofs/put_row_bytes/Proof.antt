@@ -7,31 +7,31 @@ use borrow.Author.Rules.{rules}
 use Rattle.unpack.proofs.put_row_bytes.Statement.{statement}
 use Rattle.unpack.proofs.put_row_bytes.Tie as tie
 
-returns : tie.Need-returns
+returns : tie.Need-returns-in-Literal
 returns c =
-    let a = c.before.before.before.before.before.before.before.before.before.args in
-    let r = c.before.before.before.before.before.r.given in
-    c.before.before.put-part.ensures ∙ put-literal a.file.now a.out.now a.at a.r r.0.0 r.1
+    let a = c.args in
+    
+    c.put_part.ensures ∙ put-literal a.file.now a.out.now a.at a.r c.in-Literal.n c.in-Literal.is
 
-returns-2 : tie.Need-returns-2
+returns-2 : tie.Need-returns-in-Repeat
 returns-2 c =
-    let a = c.before.before.before.before.before.before.before.before.before.before.args in
-    let r = c.before.before.before.before.before.before.r2.given in
-    c.before.before.put-repeat.ensures ∙ put-repeat a.file.now a.out.now a.at a.r r.0.0 r.1
+    let a = c.args in
+    
+    c.put_repeat.ensures ∙ put-repeat a.file.now a.out.now a.at a.r c.in-Repeat.n c.in-Repeat.is
 
-pub put-row-bytes-spec : {M : Type 1} → statement M
-put-row-bytes-spec =
+pub put_row_bytes_spec : {M : Type 1} → statement M
+put_row_bytes_spec =
     tie.close
     (tie.spec
     (λ c. search rules)
     (λ c. search rules)
     (λ c. search rules)
-    (λ c κs. let e = c.before.before.r.given.1 in omega (arith, ap packed_len e, ap row_len e))
+    (λ c κs. let e = c.in-Literal.is in omega (arith, ap packed_len e, ap row_len e))
     (λ c. search rules)
     (λ c. search rules)
-    (λ c. let e = c.before.before.r2.given.1 in omega (arith, ap packed_len e))
+    (λ c. let e = c.in-Repeat.is in omega (arith, ap packed_len e))
     (λ c. search rules)
-    (λ c κs. let e = c.before.before.before.r2.given.1 in omega (arith, ap row_len e))
+    (λ c κs. let e = c.in-Repeat.is in omega (arith, ap row_len e))
     (λ c. search rules)
     (λ c. search rules)
     (λ c. search rules)

@@ -7,22 +7,22 @@ use borrow.Author.Rules.{rules}
 use Rattle.unpack.proofs.put_short.Statement.{statement}
 use Rattle.unpack.proofs.put_short.Tie as tie
 
-returns : tie.Need-returns
+returns : tie.Need-returns-in-Literal
 returns c =
-    let a = c.before.before.before.before.before.before.before.before.args in
-    let r = c.before.before.before.before.enum_told.given in
-    front-literal a.file.now a.out.now _ a.at a.r r.0.0 r.1
-    c.before.before.before.before.before.before.before.before.requires.0.0 (omega arith)
-    c.before.before.copy-eight.ensures
+    let a = c.args in
+    
+    front-literal a.file.now a.out.now _ a.at a.r c.in-Literal.field-0 c.in-Literal.is
+    c.requires.0.0 (omega arith)
+    c.copy_eight.ensures
 
-returns-2 : tie.Need-returns-2
+returns-2 : tie.Need-returns-in-Repeat
 returns-2 c =
-    let a = c.before.before.before.before.before.before.before.before.before.before.args in
-    let r = c.before.before.before.before.before.before.r.given in
-    front-repeat a.file.now a.out.now _ a.at a.r r.0.0 r.1 c.before.before.put-blocks.ensures
+    let a = c.args in
+    
+    front-repeat a.file.now a.out.now _ a.at a.r c.in-Repeat.n c.in-Repeat.is c.put_blocks.ensures
 
-pub put-short-spec : {M : Type 1} → statement M
-put-short-spec =
+pub put_short_spec : {M : Type 1} → statement M
+put_short_spec =
     tie.close
     (tie.spec
     (λ c. search rules)
@@ -32,7 +32,7 @@ put-short-spec =
     (λ c. search rules)
     (λ c. search rules)
     (λ c. search rules)
-    (λ c κs. let e = c.before.before.before.r.given.1 in omega (arith, ap row_len e))
+    (λ c κs. let e = c.in-Repeat.is in omega (arith, ap row_len e))
     (λ c. search rules)
     (λ c. search rules)
     (λ c. search rules)

@@ -11,15 +11,15 @@ use Rattle.unpack.proofs.put_twice.Tie as tie
 
 returns : tie.Need-returns
 returns c =
-    let a = c.before.before.before.before.before.before.before.before.before.args in
+    let a = c.args in
     let all : a.n - a.k + a.k ≡ a.n = omega arith in
-    let first = c.before.before.before.before.before.before.put-run.ensures in
+    let first = c.put_run.ensures in
     put_both a.byte (a.n - a.k) a.k a.out.now (omega arith) _ _ (omega arith) first
-    c.before.before.put-run2.ensures
+    c.put_run-2.ensures
     ∙ ap (λ (n : ℕ). over (replicate n a.byte) a.out.now) all
 
-pub put-twice-spec : {M : Type 1} → statement M
-put-twice-spec =
+pub put_twice_spec : {M : Type 1} → statement M
+put_twice_spec =
     tie.close
     (tie.spec
     (λ c κs. search rules)

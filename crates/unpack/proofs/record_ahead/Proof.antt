@@ -9,12 +9,12 @@ use Rattle.unpack.proofs.record_ahead.Tie as tie
 
 returns : tie.Need-returns
 returns c =
-    let a = c.before.before.before.args in
-    c.record-at.ensures ∙ record-front a.file.now a.at a.room (a.at + 129 - a.at)
-    c.before.before.before.requires (omega arith)
+    let a = c.args in
+    c.record_at.ensures ∙ record-front a.file.now a.at a.room (a.at + 129 - a.at)
+    c.requires (omega arith)
 
-pub record-ahead-spec : {M : Type 1} → statement M
-record-ahead-spec =
+pub record_ahead_spec : {M : Type 1} → statement M
+record_ahead_spec =
     tie.close
     (tie.spec
     (λ c. search rules)

@@ -3,8 +3,8 @@ use borrow.Author.Rules.{rules}
 use Rattle.unpack.proofs.rows_refused.Statement.{statement}
 use Rattle.unpack.proofs.rows_refused.Tie as tie
 
-pub rows-refused-spec : {M : Type 1} → statement M
-rows-refused-spec =
+pub rows_refused_spec : {M : Type 1} → statement M
+rows_refused_spec =
     tie.close
     (tie.spec
     (λ c. search rules)
@@ -12,4 +12,4 @@ rows-refused-spec =
     (λ c. search rules)
     (λ c κs. search rules)
     (λ c κs. search rules)
-    (λ c. rw (c.row-refused.ensures, c.before.refuse-in-row.ensures)))
+    (λ c. rw (c.row_refused.ensures, c.refuse_in_row.ensures)))

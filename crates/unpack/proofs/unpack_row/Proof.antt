@@ -15,8 +15,8 @@ use Rattle.unpack.proofs.unpack_row.Statement.{statement}
 use Rattle.unpack.proofs.unpack_row.Tie as tie
 
 -- past the first test the width is in range
-range-here : (e : tie.Else1) → width_out_of_range e.before.before.before.before.args.width ≡ false
-range-here e = sym e.before.width-out-of-range.ensures ∙ e.if1.false
+range-here : (e : tie.Else-width_out_of_range) → width_out_of_range e.args.width ≡ false
+range-here e = sym e.width_out_of_range.ensures ∙ e.if-width_out_of_range.false
 
 -- the part of the buffer that is lent
 abbrev lent : ℕ → List ℕ
@@ -29,38 +29,38 @@ module _ (width : ℕ) (w : width_out_of_range width ≡ false) where
   lent_fits : (out : List ℕ) → width ≤ length out → length (lent width) ≤ length out
   lent_fits out h = omega (arith, lent-long)
 
-returns : tie.Need-returns
+returns : tie.Need-returns-then-width_out_of_range
 returns c =
-    let a = c.before.before.before.before.before.before.args in
-    let w = sym c.before.before.before.width-out-of-range.ensures ∙ c.before.before.if1.true in
-    rw (row_out a.packed.now a.width (length a.out.now) w, ← c.before.refuse.ensures)
-    (c.row-refused.ensures, refl)
+    let a = c.args in
+    let w = sym c.width_out_of_range.ensures ∙ c.if-width_out_of_range.true in
+    rw (row_out a.packed.now a.width (length a.out.now) w, ← c.refuse.ensures)
+    (c.row_refused.ensures, refl)
 
-returns-2 : tie.Need-returns-2
+returns-2 : tie.Need-returns-then-out-width
 returns-2 c =
-    let a = c.before.before.before.before.before.before.before.args in
+    let a = c.args in
     let w = range-here c.before.before.before in
-    let short = row-short a.packed.now a.width (length a.out.now) w c.before.before.if2.true in
-    rw (short, ← c.before.refuse2.ensures) (c.row-refused2.ensures, refl)
+    let short = row-short a.packed.now a.width (length a.out.now) w c.if-out-width.true in
+    rw (short, ← c.refuse-then-out-width.ensures) (c.row_refused-then-out-width.ensures, refl)
 
-unpack-through-requires : tie.Need-unpack-through-requires
+unpack-through-requires : tie.Need-unpack_through-requires
 unpack-through-requires c κs =
     let e = c.before.before in
-    lent_fits _ (range-here e.before) e.before.before.before.before.before.args.out.now e.if2.false
+    lent_fits _ (range-here e.before) e.args.out.now e.if-out-width.false
 
-returns-3 : tie.Need-returns-3
+returns-3 : tie.Need-returns
 returns-3 c =
-    let t = c.before.before.before.unpack-through in
+    let t = c.unpack_through in
     let e = c.before.before.before.before.before.before.before in
-    let a = c.before.before.before.before.before.before.before.before.before.before.before.args in
+    let a = c.args in
     let long = lent-long a.width (range-here e) in
     rw (row_room a.packed.now a.width (length a.out.now) (range-here e) (omega arith)) (
       t.ensures.0 ∙ ap (λ (k : ℕ). row_answer (unpack a.packed.now k)) long,
       t.ensures.1 ∙ ap (λ (k : ℕ). row_output (unpack a.packed.now k) a.out.now) long,
     )
 
-pub unpack-row-spec : {M : Type 1} → statement M
-unpack-row-spec =
+pub unpack_row_spec : {M : Type 1} → statement M
+unpack_row_spec =
     tie.close
     (tie.spec
     (λ c κs. search rules)

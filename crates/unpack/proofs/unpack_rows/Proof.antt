@@ -12,39 +12,39 @@ use Rattle.unpack.proofs.unpack_rows.Statement.{statement}
 use Rattle.unpack.proofs.unpack_rows.Tie as tie
 
 -- past the first test the width is in range
-range-here : (e : tie.Else1) → width_out_of_range e.before.before.before.before.args.width ≡ false
-range-here e = sym e.before.width-out-of-range.ensures ∙ e.if1.false
+range-here : (e : tie.Else-width_out_of_range) → width_out_of_range e.args.width ≡ false
+range-here e = sym e.width_out_of_range.ensures ∙ e.if-width_out_of_range.false
 
 -- past the second the rows fit
-fit-here : (e : tie.Else2) → let a = e.before.before.before.before.before.args in RowsFit a.rows a.width
+fit-here : (e : tie.Else-out-width) → let a = e.args in RowsFit a.rows a.width
     (length a.out.now)
-fit-here e = rows_fit (range-here e.before) e.if2.false
+fit-here e = rows_fit (range-here e.before) e.if-out-width.false
 
-returns : tie.Need-returns
+returns : tie.Need-returns-then-width_out_of_range
 returns c =
-    let a = c.before.before.before.before.before.before.args in
-    let w = sym c.before.before.before.width-out-of-range.ensures ∙ c.before.before.if1.true in
-    rw (judge-out a.rows a.width (length a.out.now) _ w, ← c.before.refuse.ensures)
-    (c.row-refused.ensures, λ f. absurd (fit-range f w))
+    let a = c.args in
+    let w = sym c.width_out_of_range.ensures ∙ c.if-width_out_of_range.true in
+    rw (judge-out a.rows a.width (length a.out.now) _ w, ← c.refuse.ensures)
+    (c.row_refused.ensures, λ f. absurd (fit-range f w))
 
-returns-2 : tie.Need-returns-2
+returns-2 : tie.Need-returns-then-out-width
 returns-2 c =
-    let a = c.before.before.before.before.before.before.before.args in
+    let a = c.args in
     let short = judge-short a.rows a.width (length a.out.now)
     (unpack_rows_at a.file.now a.at a.width a.rows) (range-here c.before.before.before)
-    c.before.before.if2.true in
-    rw (short, ← c.before.refuse2.ensures)
-    (c.row-refused2.ensures, λ f. absurd (fit-room f c.before.before.if2.true))
+    c.if-out-width.true in
+    rw (short, ← c.refuse-then-out-width.ensures)
+    (c.row_refused-then-out-width.ensures, λ f. absurd (fit-room f c.if-out-width.true))
 
-returns-3 : tie.Need-returns-3
+returns-3 : tie.Need-returns
 returns-3 c =
-    let a = c.before.before.before.before.before.before.before.before.before.args in
-    let e = c.before.before.fill-rows.ensures in
+    let a = c.args in
+    let e = c.fill_rows.ensures in
     rw (judge-fit a.rows a.width (length a.out.now) _ (fit-here c.before.before.before.before))
     (e.0, λ f. e.1)
 
-pub unpack-rows-spec : {M : Type 1} → statement M
-unpack-rows-spec =
+pub unpack_rows_spec : {M : Type 1} → statement M
+unpack_rows_spec =
     tie.close
     (tie.spec
     (λ c κs. search rules)

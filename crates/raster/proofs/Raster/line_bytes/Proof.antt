@@ -10,18 +10,23 @@ use Rattle.raster.proofs.Raster.line_bytes.Tie as tie
 use Rattle.raster.proofs.Raster.line_bytes.Reads as reads
 use Rattle.raster.proofs.Raster.line_bytes.Lts as lts
 
-size : (c : lts.After-struct-known2 reads.Pre reads.Post) → line_bytes c.before.before.args.self ≤ 130050
+size : (c : lts.After-struct_known-2-1 reads.Pre reads.Post) → line_bytes c.args.self ≤ 130050
 size c =
-    let a = c.before.before.args.self in
+    let a = c.args.self in
     let l : a.groups ≤ 255 = omega arith in
     let p : a.planes * 2 ≤ 510 = omega arith in
     omega (arith, mul-le-mul l p)
 
-mul-result-2 : tie.Need-overflow-mul-result-2
+mul-result-2 : tie.Need-overflow_mul-result-2
 mul-result-2 c = omega (arith, size c)
 
 returns : tie.Need-returns
 returns c = (refl, size c)
 
-pub line-bytes-spec : {M : Type 1} → statement M
-line-bytes-spec = tie.close (tie.spec (λ c. search rules) (λ c. search rules) (λ c. search rules) mul-result-2 returns)
+pub line_bytes_spec : {M : Type 1} → statement M
+line_bytes_spec = tie.close (tie.spec
+    (λ c. search rules)
+    (λ c. search rules)
+    (λ c. search rules)
+    mul-result-2
+    returns)
