@@ -8,23 +8,29 @@ use Rattle.resolution.specs.Shapes.{screen_bytes}
 use Rattle.resolution.proofs.judge_screen.Statement.{statement}
 use Rattle.resolution.proofs.judge_screen.Tie as tie
 
-returns : tie.Need-returns
+returns : tie.Need-returns-then-screen_len-lt-SCREEN_BYTES
 returns c =
-    let h : c.before.args.«screen-len» < screen_bytes = omega arith in
+    let h : c.args.screen_len < screen_bytes = omega arith in
     rw (lt-ltb _ _ h)
 
-returns-2 : tie.Need-returns-2
+returns-2 : tie.Need-returns-in-Known
 returns-2 c =
-    let f = c.before.before.before in
-    let h : screen_bytes ≤ f.before.before.args.«screen-len» = omega arith in
-    rw (le-ltb _ _ h, sym f.from-number.ensures ∙ c.before.r.given.1)
+    let f = c.before in
+    let h : screen_bytes ≤ f.args.screen_len = omega arith in
+    rw (le-ltb _ _ h, sym f.from_number.ensures ∙ c.in-Known.is)
 
-returns-3 : tie.Need-returns-3
+returns-3 : tie.Need-returns-in-Unknown
 returns-3 c =
-    let f = c.before.before in
-    let h : screen_bytes ≤ f.before.before.args.«screen-len» = omega arith in
-    rw (le-ltb _ _ h, sym f.from-number.ensures ∙ c.enum_told.given.1)
+    let f = c.before in
+    let h : screen_bytes ≤ f.args.screen_len = omega arith in
+    rw (le-ltb _ _ h, sym f.from_number.ensures ∙ c.in-Unknown.is)
 
-pub judge-screen-spec : {M : Type 1} → statement M
-judge-screen-spec =
-    tie.close (tie.spec returns (λ c κs. search rules) (λ c. search rules) (λ c. search rules) returns-2 returns-3)
+pub judge_screen_spec : {M : Type 1} → statement M
+judge_screen_spec =
+    tie.close (tie.spec
+    returns
+    (λ c κs. search rules)
+    (λ c. search rules)
+    (λ c. search rules)
+    returns-2
+    returns-3)

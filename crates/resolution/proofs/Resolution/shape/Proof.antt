@@ -5,15 +5,21 @@ use borrow.Author.Rules.{rules}
 use Rattle.resolution.proofs.Resolution.shape.Statement.{statement}
 use Rattle.resolution.proofs.Resolution.shape.Tie as tie
 
-returns : tie.Need-returns
-returns c = sym (ap shape_of c.enum_told.given.1)
+returns : tie.Need-returns-in-Low
+returns c = sym (ap shape_of c.in-Low.is)
 
-returns-2 : tie.Need-returns-2
-returns-2 c = sym (ap shape_of c.enum-told2.given.1)
+returns-2 : tie.Need-returns-in-Medium
+returns-2 c = sym (ap shape_of c.in-Medium.is)
 
-returns-3 : tie.Need-returns-3
-returns-3 c = sym (ap shape_of c.enum-told3.given.1)
+returns-3 : tie.Need-returns-in-High
+returns-3 c = sym (ap shape_of c.in-High.is)
 
-pub shape-spec : {M : Type 1} → statement M
-shape-spec =
-    tie.close (tie.spec (λ c. search rules) (λ c. search rules) (λ c. search rules) returns returns-2 returns-3)
+pub shape_spec : {M : Type 1} → statement M
+shape_spec =
+    tie.close (tie.spec
+    (λ c. search rules)
+    (λ c. search rules)
+    (λ c. search rules)
+    returns
+    returns-2
+    returns-3)
