@@ -28,14 +28,14 @@ use Rattle.pack.proofs.Words.{trailing-past}
 
 -- ---- the digits of bytes
 
-same_first : (x : ℕ) (s : List ℕ) → same_first x s ≤ 1
-same_first x [] = omega arith
-same_first x (y ∷ s) = cond-eqb (λ (n : ℕ). n ≤ 1) x y (λ e. omega arith) (λ e. omega arith)
+same_first_lem : (x : ℕ) (s : List ℕ) → same_first x s ≤ 1
+same_first_lem x [] = omega arith
+same_first_lem x (y ∷ s) = cond-eqb (λ (n : ℕ). n ≤ 1) x y (λ e. omega arith) (λ e. omega arith)
 
 equal-lt : (s : List ℕ) → equal_next s < 2 ^ length s
 unfolding equal_next
 equal-lt [] = omega arith
-equal-lt (x ∷ s) = omega (arith, equal-lt s, same_first x s, pow-suc 2 (length s))
+equal-lt (x ∷ s) = omega (arith, equal-lt s, same_first_lem x s, pow-suc 2 (length s))
 
 equal-drop : (n : ℕ) (s : List ℕ) → equal_next s / 2 ^ n ≡ equal_next (drop n s)
 unfolding equal_next
@@ -43,7 +43,7 @@ equal-drop zero s = div-one (equal_next s)
 equal-drop (suc n) [] = zero-div (2 ^ suc n)
 equal-drop (suc n) (x ∷ s) =
     let k : suc n ≡ 1 + n = omega arith in
-    let f = same_first x s in
+    let f = same_first_lem x s in
     ap (λ (j : ℕ). (equal_next s * 2 + same_first x s) / 2 ^ j) k
     ∙ sym (shr-shr (equal_next s * 2 + same_first x s) 1 n)
     ∙ ap (λ (m : ℕ). m / 2 ^ n) (digits_div (equal_next s) {m = 2} {r = same_first x s} (omega arith))

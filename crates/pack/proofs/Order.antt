@@ -55,14 +55,31 @@ preferred-longer x (inl h) = inl (omega arith)
 preferred-longer x (inr p) = inr (ap suc p.0, dictionary-longer x p.1)
 
 -- there is only one least string
-dictionary-antisym : {a b : List ℕ} → length a ≡ length b → Dictionary a b → Dictionary b a → a ≡ b
-dictionary-antisym e end end = refl
-dictionary-antisym e (less h) (less k) = absurd (omega arith)
-dictionary-antisym e (less h) (same q) = absurd (omega arith)
-dictionary-antisym e (same p) (less k) = absurd (omega arith)
-dictionary-antisym e (same {x} p) (same q) = ap (λ (l : List ℕ). x ∷ l) (dictionary-antisym (omega arith) p q)
+dictionary-antisym : {a b c d : List ℕ} → a ≡ d → b ≡ c → length a ≡ length b → Dictionary a b → Dictionary c d
+    → a ≡ b
+dictionary-antisym f g e end end = cc
+dictionary-antisym f g e end (less k) = cc
+dictionary-antisym f g e end (same q) = cc
+dictionary-antisym f g e (less h) end = cc
+dictionary-antisym f g e (less {x} {y} h) (less {x = u} {y = v} k) =
+    let l : x ≡ v = cc in
+    let r : y ≡ u = cc in
+    absurd (omega arith)
+dictionary-antisym f g e (less {x} {y} h) (same {x = u} q) =
+    let l : x ≡ u = cc in
+    let r : y ≡ u = cc in
+    absurd (omega arith)
+dictionary-antisym f g e (same p) end = cc
+dictionary-antisym f g e (same {x} p) (less {x = u} {y = v} k) =
+    let l : x ≡ v = cc in
+    let r : x ≡ u = cc in
+    absurd (omega arith)
+dictionary-antisym f g e (same {x} {a} {b} p) (same {a = c} {b = d} q) =
+    let l : a ≡ d = cc in
+    let r : b ≡ c = cc in
+    ap (λ (l : List ℕ). x ∷ l) (dictionary-antisym l r (omega arith) p q)
 
 pub preferred-antisym : {a b : List ℕ} → Preferred a b → Preferred b a → a ≡ b
 preferred-antisym (inl h) q = absurd (omega (arith, preferred-length q))
 preferred-antisym (inr p) (inl k) = absurd (omega arith)
-preferred-antisym (inr p) (inr q) = dictionary-antisym p.0 p.1 q.1
+preferred-antisym (inr p) (inr q) = dictionary-antisym refl refl p.0 p.1 q.1

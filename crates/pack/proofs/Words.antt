@@ -81,8 +81,8 @@ told x (a ∷ s) h b =
     rw (differing-cons x a s h (b 0))
     (cond-eqb (Told (suc (length s)) (differing x s * 2 ^ 8 + bit_xor a x)) x a
     (λ e.
-    let t = rw e at (told x s h (λ i. b (suc i))) in
-    rw (e, xor_self a) (told_same (length s) (differing a s) (leading a s) t))
+    let z : bit_xor a x ≡ 0 = ap (λ (n : ℕ). bit_xor a n) e ∙ xor_self a in
+    rw z (told_same (length s) (differing x s) (leading x s) (told x s h (λ i. b (suc i)))))
     (λ n. told-other (length s) (differing x s) (bit_xor a x) (xor_lt 8 a x (b 0) h) (xor-other a x n)))
 
 pub first-other : (x : ℕ) (s : List ℕ) → x < 256 → Bytes s → FirstOther x s (differing x s)

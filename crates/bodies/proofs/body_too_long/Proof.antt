@@ -16,86 +16,86 @@ use Rattle.bodies.proofs.PlaneRow.{plane-rows}
 use Rattle.bodies.proofs.body_too_long.Statement.{statement}
 use Rattle.bodies.proofs.body_too_long.Tie as tie
 
-abbrev invariant-loop : tie.invariant-loop
+abbrev invariant-loop : tie.invariant-loop-n
 invariant-loop area r limit row₀ count longest most₀ n₀ row most n =
     (count ≡ rows r) × (n ≤ count) × RowRoom r area row × Most (plane_rows area r) (row_bytes r) n most
 
-abbrev decreases-loop : tie.decreases-loop
+abbrev decreases-loop : tie.decreases-loop-n
 decreases-loop area r limit row₀ count longest most₀ n₀ row most n = count - n
 
 -- row n is to come
-more-here : (c : tie.In-loop invariant-loop decreases-loop)
-    → let a = c.before.before.before.before.before.before.args in
-    c.before.loop.n < rows a.r
-more-here c = rw c.before.loop.invariant.0 at c.loop-test.true
+more-here : (c : tie.In-loop-n invariant-loop decreases-loop)
+    → let a = c.args in
+    c.loop-n.n < rows a.r
+more-here c = rw c.loop-n.invariant.0 at c.loop-n-test.true
 
 -- its length, at most one byte more than the row
-longest-here : (c : tie.After-least-row-len invariant-loop decreases-loop)
-    → c.least-row-len.result ≤ c.before.before.before.before.row-bytes.result + 1
+longest-here : (c : tie.After-least_row_len invariant-loop decreases-loop)
+    → c.least_row_len.result ≤ c.row_bytes-longest.result + 1
 longest-here c =
-    let a = c.before.before.before.before.before.before.before.before.args in
-    rw (c.least-row-len.ensures, c.before.before.before.before.row-bytes.ensures.0)
+    let a = c.args in
+    rw (c.least_row_len.ensures, c.row_bytes-longest.ensures.0)
     (row-longest (plane-rows a.area.now a.r) (more-here c.before.before))
 
 -- it is measured
-measured-here : (c : tie.After-least-row-len invariant-loop decreases-loop)
-    → let a = c.before.before.before.before.before.before.before.before.args in
-    let l = c.before.before.before.loop in
-    let longest = c.before.before.before.before.row-bytes.result + 1 in
-    let saved = longest - c.least-row-len.result in
+measured-here : (c : tie.After-least_row_len invariant-loop decreases-loop)
+    → let a = c.args in
+    let l = c.loop-n in
+    let longest = c.row_bytes-longest.result + 1 in
+    let saved = longest - c.least_row_len.result in
     Most (plane_rows a.area.now a.r) (row_bytes a.r) (l.n + 1) (l.most - saved)
 measured-here c =
     let i = c.before.before in
-    let a = i.before.before.before.before.before.before.args in
-    rw (c.before.before.before.before.row-bytes.ensures.0, c.least-row-len.ensures)
-    (most-turn (plane-rows a.area.now a.r) i.before.loop.invariant.3 (more-here i))
+    let a = i.args in
+    rw (c.row_bytes-longest.ensures.0, c.least_row_len.ensures)
+    (most-turn (plane-rows a.area.now a.r) i.loop-n.invariant.3 (more-here i))
 
-mul_most : tie.Need-overflow-mul-most invariant-loop decreases-loop
+mul_most : tie.Need-overflow_mul-most invariant-loop decreases-loop
 mul_most c =
-    let w : c.row-bytes.result + 1 ≤ 511 = omega (arith, c.row-bytes.ensures.1) in
-    omega (arith, mul-le-mul c.before.rows.ensures.1 w)
+    let w : c.row_bytes-longest.result + 1 ≤ 511 = omega (arith, c.row_bytes-longest.ensures.1) in
+    omega (arith, mul-le-mul c.rows-rows.ensures.1 w)
 
-loop-holds : tie.Need-loop-init invariant-loop decreases-loop
+loop-holds : tie.Need-loop-n-init invariant-loop decreases-loop
 loop-holds c =
-    let s = c.before.before.before.before in
+    let s = c in
     let start = most-start (plane-rows s.args.area.now s.args.r) in
-    (c.before.rows.ensures.0, omega arith, s.requires, rw (c.before.rows.ensures.0, c.row-bytes.ensures.0) start)
+    (c.rows-rows.ensures.0, omega arith, s.requires, rw (c.rows-rows.ensures.0, c.row_bytes-longest.ensures.0) start)
 
-sub-most-2 : tie.Need-overflow-sub-most-2 invariant-loop decreases-loop
+sub-most-2 : tie.Need-overflow_sub-most-in-loop-n invariant-loop decreases-loop
 sub-most-2 c =
     let i = c.before.before.before.before in
-    let l = i.before.loop in
-    let width = i.before.before.row-bytes in
-    let a = i.before.before.before.before.before.before.args in
+    let l = i.loop-n in
+    let width = i.row_bytes-longest in
+    let a = i.args in
     let counted : width.result + 1 ≤ l.most =
     rw width.ensures.0 (most-row (plane-rows a.area.now a.r) l.invariant.3 (more-here i)) in
     omega (arith, counted)
 
-returns : tie.Need-returns invariant-loop decreases-loop
+returns : tie.Need-returns-then-most-limit invariant-loop decreases-loop
 returns c =
-    let a = c.before.before.before.before.before.before.before.before.before.before.before.args in
+    let a = c.args in
     let bound = most-bound (plane-rows a.area.now a.r) (measured-here c.before.before.before) in
-    sym (lt-leb a.limit (length (least_body a.r a.area.now)) (omega (arith, bound, c.if1.true)))
+    sym (lt-leb a.limit (length (least_body a.r a.area.now)) (omega (arith, bound, c.if-most-limit.true)))
 
-loop-again : tie.Need-loop-preserved invariant-loop decreases-loop
+loop-again : tie.Need-loop-n-preserved invariant-loop decreases-loop
 loop-again c =
-    let l = c.before.before.before.before.before.before.loop in
+    let l = c.loop-n in
     let room = l.invariant.2 in (
       l.invariant.0,
-      omega (arith, c.before.before.before.before.before.loop-test.true),
+      omega (arith, c.loop-n-test.true),
       record { range = room.range; full = room.full; width = search rules },
       measured-here c.before.before.before,
     )
 
-returns-2 : tie.Need-returns-2 invariant-loop decreases-loop
+returns-2 : tie.Need-returns invariant-loop decreases-loop
 returns-2 c =
-    let a = c.before.before.before.before.before.before.args in
-    let l = c.before.loop in
-    let all = rw l.invariant.0 at c.loop-test.false in
+    let a = c.args in
+    let l = c.loop-n in
+    let all = rw l.invariant.0 at c.loop-n-test.false in
     ap (leb a.limit) (most-end (plane-rows a.area.now a.r) l.invariant.3 all)
 
-pub body-too-long-spec : {M : Type 1} → statement M
-body-too-long-spec =
+pub body_too_long_spec : {M : Type 1} → statement M
+body_too_long_spec =
     tie.close
     (tie.spec
     invariant-loop

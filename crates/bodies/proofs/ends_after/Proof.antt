@@ -7,13 +7,15 @@ use Rattle.bodies.proofs.Differences.{eqb-difference}
 use Rattle.bodies.proofs.ends_after.Statement.{statement}
 use Rattle.bodies.proofs.ends_after.Tie as tie
 
-returns : tie.Need-returns
+returns : tie.Need-returns-then-len-end
 returns c =
-    let a = c.before.args in
-    sym (ne_eqb a.len (a.end + a.after) (λ e. omega (arith, c.if1.true)))
+    let a = c.args in
+    sym (ne_eqb a.len (a.end + a.after) (λ e. omega (arith, c.if-len-end.true)))
 
-returns-2 : tie.Need-returns-2
-returns-2 c = eqb-difference _ _ _ c.if1.false
+returns-2 : tie.Need-returns
+returns-2 c = eqb-difference _ _ _ c.if-len-end.false
 
-pub ends-after-spec : {M : Type 1} → statement M
-ends-after-spec = tie.close (tie.spec returns returns-2)
+pub ends_after_spec : {M : Type 1} → statement M
+ends_after_spec = tie.close (tie.spec
+    returns
+    returns-2)

@@ -6,9 +6,13 @@ use Rattle.bodies.proofs.least_row_len.Tie as tie
 
 returns : tie.Need-returns
 returns c =
-    let s = c.before.before.before.before.before.before.before.before in
-    let taken = c.before.before.before.before.take_row.ensures in
-    rw (taken, taken-least_len s.requires.0 s.args.n s.requires.1) at c.least-len.ensures
+    let s = c in
+    let taken = c.take_row.ensures in
+    rw (taken, taken-least_len s.requires.0 s.args.n s.requires.1) at c.least_len.ensures
 
-pub least-row-len-spec : {M : Type 1} → statement M
-least-row-len-spec = tie.close (tie.spec (λ c κs. search rules) (λ c κs. search rules) (λ c. search rules) returns)
+pub least_row_len_spec : {M : Type 1} → statement M
+least_row_len_spec = tie.close (tie.spec
+    (λ c κs. search rules)
+    (λ c κs. search rules)
+    (λ c. search rules)
+    returns)

@@ -8,13 +8,16 @@ use borrow.Author.Rules.{rules}
 use Rattle.bodies.proofs.out_too_short.Statement.{statement}
 use Rattle.bodies.proofs.out_too_short.Tie as tie
 
-returns : tie.Need-returns
+returns : tie.Need-returns-then-room-at
 returns c =
-    let a = c.before.args in
-    sym (lt-ltb a.room (a.at + (a.limit - 1)) (omega (arith, c.if1.true)))
+    let a = c.args in
+    sym (lt-ltb a.room (a.at + (a.limit - 1)) (omega (arith, c.if-room-at.true)))
 
-returns-2 : tie.Need-returns-2
-returns-2 c = rw c.longest-below.ensures (ltb-difference _ _ _ c.before.if1.false)
+returns-2 : tie.Need-returns
+returns-2 c = rw c.longest_below.ensures (ltb-difference _ _ _ c.if-room-at.false)
 
-pub out-too-short-spec : {M : Type 1} → statement M
-out-too-short-spec = tie.close (tie.spec returns (λ c κs. search rules) returns-2)
+pub out_too_short_spec : {M : Type 1} → statement M
+out_too_short_spec = tie.close (tie.spec
+    returns
+    (λ c κs. search rules)
+    returns-2)

@@ -9,35 +9,35 @@ use Rattle.bodies.proofs.raster_refusal.Statement.{statement}
 use Rattle.bodies.proofs.raster_refusal.Tie as tie
 
 -- past the first test a row's width is in range
-width-here : (e : tie.Else1) → width_out_of_range (row_bytes e.before.before.before.args.r) ≡ false
+width-here : (e : tie.Else-width_out_of_range) → width_out_of_range (row_bytes e.args.r) ≡ false
 width-here e =
-    rw e.before.before.row-bytes.ensures.0 at (sym e.before.width-out-of-range.ensures ∙ e.if1.false)
+    rw e.row_bytes.ensures.0 at (sym e.width_out_of_range.ensures ∙ e.if-width_out_of_range.false)
 
-returns : tie.Need-returns
+returns : tie.Need-returns-then-width_out_of_range
 returns c =
-    let t = c.before in
-    let a = t.before.before.before.args in
-    let out = sym t.before.width-out-of-range.ensures ∙ t.if1.true in
-    c.refuse.ensures ∙ sym (refusal-out a.r a.room (rw t.before.before.row-bytes.ensures.0 at out))
+    let t = c in
+    let a = t.args in
+    let out = sym t.width_out_of_range.ensures ∙ t.if-width_out_of_range.true in
+    c.refuse.ensures ∙ sym (refusal-out a.r a.room (rw t.row_bytes.ensures.0 at out))
 
-returns-2 : tie.Need-returns-2
+returns-2 : tie.Need-returns-then-room-bytes
 returns-2 c =
-    let t = c.before in
-    let e = t.before.before in
-    let a = e.before.before.before.args in
-    let short = rw t.before.bytes.ensures.0 at t.if2.true in
-    c.refuse2.ensures ∙ sym (refusal-short a.r a.room (width-here e) short)
+    let t = c in
+    let e = t.before.before.before in
+    let a = e.args in
+    let short = rw t.bytes.ensures.0 at t.if-room-bytes.true in
+    c.refuse-then-room-bytes.ensures ∙ sym (refusal-short a.r a.room (width-here e) short)
 
-returns-3 : tie.Need-returns-3
+returns-3 : tie.Need-returns
 returns-3 c =
-    let t = c.before in
-    let e = t.before.before in
-    let a = e.before.before.before.args in
-    let room = rw t.before.bytes.ensures.0 at t.if2.false in
+    let t = c in
+    let e = t.before.before.before in
+    let a = e.args in
+    let room = rw t.bytes.ensures.0 at t.if-room-bytes.false in
     c.none.ensures ∙ sym (refusal-none a.r a.room (width-here e) room)
 
-pub raster-refusal-spec : {M : Type 1} → statement M
-raster-refusal-spec =
+pub raster_refusal_spec : {M : Type 1} → statement M
+raster_refusal_spec =
     tie.close
     (tie.spec
     (λ c κs. search rules)

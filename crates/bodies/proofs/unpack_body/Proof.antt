@@ -7,19 +7,19 @@ use Rattle.bodies.proofs.unpack_body.Tie as tie
 
 returns : tie.Need-returns
 returns c =
-    let s = c.before.before.before.before.before.before.before.before.before in
+    let s = c in
     let a = s.args in
     let e = rw (
-      c.before.before.before.before.before.before.rows.ensures.0,
-      c.before.before.before.before.before.row-bytes.ensures.0,
-    ) at c.before.before.before.unpack-rows.ensures in (
+      c.rows.ensures.0,
+      c.row_bytes.ensures.0,
+    ) at c.unpack_rows-unpacked.ensures in (
       body-answer a.file.now a.at a.r (length a.buffer.now) s.requires
-          c.before.before.before.unpack-rows.result e.0,
+          c.unpack_rows-unpacked.result e.0,
       body-image a.file.now a.at a.r _ (e.1 s.requires),
     )
 
-pub unpack-body-spec : {M : Type 1} → statement M
-unpack-body-spec =
+pub unpack_body_spec : {M : Type 1} → statement M
+unpack_body_spec =
     tie.close
     (tie.spec
     (λ c κs. search rules)

@@ -8,29 +8,29 @@ use borrow.Author.Rules.{rules}
 use Rattle.degas.proofs.read.Statement.{statement}
 use Rattle.degas.proofs.read.Tie as tie
 
-returns : tie.Need-returns
+returns : tie.Need-returns-then-area-lt-SCREEN_BYTES
 returns c =
-    let a = c.before.before.before.before.before.args in
-    rw (read_short a.file.now (length a.area.now) c.before.before.if1.true)
-    (rw (c.read-refused.ensures, c.before.refuse.ensures), refl)
+    let a = c.args in
+    rw (read_short a.file.now (length a.area.now) c.if-area-lt-SCREEN_BYTES.true)
+    (rw (c.read_refused.ensures, c.refuse.ensures), refl)
 
-returns-2 : tie.Need-returns-2
+returns-2 : tie.Need-returns-in-File
 returns-2 c =
-    let m = c.before.before.before.before.before in
-    let a = m.before.before.before.before.before.before.args in
-    let is = sym m.h.given.1 ∙ m.before.before.open-file.ensures in
+    let m = c in
+    let a = m.args in
+    let is = sym m.in-File.is ∙ m.open_file.ensures in
     let o = file-opened (opening a.file.now) _ is in
-    rw (read_fits a.file.now (length a.area.now) m.before.before.before.if1.false, o)
-    c.before.before.read_opened.ensures
+    rw (read_fits a.file.now (length a.area.now) m.if-area-lt-SCREEN_BYTES.false, o)
+    c.read_opened.ensures
 
-returns-3 : tie.Need-returns-3
+returns-3 : tie.Need-returns-in-Refused
 returns-3 c =
-    let m = c.before.before in
-    let a = m.before.before.before.before.before.before.args in
-    let is = sym m.why.given.1 ∙ m.before.before.open-file.ensures in
+    let m = c in
+    let a = m.args in
+    let is = sym m.in-Refused.is ∙ m.open_file.ensures in
     let o = refused-opened (opening a.file.now) _ is in
-    rw (read_fits a.file.now (length a.area.now) m.before.before.before.if1.false, o)
-    (c.read-refused2.ensures, refl)
+    rw (read_fits a.file.now (length a.area.now) m.if-area-lt-SCREEN_BYTES.false, o)
+    (c.read_refused-in-Refused.ensures, refl)
 
 pub read_spec : {M : Type 1} → statement M
 read_spec =

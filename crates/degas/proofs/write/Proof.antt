@@ -8,35 +8,35 @@ use Rattle.degas.proofs.write.Statement.{statement}
 use Rattle.degas.proofs.write.Tie as tie
 
 -- the lengths and the resolution passed
-passed : (j : tie.After-r) → let a = j.before.before.before.before.before.args in
-    Passed (length a.screen.now) (length a.out.now) a.picture.resolution j.r.given.0.0
+passed : (j : tie.In-At) → let a = j.args in
+    Passed (length a.screen.now) (length a.out.now) a.picture.resolution j.in-At.r
 passed j =
-    let a = j.before.before.before.before.before.args in
-    let is = sym j.r.given.1 ∙ j.before.before.judge-writing.ensures in
+    let a = j.args in
+    let is = sym j.in-At.is ∙ j.judge_writing.ensures in
     at-passed (length a.screen.now) (length a.out.now) a.picture.resolution _ is
 
-returns : tie.Need-returns
+returns : tie.Need-returns-in-At
 returns c =
-    let j = c.before.before.before.before.before in
-    let a = j.before.before.before.before.before.args in
+    let j = c.before.before.before.before in
+    let a = j.args in
     rw (write-passed a.form a.picture a.screen.now (length a.out.now) (passed j))
-    c.before.before.write-form.ensures
+    c.write_form.ensures
 
-returns-2 : tie.Need-returns-2
+returns-2 : tie.Need-returns-in-Refused
 returns-2 c =
-    let m = c.before.before in
-    let a = m.before.before.before.before.before.args in
-    let is = sym m.why.given.1 ∙ m.before.before.judge-writing.ensures in
+    let m = c in
+    let a = m.args in
+    let is = sym m.in-Refused.is ∙ m.judge_writing.ensures in
     let why = refused_why (length a.screen.now) (length a.out.now) a.picture.resolution _ is in
     rw (write-refused a.form a.picture a.screen.now (length a.out.now) why)
-    (c.write-refused.ensures, refl)
+    (c.write_refused.ensures, refl)
 
 pub write_spec : {M : Type 1} → statement M
 write_spec =
     tie.close
     (tie.spec
     (λ c κs. search rules) (λ c. search rules)
-    (λ c κs. let p = passed c.before.before in (p.known, (p.screen-fits, p.output-fits)))
+    (λ c κs. let p = passed c.before in (p.known, (p.screen-fits, p.output-fits)))
     (λ c. search rules) (λ c κs. search rules) (λ c. search rules)
     returns
     returns-2)

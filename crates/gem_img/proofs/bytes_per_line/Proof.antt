@@ -8,8 +8,8 @@ use Rattle.gem_img.proofs.bytes_per_line.Tie as tie
 returns : tie.Need-returns
 returns c = sym (line-bytes c.args.width)
 
-pub bytes-per-line-spec : {M : Type 1} → statement M
-bytes-per-line-spec =
+pub bytes_per_line_spec : {M : Type 1} → statement M
+bytes_per_line_spec =
     tie.close
     (tie.spec
     (λ c. search rules)

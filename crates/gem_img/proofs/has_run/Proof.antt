@@ -6,10 +6,10 @@ use Rattle.gem_img.proofs.has_run.Statement.{statement}
 use Rattle.gem_img.proofs.has_run.Tie as tie
 
 returns : tie.Need-returns
-returns c = c.is-scanline-run.ensures ∙ ap is_scanline_run c.before.record-at.ensures
+returns c = c.is_scanline_run.ensures ∙ ap is_scanline_run c.record_at.ensures
 
-pub has-run-spec : {M : Type 1} → statement M
-has-run-spec =
+pub has_run_spec : {M : Type 1} → statement M
+has_run_spec =
     tie.close
     (tie.spec
     (λ c κs. search rules)

@@ -7,35 +7,35 @@ use borrow.Author.Rules.{rules}
 use Rattle.gem_img.proofs.header_refusal.Statement.{statement}
 use Rattle.gem_img.proofs.header_refusal.Tie as tie
 
-returns : tie.Need-returns
+returns : tie.Need-returns-then-file-lt-LEAST_HEADER_BYTES
 returns c =
-    let a = c.before.before.before.args in
-    c.refuse.ensures ∙ sym (below-least a.file.now c.before.if1.true)
+    let a = c.args in
+    c.refuse.ensures ∙ sym (below-least a.file.now c.if-file-lt-LEAST_HEADER_BYTES.true)
 
-returns-2 : tie.Need-returns-2
+returns-2 : tie.Need-returns-then-file-header_bytes
 returns-2 c =
-    let a = c.before.before.before.before.before.args in
-    c.refuse2.ensures
-    ∙ sym (below-header a.file.now (omega arith) (omega (arith, c.before.before.header-bytes.ensures)))
+    let a = c.args in
+    c.refuse-then-file-header_bytes.ensures
+    ∙ sym (below-header a.file.now (omega arith) (omega (arith, c.header_bytes.ensures)))
 
-returns-3 : tie.Need-returns-3
+returns-3 : tie.Need-returns-then-not-in_profile
 returns-3 c =
-    let a = c.before.before.before.before.before.before.before.args in
-    let bad = sym c.before.before.in-profile.ensures ∙ not-true _ c.before.if3.true in
-    c.refuse3.ensures
+    let a = c.args in
+    let bad = sym c.in_profile.ensures ∙ not-true _ c.if-not-in_profile.true in
+    c.refuse-then-not-in_profile.ensures
     ∙ sym (profile-wrong a.file.now (omega arith)
-    (omega (arith, c.before.before.before.before.header-bytes.ensures)) bad)
+    (omega (arith, c.header_bytes.ensures)) bad)
 
-returns-4 : tie.Need-returns-4
+returns-4 : tie.Need-returns
 returns-4 c =
-    let a = c.before.before.before.before.before.before.before.args in
-    let good = sym c.before.before.in-profile.ensures ∙ not-false _ c.before.if3.false in
+    let a = c.args in
+    let good = sym c.in_profile.ensures ∙ not-false _ c.if-not-in_profile.false in
     c.none.ensures
     ∙ sym (profile-right a.file.now (omega arith)
-    (omega (arith, c.before.before.before.before.header-bytes.ensures)) good)
+    (omega (arith, c.header_bytes.ensures)) good)
 
-pub header-refusal-spec : {M : Type 1} → statement M
-header-refusal-spec =
+pub header_refusal_spec : {M : Type 1} → statement M
+header_refusal_spec =
     tie.close
     (tie.spec
     (λ c κs. search rules)

@@ -10,50 +10,50 @@ use Rattle.gem_img.proofs.in_profile.Statement.{statement}
 use Rattle.gem_img.proofs.in_profile.Tie as tie
 
 -- past the fourth test
-pattern-here : (e : tie.Else4) → up_to 8
-    (word_at e.before.before.before.before.before.before.before.before.before.before.args.file.now 6) ≡
+pattern-here : (e : tie.Else-not-up_to) → up_to 8
+    (word_at e.args.file.now 6) ≡
     true
 pattern-here e =
-    ap (up_to 8) (sym e.before.before.word-at4.ensures) ∙ sym e.before.up_to_lem.ensures ∙ not-false _
-    e.if4.false
+    ap (up_to 8) (sym e.word_at-4.ensures) ∙ sym e.before.up_to_lem.ensures ∙ not-false _
+    e.if-not-up_to.false
 
 -- past the fifth
-width-here : (e : tie.Else5) → let a =
-    e.before.before.before.before.before.before.before.before.before.before.before.before.before.args in
+width-here : (e : tie.Else-not-up_to-2) → let a =
+    e.args in
     up_to 640 (word_at a.file.now 12) ≡ true
 width-here e =
-    ap (up_to 640) (sym e.before.before.word-at5.ensures) ∙ sym e.before.up-to2.ensures ∙ not-false _
-    e.if5.false
+    ap (up_to 640) (sym e.word_at-5.ensures) ∙ sym e.up_to-2.ensures ∙ not-false _
+    e.if-not-up_to-2.false
 
-returns : tie.Need-returns
+returns : tie.Need-returns-then-word_at-ne-VERSION
 unfolding in_profile
 returns c =
-    let a = c.before.before.before.args in
+    let a = c.args in
     rw (ne_eqb (word_at a.file.now 0) 1 (omega arith))
 
-returns-2 : tie.Need-returns-2
+returns-2 : tie.Need-returns-then-word_at-lt-LEAST_HEADER_WORDS
 unfolding in_profile
 returns-2 c =
-    let a = c.before.before.before.before.before.args in
+    let a = c.args in
     rw (eq-eqb (word_at a.file.now 0) 1 (omega arith), lt-ltb (word_at a.file.now 2) 8 (omega arith))
 
-returns-3 : tie.Need-returns-3
+returns-3 : tie.Need-returns-then-word_at-ne-PLANES
 unfolding in_profile
 returns-3 c =
-    let a = c.before.before.before.before.before.before.before.args in
+    let a = c.args in
     rw (
       eq-eqb (word_at a.file.now 0) 1 (omega arith),
       le-ltb (word_at a.file.now 2) 8 (omega arith),
       ne_eqb (word_at a.file.now 4) 1 (omega arith),
     )
 
-returns-4 : tie.Need-returns-4
+returns-4 : tie.Need-returns-then-not-up_to
 unfolding in_profile
 returns-4 c =
-    let a = c.before.before.before.before.before.before.before.before.before.before.args in
+    let a = c.args in
     let bad : up_to 8 (word_at a.file.now 6) ≡ false =
-    ap (up_to 8) (sym c.before.before.word-at4.ensures) ∙ sym c.before.up_to_lem.ensures ∙ not-true _
-    c.if4.true in
+    ap (up_to 8) (sym c.word_at-4.ensures) ∙ sym c.before.up_to_lem.ensures ∙ not-true _
+    c.if-not-up_to.true in
     rw (
       eq-eqb (word_at a.file.now 0) 1 (omega arith),
       le-ltb (word_at a.file.now 2) 8 (omega arith),
@@ -61,14 +61,14 @@ returns-4 c =
       bad,
     )
 
-returns-5 : tie.Need-returns-5
+returns-5 : tie.Need-returns-then-not-up_to-2
 unfolding in_profile
 returns-5 c =
-    let far = c.before.before.before.before.before.before in
-    let a = far.before.before.before.before.before.before.before.args in
+    let far = c in
+    let a = far.args in
     let bad : up_to 640 (word_at a.file.now 12) ≡ false =
-    ap (up_to 640) (sym c.before.before.word-at5.ensures) ∙ sym c.before.up-to2.ensures ∙ not-true _
-    c.if5.true in
+    ap (up_to 640) (sym c.word_at-5.ensures) ∙ sym c.up_to-2.ensures ∙ not-true _
+    c.if-not-up_to-2.true in
     rw (
       eq-eqb (word_at a.file.now 0) 1 (omega arith),
       le-ltb (word_at a.file.now 2) 8 (omega arith),
@@ -77,22 +77,22 @@ returns-5 c =
       bad,
     )
 
-returns-6 : tie.Need-returns-6
+returns-6 : tie.Need-returns
 unfolding in_profile
 returns-6 c =
-    let far = c.before.before.before.before.before.before.before in
-    let a = far.before.before.before.before.before.before.before.before.args in
+    let far = c in
+    let a = far.args in
     rw (
       eq-eqb (word_at a.file.now 0) 1 (omega arith),
       le-ltb (word_at a.file.now 2) 8 (omega arith),
       eq-eqb (word_at a.file.now 4) 1 (omega arith),
       pattern-here c.before.before.before.before.before,
       width-here c.before.before,
-      ← c.before.word-at6.ensures,
-    ) c.up-to3.ensures
+      ← c.word_at-6.ensures,
+    ) c.up_to-3.ensures
 
-pub in-profile-spec : {M : Type 1} → statement M
-in-profile-spec =
+pub in_profile_spec : {M : Type 1} → statement M
+in_profile_spec =
     tie.close
     (tie.spec
     (λ c κs. search rules)

@@ -7,30 +7,30 @@ use borrow.Author.Rules.{rules}
 use Rattle.gem_img.proofs.read.Statement.{statement}
 use Rattle.gem_img.proofs.read.Tie as tie
 
-returns : tie.Need-returns
+returns : tie.Need-returns-then-area-lt-AREA_BYTES
 returns c =
-    let a = c.before.before.before.before.before.args in
+    let a = c.args in
     rw (area-short a.file.now (length a.area.now) (omega arith))
-    (c.img-refused.ensures ∙ rw c.before.refuse.ensures, refl)
+    (c.img_refused.ensures ∙ rw c.refuse.ensures, refl)
 
-returns-2 : tie.Need-returns-2
+returns-2 : tie.Need-returns-then-refusal-ne0
 returns-2 c =
-    let a = c.before.before.before.before.before.before.before.args in
-    let why = c.before.before.before.header-refusal.ensures in
-    rw (header_refused a.file.now (length a.area.now) (omega arith) (rw why at c.before.if2.true))
-    (c.img-refused2.ensures ∙ rw why, refl)
+    let a = c.args in
+    let why = c.header_refusal-refusal.ensures in
+    rw (header_refused a.file.now (length a.area.now) (omega arith) (rw why at c.if-refusal-ne0.true))
+    (c.img_refused-then-refusal-ne0.ensures ∙ rw why, refl)
 
-read-lines-requires : tie.Need-read-lines-requires
+read-lines-requires : tie.Need-read_lines-requires
 read-lines-requires c κs =
-    (rw c.before.before.before.header-refusal.ensures at c.before.if2.false, omega arith)
+    (rw c.header_refusal-refusal.ensures at c.if-refusal-ne0.false, omega arith)
 
-returns-3 : tie.Need-returns-3
+returns-3 : tie.Need-returns
 returns-3 c =
-    let a = c.before.before.before.before.before.before.before.before.before.before.args in
-    let good = rw c.before.before.before.before.before.before.header-refusal.ensures at
-    c.before.before.before.before.if2.false in
+    let a = c.args in
+    let good = rw c.header_refusal-refusal.ensures at
+    c.if-refusal-ne0.false in
     rw (header-right a.file.now (length a.area.now) (omega arith) good)
-    c.before.before.read-lines.ensures
+    c.read_lines.ensures
 
 pub read_spec : {M : Type 1} → statement M
 read_spec =

@@ -11,32 +11,32 @@ use borrow.Author.Rules.{rules}
 use Rattle.gem_img.proofs.read_by_buffer.Statement.{statement}
 use Rattle.gem_img.proofs.read_by_buffer.Tie as tie
 
-returns : tie.Need-returns
+returns : tie.Need-returns-in_default
 returns c =
-    let a = c.before.before.before.before.before.before.before.before.before.before.before.args in
-    let why = c.before.before.enum_told.given.0.0 in
+    let a = c.args in
+    let why = c.in_default.field-0 in
     let is = ended-refused (fill_image a.file.now).ends why
-    (sym c.before.before.before.before.before.before.unpack-image.ensures.0 ∙
-    c.before.before.enum_told.given.1) in
+    (sym c.unpack_image-ended.ensures.0 ∙
+    c.in_default.is) in
     rw (lines-refused a.file.now why is)
-    (c.img-refused.ensures ∙ rw (c.before.refusal-of.ensures, c.before.before.enum_told.given.1), refl)
+    (c.img_refused.ensures ∙ rw (c.refusal_of.ensures, c.in_default.is), refl)
 
-put-image-requires : tie.Need-put-image-requires
+put-image-requires : tie.Need-put_image-requires
 put-image-requires c κs =
-    let a = c.before.before.before.before.before.before.before.before.before.before.before.before.args in
+    let a = c.args in
     let image = fill_image a.file.now in
-    let u = c.before.before.before.before.before.before.before.unpack-image in
-    let end = c.before.before.before.ended.given.0.0 in
-    let is = ended_at image.ends end (sym u.ensures.0 ∙ c.before.before.before.ended.given.1) in
+    let u = c.unpack_image-ended in
+    let end = c.in-At.end in
+    let is = ended_at image.ends end (sym u.ensures.0 ∙ c.in-At.is) in
     let front =
     ap (take (length image.made)) (u.ensures.1 end is) ∙ take_at image.made _ (length image.made) refl in
     let zeros = length-replicate {A = ℕ} area_bytes 0 in (
-      c.before.before.before.before.before.before.before.before.before.before.before.before.requires.0,
-      (is, (front, (omega (arith, u.auto.1.1.0, zeros), omega arith))),
+      c.requires.0,
+      (is, (front, (omega (arith, u.auto.out, zeros), omega arith))),
     )
 
-pub read-by-buffer-spec : {M : Type 1} → statement M
-read-by-buffer-spec =
+pub read_by_buffer_spec : {M : Type 1} → statement M
+read_by_buffer_spec =
     tie.close
     (tie.spec
     (λ c. search rules)

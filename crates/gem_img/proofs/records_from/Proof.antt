@@ -5,18 +5,18 @@ use borrow.Author.Rules.{rules}
 use Rattle.gem_img.proofs.records_from.Statement.{statement}
 use Rattle.gem_img.proofs.records_from.Tie as tie
 
-returns : tie.Need-returns
+returns : tie.Need-returns-then-has_run
 returns c =
-    let a = c.before.before.before.args in
-    sym (run-from a.file.now a.at (sym c.before.has-run.ensures ∙ c.if1.true))
+    let a = c.args in
+    sym (run-from a.file.now a.at (sym c.has_run.ensures ∙ c.if-has_run.true))
 
-returns-2 : tie.Need-returns-2
+returns-2 : tie.Need-returns
 returns-2 c =
-    let a = c.before.before.before.args in
-    sym (no-run-from a.file.now a.at (sym c.before.has-run.ensures ∙ c.if1.false))
+    let a = c.args in
+    sym (no-run-from a.file.now a.at (sym c.has_run.ensures ∙ c.if-has_run.false))
 
-pub records-from-spec : {M : Type 1} → statement M
-records-from-spec =
+pub records_from_spec : {M : Type 1} → statement M
+records_from_spec =
     tie.close
     (tie.spec
     (λ c κs. search rules)

@@ -5,19 +5,19 @@ use Rattle.gem_img.proofs.Lines.{flag-wrong, count_none, count_left}
 use Rattle.gem_img.proofs.run_allowed.Statement.{statement}
 use Rattle.gem_img.proofs.run_allowed.Tie as tie
 
-returns : tie.Need-returns
-returns c = let a = c.before.args in sym (flag-wrong a.flag a.count a.left c.if1.true)
+returns : tie.Need-returns-then-flag-ne-SCANLINE_FLAG
+returns c = let a = c.args in sym (flag-wrong a.flag a.count a.left c.if-flag-ne-SCANLINE_FLAG.true)
 
-returns-2 : tie.Need-returns-2
-returns-2 c = let a = c.before.before.args in sym
+returns-2 : tie.Need-returns-then-count-eq0
+returns-2 c = let a = c.args in sym
     (count_none a.flag a.count a.left (omega arith) (omega arith))
 
-returns-3 : tie.Need-returns-3
-returns-3 c = let a = c.before.before.args in sym
-    (count_left a.flag a.count a.left (omega arith) c.if2.false)
+returns-3 : tie.Need-returns
+returns-3 c = let a = c.args in sym
+    (count_left a.flag a.count a.left (omega arith) c.if-count-eq0.false)
 
-pub run-allowed-spec : {M : Type 1} → statement M
-run-allowed-spec =
+pub run_allowed_spec : {M : Type 1} → statement M
+run_allowed_spec =
     tie.close
     (tie.spec
     returns

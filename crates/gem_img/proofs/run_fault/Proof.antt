@@ -7,42 +7,42 @@ use borrow.Author.Rules.{rules}
 use Rattle.gem_img.proofs.run_fault.Statement.{statement}
 use Rattle.gem_img.proofs.run_fault.Tie as tie
 
-returns : tie.Need-returns
+returns : tie.Need-returns-then-not-has_run
 returns c =
-    let a = c.before.before.before.args in
-    sym (no-run-fault a.file.now a.at (sym c.before.has-run.ensures ∙ not-true _ c.if1.true)
+    let a = c.args in
+    sym (no-run-fault a.file.now a.at (sym c.has_run.ensures ∙ not-true _ c.if-not-has_run.true)
     a.left)
 
-returns-2 : tie.Need-returns-2
+returns-2 : tie.Need-returns-then-file-at
 returns-2 c =
-    let a = c.before.before.before.before.args in
-    let run = sym c.before.before.has-run.ensures ∙ not-false _ c.before.if1.false in
+    let a = c.args in
+    let run = sym c.has_run.ensures ∙ not-false _ c.if-not-has_run.false in
     sym (run-cut a.file.now a.at run a.left (omega arith))
 
-returns-3 : tie.Need-returns-3
+returns-3 : tie.Need-returns-then-file-at-lt-SCANLINE_RUN_LEN
 returns-3 c =
-    let a = c.before.before.before.before.before.args in
-    let run = sym c.before.before.before.has-run.ensures ∙ not-false _ c.before.before.if1.false in
+    let a = c.args in
+    let run = sym c.has_run.ensures ∙ not-false _ c.if-not-has_run.false in
     sym (run-cut a.file.now a.at run a.left (omega arith))
 
-returns-4 : tie.Need-returns-4
+returns-4 : tie.Need-returns-then-run_allowed
 returns-4 c =
-    let a = c.before.before.before.before.before.before.before.before.before.args in
-    let run = sym c.before.before.before.before.before.before.before.has-run.ensures ∙ not-false _
-    c.before.before.before.before.before.before.if1.false in
+    let a = c.args in
+    let run = sym c.has_run.ensures ∙ not-false _
+    c.if-not-has_run.false in
     sym (run-right a.file.now a.at run a.left (omega arith)
-    (sym c.before.run-allowed.ensures ∙ c.if4.true))
+    (sym c.run_allowed.ensures ∙ c.if-run_allowed.true))
 
-returns-5 : tie.Need-returns-5
+returns-5 : tie.Need-returns
 returns-5 c =
-    let a = c.before.before.before.before.before.before.before.before.before.args in
-    let run = sym c.before.before.before.before.before.before.before.has-run.ensures ∙ not-false _
-    c.before.before.before.before.before.before.if1.false in
+    let a = c.args in
+    let run = sym c.has_run.ensures ∙ not-false _
+    c.if-not-has_run.false in
     sym (run-wrong a.file.now a.at run a.left (omega arith)
-    (sym c.before.run-allowed.ensures ∙ c.if4.false))
+    (sym c.run_allowed.ensures ∙ c.if-run_allowed.false))
 
-pub run-fault-spec : {M : Type 1} → statement M
-run-fault-spec =
+pub run_fault_spec : {M : Type 1} → statement M
+run_fault_spec =
     tie.close
     (tie.spec
     (λ c κs. search rules)

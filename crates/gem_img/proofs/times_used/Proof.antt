@@ -9,29 +9,29 @@ use borrow.Author.Rules.{rules}
 use Rattle.gem_img.proofs.times_used.Statement.{statement}
 use Rattle.gem_img.proofs.times_used.Tie as tie
 
-returns : tie.Need-returns
+returns : tie.Need-returns-then-not-has_run
 returns c =
-    let a = c.before.before.before.args in
-    sym (no-run-times a.file.now a.at (sym c.before.has-run.ensures ∙ not-true _ c.if1.true))
+    let a = c.args in
+    sym (no-run-times a.file.now a.at (sym c.has_run.ensures ∙ not-true _ c.if-not-has_run.true))
 
-returns-2 : tie.Need-returns-2
+returns-2 : tie.Need-returns-then-file-at-lt-SCANLINE_RUN_LEN
 returns-2 c =
-    let a = c.before.before.before.before.args in
-    let run = sym c.before.before.has-run.ensures ∙ not-false _ c.before.if1.false in
+    let a = c.args in
+    let run = sym c.has_run.ensures ∙ not-false _ c.if-not-has_run.false in
     sym (run-times a.file.now a.at run ∙ get_or-eq_default a.file.now 0 {n = a.at + 3} (omega arith))
 
-cast-result : tie.Need-overflow-cast-result
-cast-result c = let a = c.before.before.before.before.before.args in omega
-    (arith, c.shared-slice-known2.given (a.at + 3))
+cast-result : tie.Need-overflow_cast-result
+cast-result c = let a = c.args in omega
+    (arith, c.shared_slice_known-2-1.given (a.at + 3))
 
-returns-3 : tie.Need-returns-3
+returns-3 : tie.Need-returns
 returns-3 c =
-    let a = c.before.before.before.before.before.args in
-    let run = sym c.before.before.before.has-run.ensures ∙ not-false _ c.before.before.if1.false in
+    let a = c.args in
+    let run = sym c.has_run.ensures ∙ not-false _ c.if-not-has_run.false in
     sym (run-times a.file.now a.at run)
 
-pub times-used-spec : {M : Type 1} → statement M
-times-used-spec =
+pub times_used_spec : {M : Type 1} → statement M
+times_used_spec =
     tie.close
     (tie.spec
     (λ c κs. search rules)

@@ -24,41 +24,41 @@ use borrow.Author.Rules.{rules}
 use Rattle.gem_img.proofs.unpack_lines.Statement.{statement}
 use Rattle.gem_img.proofs.unpack_lines.Tie as tie
 
-abbrev invariant-loop : tie.invariant-loop
+abbrev invariant-loop : tie.invariant-loop-left
 invariant-loop file at pattern lines line₀ out₀ width from₀ to₀ left₀ line out from to left =
     (length line ≡ length line₀) × (from ≤ length file) × (to + left * length line₀ ≡ lines * length line₀)
     × Putting (fill_lines pattern (length line₀) file at lines) (fill_lines pattern (length line₀) file from left) out₀
     out
     to
 
-abbrev decreases-loop : tie.decreases-loop
+abbrev decreases-loop : tie.decreases-loop-left
 decreases-loop file at pattern lines line₀ out₀ width from₀ to₀ left₀ line out from to left = left
 
 -- past the first judging
-module _ (e : tie.Else1 invariant-loop decreases-loop) where
+module _ (e : tie.Else-number-ne0 invariant-loop decreases-loop) where
   abbrev file : List ℕ
-  file = e.before.before.before.before.before.before.before.args.file.now
+  file = e.args.file.now
 
   abbrev pattern : ℕ
-  pattern = e.before.before.before.before.before.before.before.args.pattern
+  pattern = e.args.pattern
 
   abbrev bytes : ℕ
-  bytes = length e.before.before.before.before.before.before.before.args.line.now
+  bytes = length e.args.line.now
 
   abbrev from : ℕ
-  from = e.before.before.before.loop.from
+  from = e.loop-left.from
 
   abbrev to : ℕ
-  to = e.before.before.before.loop.to
+  to = e.loop-left.to
 
   abbrev left : ℕ
-  left = e.before.before.before.loop.left
+  left = e.loop-left.left
 
   abbrev out : List ℕ
-  out = e.before.before.before.loop.out
+  out = e.loop-left.out
 
   ok : run_fault file from left ≡ 0
-  ok = sym e.before.run-fault.ensures ∙ e.if1.left
+  ok = sym e.run_fault-number.ensures ∙ e.if-number-ne0.left
 
   some : 0 < times_used file from
   some = (times-bounds file from left (omega arith) ok).0
@@ -75,16 +75,16 @@ module _ (e : tie.Else1 invariant-loop decreases-loop) where
   bounded = omega arith
 
   room : to + left * bytes ≤ length out
-  room = omega (arith, e.before.before.before.loop.inv.3.put.kept)
+  room = omega (arith, e.loop-left.inv.3.put.kept)
 
-  fits : length (fill_lines pattern bytes file e.before.before.before.before.before.before.before.args.at
-      e.before.before.before.before.before.before.before.args.lines).made
-      ≤ length e.before.before.before.before.before.before.before.args.out.now
+  fits : length (fill_lines pattern bytes file e.args.at
+      e.args.lines).made
+      ≤ length e.args.out.now
   fits = omega (
     arith,
     lines-most pattern bytes file
-        e.before.before.before.before.before.before.before.args.at
-        e.before.before.before.before.before.before.before.args.lines,
+        e.args.at
+        e.args.lines,
   )
 
   -- the part of the output that is lent
@@ -99,15 +99,15 @@ module _ (e : tie.Else1 invariant-loop decreases-loop) where
       ∙ omega (arith, kept, lent, room, length-take-le to out (omega (arith, room)))
 
 -- past the second, the line is unpacked
-module _ (o : tie.After-ended invariant-loop decreases-loop) where
-  abbrev one : tie.Else1 invariant-loop decreases-loop
+module _ (o : tie.In-At-2 invariant-loop decreases-loop) where
+  abbrev one : tie.Else-number-ne0 invariant-loop decreases-loop
   one = o.before.before.before.before.before.before.before.before.before.before.before
 
-  abbrev u : tie.After-unpack-times invariant-loop decreases-loop
+  abbrev u : tie.After-unpack_times-ended invariant-loop decreases-loop
   u = o.before.before.before.before.before.before
 
   abbrev next : ℕ
-  next = o.ended.given.0.0
+  next = o.ended-1.given.0.0
 
   abbrev made : List ℕ
   made = repeated (times_used (file one) (from one)) (line_at (pattern one) (bytes one) (file one) (from one)).made
@@ -120,7 +120,7 @@ module _ (o : tie.After-ended invariant-loop decreases-loop) where
       let l = one.before.before.before.loop in
       line-ended (pattern one) (bytes one) (file one) (from one) _ l.line l.inv.0
       u.before.before.before.before.records-from.ensures _ u.unpack-times.ensures.0 next
-      o.ended.given.1
+      o.ended-1.given.1
 
   turn : fill_lines (pattern one) (bytes one) (file one) (from one) (left one) ≡ after made further
   turn = lines_step (pattern one) (bytes one) (file one) (from one) (left one) (omega arith) (ok one) next ends
@@ -149,70 +149,70 @@ none-accepted : (o : Outcome ℕ) (end : ℕ) {why : Refusal} → o ≡ refused 
 none-accepted (accepted a) end e f = let z : ◌≡◌ {A = ℕ} 0 1 = cc in omega arith
 none-accepted (refused w) end e f = let z : ◌≡◌ {A = ℕ} 0 1 = cc in omega arith
 
-loop-holds : tie.Need-loop-init invariant-loop decreases-loop
+loop-holds : tie.Need-loop-left-init invariant-loop decreases-loop
 loop-holds c =
-    let a = c.before.before.before.args in (
+    let a = c.args in (
       refl,
       omega arith,
       omega arith,
       putting-start (fill_lines a.pattern (length a.line.now) a.file.now a.at a.lines) a.out.now,
     )
 
-returns : tie.Need-returns invariant-loop decreases-loop
+returns : tie.Need-returns-then-number-ne0 invariant-loop decreases-loop
 returns c =
-    let l = c.before.before.before.before.loop in
-    let a = c.before.before.before.before.before.before.before.before.args in
-    let n = c.before.before.run-fault.ensures in
-    let bad : run_fault a.file.now l.from l.left ≡ 0 → ⊥ = λ e. c.before.if1.true (n ∙ e) in
+    let l = c.loop-left in
+    let a = c.args in
+    let n = c.run_fault-number.ensures in
+    let bad : run_fault a.file.now l.from l.left ≡ 0 → ⊥ = λ e. c.if-number-ne0.true (n ∙ e) in
     let stop = lines-run-fault a.pattern (length a.line.now) a.file.now l.from l.left (omega arith)
     bad in
     let d = putting-done l.invariant.3 _ stop in
-    (rw (d.0, c.refusal-at.ensures, n), λ end e. absurd (none-accepted _ end d.0 e))
+    (rw (d.0, c.refusal_at.ensures, n), λ end e. absurd (none-accepted _ end d.0 e))
 
-unpack-times-requires : tie.Need-unpack-times-requires invariant-loop decreases-loop
+unpack-times-requires : tie.Need-unpack_times-ended-requires invariant-loop decreases-loop
 unpack-times-requires c κs =
     let e = c.before.before.before.before in
-    let t = c.before.before.times-used.ensures in
-    rw (e.before.before.before.loop.invariant.0, lent e) (omega (arith, room e, split e, ap (λ (k : ℕ). k * bytes e) t))
+    let t = c.times_used-times.ensures in
+    rw (e.loop-left.invariant.0, lent e) (omega (arith, room e, split e, ap (λ (k : ℕ). k * bytes e) t))
 
-same-length-3 : tie.Need-same-length-3 invariant-loop decreases-loop
+same-length-3 : tie.Need-shape_of-line-in_default invariant-loop decreases-loop
 same-length-3 c =
-    let e = c.before.before.before.before.before.before.before.before.before.before.before in
-    c.before.before.before.before.before.before.unpack-times.auto.1.1.1.1.0 ∙
-    e.before.before.before.loop.invariant.0
+    let e = c in
+    c.unpack_times-ended.auto.line ∙
+    e.loop-left.invariant.0
 
-same-length-4 : tie.Need-same-length-4 invariant-loop decreases-loop
+same-length-4 : tie.Need-shape_of-out-in_default invariant-loop decreases-loop
 same-length-4 c =
-    let e = c.before.before.before.before.before.before.before.before.before.before.before in
-    let u = c.before.before.before.before.before.before.unpack-times in
-    put-length e u.new.1.1.1.1.1.0 u.auto.1.1.1.1.1.0 ∙
-    e.before.before.before.loop.invariant.3.put.kept
+    let e = c.before.before.before.before.before.before.before.before.before.before in
+    let u = c.unpack_times-ended in
+    put-length e u.new.out u.auto.out ∙
+    e.loop-left.invariant.3.put.kept
 
-returns-2 : tie.Need-returns-2 invariant-loop decreases-loop
+returns-2 : tie.Need-returns-in_default invariant-loop decreases-loop
 returns-2 c =
-    let e = c.before.before.before.before.before.before.before.before.before.before.before in
-    let l = e.before.before.before.loop in
+    let e = c.before.before.before.before.before.before.before.before.before.before in
+    let l = e.loop-left in
     let bad =
     line-stopped (pattern e) (bytes e) (file e) (from e) _ l.line l.invariant.0
-    c.before.before.before.before.before.before.before.before.before.before.records-from.ensures _
-    c.before.before.before.before.before.before.unpack-times.ensures.0 _ c.enum_told.given.1 in
+    c.records_from-first.ensures _
+    c.unpack_times-ended.ensures.0 _ c.in_default.is in
     let stop = lines-record-fault (pattern e) (bytes e) (file e) (from e) (left e) (omega arith) (ok e) _ bad in
     let d = putting-done l.invariant.3 _ stop in
-    (rw d.0 c.enum_told.given.1, λ end f. absurd (none-accepted _ end d.0 f))
+    (rw d.0 c.in_default.is, λ end f. absurd (none-accepted _ end d.0 f))
 
-mul-to : tie.Need-overflow-mul-to invariant-loop decreases-loop
+mul-to : tie.Need-overflow_mul-to invariant-loop decreases-loop
 mul-to c = let o = c.before in rw (wrote o) (omega (arith, split (one o), bounded (one o)))
 
-add-to : tie.Need-overflow-add-to invariant-loop decreases-loop
+add-to : tie.Need-overflow_add-to invariant-loop decreases-loop
 add-to c = let o = c.before in omega (arith, wrote o, split (one o), bounded (one o))
 
-sub-left : tie.Need-overflow-sub-left invariant-loop decreases-loop
+sub-left : tie.Need-overflow_sub-left invariant-loop decreases-loop
 sub-left c = let o = c.before in omega (arith, times-is o, few (one o))
 
-loop-less : tie.Need-loop-smaller invariant-loop decreases-loop
+loop-less : tie.Need-loop-left-smaller invariant-loop decreases-loop
 loop-less c = let o = c.before in omega (arith, times-is o, some (one o), few (one o))
 
-loop-again : tie.Need-loop-preserved invariant-loop decreases-loop
+loop-again : tie.Need-loop-left-preserved invariant-loop decreases-loop
 loop-again c =
     let o = c.before in
     let e = one o in
@@ -226,17 +226,17 @@ loop-again c =
           (ap (λ (k : ℕ). to e + k) (size o ∙ sym (wrote o))) on,
     )
 
-returns-3 : tie.Need-returns-3 invariant-loop decreases-loop
+returns-3 : tie.Need-returns invariant-loop decreases-loop
 returns-3 c =
-    let l = c.before.loop in
-    let a = c.before.before.before.before.before.args in
+    let l = c.loop-left in
+    let a = c.args in
     let full : l.left ≡ 0 = omega arith in
     let d = putting-done l.invariant.3 _
     (lines-full a.pattern (length a.line.now) a.file.now l.from l.left full) in
     (rw d.0, λ end e. d.1)
 
-pub unpack-lines-spec : {M : Type 1} → statement M
-unpack-lines-spec =
+pub unpack_lines_spec : {M : Type 1} → statement M
+unpack_lines_spec =
     tie.close
     (tie.spec
     invariant-loop
@@ -244,14 +244,14 @@ unpack-lines-spec =
     loop-holds
     (λ c κs. search rules)
     (λ c κs. search rules)
-    (λ c. c.before.before.before.before.loop.invariant.0)
-    (λ c. c.before.before.before.before.loop.invariant.3.put.kept)
+    (λ c. c.loop-left.invariant.0)
+    (λ c. c.loop-left.invariant.3.put.kept)
     returns
-    (λ c κs. c.before.before.before.loop.invariant.1)
-    (λ c κs. c.before.before.before.before.loop.invariant.1)
-    (λ c. c.before.before.before.before.before.before.loop.invariant.3.put.room)
-    (λ c. let p = c.before.before.before.before.before.before.loop.invariant.3.put.room in search rules)
-    (λ c. let p = c.before.before.before.before.before.before.loop.invariant.3.put.room in search rules)
+    (λ c κs. c.loop-left.invariant.1)
+    (λ c κs. c.loop-left.invariant.1)
+    (λ c. c.loop-left.invariant.3.put.room)
+    (λ c. let p = c.loop-left.invariant.3.put.room in search rules)
+    (λ c. let p = c.loop-left.invariant.3.put.room in search rules)
     unpack-times-requires
     (λ c. search rules)
     (λ c. search rules)
@@ -263,6 +263,6 @@ unpack-lines-spec =
     sub-left
     loop-less
     loop-again
-    (λ c. c.before.loop.invariant.0)
-    (λ c. c.before.loop.invariant.3.put.kept)
+    (λ c. c.loop-left.invariant.0)
+    (λ c. c.loop-left.invariant.3.put.kept)
     returns-3)

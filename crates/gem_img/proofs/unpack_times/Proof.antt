@@ -20,26 +20,26 @@ use Rattle.gem_img.proofs.unpack_times.Statement.{statement}
 use Rattle.gem_img.proofs.unpack_times.Tie as tie
 
 -- where the line is used once it fits the output
-module _ (c : tie.Then1) where
-  one : c.before.before.before.before.args.times ≡ 1
-  one = c.if1.true
+module _ (c : tie.Then-times-eq1) where
+  one : c.args.times ≡ 1
+  one = c.if-times-eq1.true
 
-  fits : length c.before.before.before.before.args.line.now ≤ length
-      c.before.before.before.before.args.out.now
+  fits : length c.args.line.now ≤ length
+      c.args.out.now
   fits =
-      let w = length c.before.before.before.before.args.line.now in
-      omega (arith, c.before.before.before.before.requires, ap (λ (k : ℕ). k * w) one, one-mul w)
+      let w = length c.args.line.now in
+      omega (arith, c.requires, ap (λ (k : ℕ). k * w) one, one-mul w)
 
-  lent : length (take (length c.before.before.before.before.args.line.now)
-      c.before.before.before.before.args.out.now)
-      ≡ length c.before.before.before.before.args.line.now
-  lent = length-take-le (length c.before.before.before.before.args.line.now)
-      c.before.before.before.before.args.out.now fits
+  lent : length (take (length c.args.line.now)
+      c.args.out.now)
+      ≡ length c.args.line.now
+  lent = length-take-le (length c.args.line.now)
+      c.args.out.now fits
 
-returns : tie.Need-returns
+returns : tie.Need-returns-then-times-eq1
 returns c =
-    let a = c.before.before.before.before.before.before.before.before.args in
-    let u = c.before.before.unpack-line in
+    let a = c.args in
+    let u = c.unpack_line in
     let e = c.before.before.before.before in
     let same : fill_line a.pattern a.file.now a.first (length (take (length a.line.now) a.out.now))
     ≡ fill_line a.pattern a.file.now a.first (length a.line.now) =
@@ -48,7 +48,7 @@ returns c =
       λ next g.
           over-cut (fill_line a.pattern a.file.now a.first
           (length (take (length a.line.now) a.out.now))).made
-          a.out.now u.new.1.1.1.0 (length a.line.now) u.auto.1.1.1.0 u.ensures.1
+          a.out.now u.new.line (length a.line.now) u.auto.line u.ensures.1
           ∙ ap (λ (f : Filling). over f.made a.out.now) same
           ∙ ap (λ (l : List ℕ). over l a.out.now)
           (sym (used-once (fill_line a.pattern a.file.now a.first (length a.line.now)).made)
@@ -56,29 +56,29 @@ returns c =
           (sym (one e))),
     )
 
-put-line-requires : tie.Need-put-line-requires
+put-line-requires : tie.Need-put_line-requires
 put-line-requires c κs =
-    let a = c.before.before.before.before.before.before.before.before.before.before.args in
-    rw c.before.before.before.before.unpack-line2.auto.1.1.1.0
-    c.before.before.before.before.before.before.before.before.before.before.requires
+    let a = c.args in
+    rw c.unpack_line-ended.auto.line
+    c.requires
 
-returns-2 : tie.Need-returns-2
+returns-2 : tie.Need-returns
 returns-2 c =
-    let far = c.before.before.before.before.before.before in
-    let a = far.before.before.before.before.before.before.before.args in
-    let u = c.before.before.before.before.before.before.before.unpack-line2 in
+    let far = c in
+    let a = far.args in
+    let u = c.unpack_line-ended in
     let f = fill_line a.pattern a.file.now a.first (length a.line.now) in (
       u.ensures.0,
       λ next g.
-          c.before.before.put-line.ensures
+          c.put_line.ensures
           ∙ ap (λ (l : List ℕ). over (repeated a.times l) a.out.now)
           (u.ensures.1
           ∙ over-whole f.made a.line.now
           (omega (arith, line-all a.pattern a.file.now a.first (length a.line.now) next g))),
     )
 
-pub unpack-times-spec : {M : Type 1} → statement M
-unpack-times-spec =
+pub unpack_times_spec : {M : Type 1} → statement M
+unpack_times_spec =
     tie.close
     (tie.spec
     (λ c. fits c)

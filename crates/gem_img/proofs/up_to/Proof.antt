@@ -5,14 +5,14 @@ use Rattle.gem_img.proofs.Header.{up-to-none, up-to-some}
 use Rattle.gem_img.proofs.up_to.Statement.{statement}
 use Rattle.gem_img.proofs.up_to.Tie as tie
 
-returns : tie.Need-returns
-returns c = let a = c.before.args in sym (up-to-none a.most a.n (omega arith))
+returns : tie.Need-returns-then-n-eq0
+returns c = let a = c.args in sym (up-to-none a.most a.n (omega arith))
 
-returns-2 : tie.Need-returns-2
-returns-2 c = let a = c.before.args in sym (up-to-some a.most a.n c.if1.false)
+returns-2 : tie.Need-returns
+returns-2 c = let a = c.args in sym (up-to-some a.most a.n c.if-n-eq0.false)
 
-pub up-to-spec : {M : Type 1} → statement M
-up-to-spec =
+pub up_to_spec : {M : Type 1} → statement M
+up_to_spec =
     tie.close
     (tie.spec
     returns

@@ -5,11 +5,11 @@ use borrow.Author.Rules.{rules}
 use Rattle.gem_img_records.proofs.byte_at.Statement.{statement}
 use Rattle.gem_img_records.proofs.byte_at.Tie as tie
 
-returns-2 : tie.Need-returns-2
-returns-2 c = sym (get_or-eq_default c.before.args.file.now 0 c.if1.false)
+returns-2 : tie.Need-returns-else-at-file
+returns-2 c = sym (get_or-eq_default c.args.file.now 0 c.if-at-file.false)
 
-pub byte-at-spec : {M : Type 1} → statement M
-byte-at-spec =
+pub byte_at_spec : {M : Type 1} → statement M
+byte_at_spec =
     tie.close
     (tie.spec
     (λ c. search rules)

@@ -7,12 +7,12 @@ use borrow.Author.Rules.{rules}
 use Rattle.gem_img_records.proofs.byte_behind.Statement.{statement}
 use Rattle.gem_img_records.proofs.byte_behind.Tie as tie
 
-returns-2 : tie.Need-returns-2
-returns-2 c = let a = c.before.before.args in sym
+returns-2 : tie.Need-returns
+returns-2 c = let a = c.args in sym
     (get_or-eq_default a.file.now 0 {n = a.at + 1} (omega arith))
 
-pub byte-behind-spec : {M : Type 1} → statement M
-byte-behind-spec =
+pub byte_behind_spec : {M : Type 1} → statement M
+byte_behind_spec =
     tie.close
     (tie.spec
     (λ c. search rules)

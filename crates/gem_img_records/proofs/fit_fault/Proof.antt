@@ -6,25 +6,25 @@ use borrow.Author.Rules.{rules}
 use Rattle.gem_img_records.proofs.fit_fault.Statement.{statement}
 use Rattle.gem_img_records.proofs.fit_fault.Tie as tie
 
-returns : tie.Need-returns
+returns : tie.Need-returns-then-room-line_len
 returns c =
-    let a = c.before.before.args in
-    sym (fit-crosses a.pattern a.r a.left a.room (omega (arith, c.before.line-len.ensures)))
+    let a = c.args in
+    sym (fit-crosses a.pattern a.r a.left a.room (omega (arith, c.line_len.ensures)))
 
-returns-2 : tie.Need-returns-2
+returns-2 : tie.Need-returns-then-left-packed_len
 returns-2 c =
-    let a = c.before.before.before.before.args in
-    sym (fit-ends a.pattern a.r a.left a.room (omega (arith, c.before.before.before.line-len.ensures))
-    (omega (arith, c.before.packed-len.ensures)))
+    let a = c.args in
+    sym (fit-ends a.pattern a.r a.left a.room (omega (arith, c.line_len.ensures))
+    (omega (arith, c.packed_len.ensures)))
 
-returns-3 : tie.Need-returns-3
+returns-3 : tie.Need-returns
 returns-3 c =
-    let a = c.before.before.before.before.args in
-    sym (fit-whole a.pattern a.r a.left a.room (omega (arith, c.before.before.before.line-len.ensures))
-    (omega (arith, c.before.packed-len.ensures)))
+    let a = c.args in
+    sym (fit-whole a.pattern a.r a.left a.room (omega (arith, c.line_len.ensures))
+    (omega (arith, c.packed_len.ensures)))
 
-pub fit-fault-spec : {M : Type 1} → statement M
-fit-fault-spec =
+pub fit_fault_spec : {M : Type 1} → statement M
+fit_fault_spec =
     tie.close
     (tie.spec
     (λ c κs. search rules)

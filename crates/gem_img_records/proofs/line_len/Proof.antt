@@ -7,22 +7,22 @@ use borrow.Author.Rules.{rules}
 use Rattle.gem_img_records.proofs.line_len.Statement.{statement}
 use Rattle.gem_img_records.proofs.line_len.Tie as tie
 
-mul-result : tie.Need-overflow-mul-result
+mul-result : tie.Need-overflow_mul-result
 mul-result c =
-    let m = c.before.r.given.0.0 in
-    let p = c.before.before.before.args.pattern in
+    let m = c.in-PatternRun.n in
+    let p = c.args.pattern in
     omega (arith, mul-le-mul {n₁ = m} {m₁ = p} {n₂ = 255} {m₂ = 65535} (omega arith) (omega arith))
 
-returns-2 : tie.Need-returns-2
-returns-2 c = sym (ap (line_len c.before.before.before.args.pattern) c.before.r.given.1)
+returns-2 : tie.Need-returns-in-PatternRun
+returns-2 c = sym (ap (line_len c.args.pattern) c.in-PatternRun.is)
 
-returns-4 : tie.Need-returns-4
+returns-4 : tie.Need-returns-in-SolidRun
 returns-4 c =
-    c.solid-len.ensures
-    ∙ sym (ap (line_len c.before.before.before.before.args.pattern) c.before.before.r3.given.1)
+    c.solid_len.ensures
+    ∙ sym (ap (line_len c.args.pattern) c.in-SolidRun.is)
 
-pub line-len-spec : {M : Type 1} → statement M
-line-len-spec =
+pub line_len_spec : {M : Type 1} → statement M
+line_len_spec =
     tie.close
     (tie.spec
     (λ c. search rules)

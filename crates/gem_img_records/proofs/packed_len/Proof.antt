@@ -5,14 +5,14 @@ use borrow.Author.Rules.{rules}
 use Rattle.gem_img_records.proofs.packed_len.Statement.{statement}
 use Rattle.gem_img_records.proofs.packed_len.Tie as tie
 
-returns-2 : tie.Need-returns-2
-returns-2 c = sym (ap (packed_len c.before.before.args.pattern) c.enum-told2.given.1)
+returns-2 : tie.Need-returns-in-PatternRun
+returns-2 c = sym (ap (packed_len c.args.pattern) c.in-PatternRun.is)
 
-returns-3 : tie.Need-returns-3
-returns-3 c = sym (ap (packed_len c.before.before.before.args.pattern) c.before.r.given.1)
+returns-3 : tie.Need-returns-in-Literal
+returns-3 c = sym (ap (packed_len c.args.pattern) c.in-Literal.is)
 
-pub packed-len-spec : {M : Type 1} → statement M
-packed-len-spec =
+pub packed_len_spec : {M : Type 1} → statement M
+packed_len_spec =
     tie.close
     (tie.spec
     (λ c. search rules)

@@ -14,49 +14,49 @@ made : (pattern : ℕ) (file out : List ℕ) (at : ℕ) {q r : Record} → q ≡
     → over (line_bytes pattern q file at) out ≡ over (line_bytes pattern r file at) out
 made pattern file out at e = ap (λ (r : Record). over (line_bytes pattern r file at) out) e
 
-put-pattern-requires : tie.Need-put-pattern-requires
+put-pattern-requires : tie.Need-put_pattern-requires
 put-pattern-requires c κs =
-    let a = c.before.before.before.before.before.before.args in
-    let e = c.before.before.r.given.1 in
+    let a = c.args in
+    let e = c.in-PatternRun.is in
     omega (arith, ap (packed_len a.pattern) e, ap (line_len a.pattern) e)
 
-put-part-requires : tie.Need-put-part-requires
+put-part-requires : tie.Need-put_part-requires
 put-part-requires c κs =
-    let a = c.before.before.before.before.before.before.args in
-    let e = c.before.before.r2.given.1 in
+    let a = c.args in
+    let e = c.in-Literal.is in
     omega (arith, ap (packed_len a.pattern) e, ap (line_len a.pattern) e)
 
-put-solid-requires : tie.Need-put-solid-requires
+put-solid-requires : tie.Need-put_solid-requires
 put-solid-requires c κs =
-    let a = c.before.before.before.before.before.before.before.before.args in
-    let e = c.before.before.before.before.r3.given.1 in
-    omega (arith, ap (line_len a.pattern) e, c.before.solid-len.ensures)
+    let a = c.args in
+    let e = c.in-SolidRun.is in
+    omega (arith, ap (line_len a.pattern) e, c.solid_len.ensures)
 
-returns-2 : tie.Need-returns-2
+returns-2 : tie.Need-returns-in-PatternRun
 returns-2 c =
-    let a = c.before.before.before.before.before.before.before.before.before.args in
-    let e = c.before.before.before.before.before.r.given.1 in
-    c.before.before.put-pattern.ensures ∙ made a.pattern a.file.now a.out.now a.at (sym e)
+    let a = c.args in
+    let e = c.in-PatternRun.is in
+    c.put_pattern.ensures ∙ made a.pattern a.file.now a.out.now a.at (sym e)
 
-returns-3 : tie.Need-returns-3
+returns-3 : tie.Need-returns-in-Literal
 returns-3 c =
-    let a = c.before.before.before.before.before.before.before.before.before.args in
-    let e = c.before.before.before.before.before.r2.given.1 in
-    c.before.before.put-part.ensures ∙ made a.pattern a.file.now a.out.now a.at (sym e)
+    let a = c.args in
+    let e = c.in-Literal.is in
+    c.put_part.ensures ∙ made a.pattern a.file.now a.out.now a.at (sym e)
 
-returns-4 : tie.Need-returns-4
+returns-4 : tie.Need-returns-in-SolidRun
 returns-4 c =
-    let a = c.before.before.before.before.before.before.before.before.before.before.before.args in
-    let e = c.before.before.before.before.before.before.before.r3.given.1 in
-    c.before.before.put-solid.ensures
+    let a = c.args in
+    let e = c.in-SolidRun.is in
+    c.put_solid.ensures
     ∙ rw (
-      c.before.before.before.before.solid-len.ensures,
-      c.before.before.before.before.before.solid-byte.ensures,
+      c.solid_len.ensures,
+      c.solid_byte.ensures,
     )
     (made a.pattern a.file.now a.out.now a.at (sym e))
 
-pub put-line-bytes-spec : {M : Type 1} → statement M
-put-line-bytes-spec =
+pub put_line_bytes_spec : {M : Type 1} → statement M
+put_line_bytes_spec =
     tie.close
     (tie.spec
     (λ c. search rules)

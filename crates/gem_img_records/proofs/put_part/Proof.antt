@@ -7,11 +7,11 @@ use Rattle.gem_img_records.proofs.put_part.Tie as tie
 
 returns : tie.Need-returns
 returns c =
-    let a = c.before.before.before.before.before.before.before.args in
-    copied-part a.source.now a.out.now _ a.from a.n _ refl c.before.before.copy.ensures.1
+    let a = c.args in
+    copied-part a.source.now a.out.now _ a.from a.n _ refl c.copy.ensures.1
 
-pub put-part-spec : {M : Type 1} → statement M
-put-part-spec =
+pub put_part_spec : {M : Type 1} → statement M
+put_part_spec =
     tie.close
     (tie.spec
     (λ c. search rules)

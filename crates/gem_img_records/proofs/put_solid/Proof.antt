@@ -8,16 +8,16 @@ use Rattle.lists.proofs.Over.{over-turn, over_done}
 use Rattle.gem_img_records.proofs.put_solid.Statement.{statement}
 use Rattle.gem_img_records.proofs.put_solid.Tie as tie
 
-abbrev invariant-loop : tie.invariant-loop
+abbrev invariant-loop : tie.invariant-loop-k
 invariant-loop byte n out₀ k₀ out k = (k ≤ n) × (length out ≡ length out₀) × (out ≡ over (take k (replicate n byte)) out₀)
 
-abbrev decreases-loop : tie.decreases-loop
+abbrev decreases-loop : tie.decreases-loop-k
 decreases-loop byte n out₀ k₀ out k = n - k
 
-loop-again : tie.Need-loop-preserved invariant-loop decreases-loop
+loop-again : tie.Need-loop-k-preserved invariant-loop decreases-loop
 loop-again c =
-    let l = c.before.loop in
-    let a = c.before.before.args in (
+    let l = c.loop-k in
+    let a = c.args in (
       omega arith,
       length-set l.out _ _ ∙ l.invariant.1,
       over-turn (replicate a.n a.byte) a.out.now l.out l.k a.byte 0
@@ -27,13 +27,13 @@ loop-again c =
 
 returns : tie.Need-returns invariant-loop decreases-loop
 returns c =
-    let l = c.before.loop in
-    let a = c.before.before.args in
+    let l = c.loop-k in
+    let a = c.args in
     over_done (replicate a.n a.byte) a.out.now l.out l.k
     (omega (arith, length-replicate a.n a.byte)) l.invariant.2
 
-pub put-solid-spec : {M : Type 1} → statement M
-put-solid-spec =
+pub put_solid_spec : {M : Type 1} → statement M
+put_solid_spec =
     tie.close
     (tie.spec
     invariant-loop

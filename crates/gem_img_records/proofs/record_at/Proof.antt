@@ -6,12 +6,12 @@ use Rattle.gem_img_records.proofs.record_at.Tie as tie
 
 returns : tie.Need-returns
 returns c =
-    let a = c.before.before.before.before.args in
-    record-control a.file.now a.at _ _ _ c.before.before.byte_at.ensures c.before.byte-behind.ensures
+    let a = c.args in
+    record-control a.file.now a.at _ _ _ c.byte_at-x.ensures c.byte_behind-n.ensures
     c.control.ensures
 
-pub record-at-spec : {M : Type 1} → statement M
-record-at-spec =
+pub record_at_spec : {M : Type 1} → statement M
+record_at_spec =
     tie.close
     (tie.spec
     (λ c κs. search rules)

@@ -6,15 +6,15 @@ use borrow.Author.Rules.{rules}
 use Rattle.gem_img_records.proofs.refusal_at.Statement.{statement}
 use Rattle.gem_img_records.proofs.refusal_at.Tie as tie
 
-returns : tie.Need-returns
-returns c = let a = c.before.before.args in c.refuse.ensures ∙ rw (eq-eqb a.number 22 (omega arith))
+returns : tie.Need-returns-then-number-eq-WRONG_SCANLINE_RUN
+returns c = let a = c.args in c.refuse.ensures ∙ rw (eq-eqb a.number 22 (omega arith))
 
-returns-2 : tie.Need-returns-2
-returns-2 c = let a = c.before.before.args in c.refuse-at.ensures ∙ rw
-    (ne_eqb a.number 22 c.before.if1.false)
+returns-2 : tie.Need-returns
+returns-2 c = let a = c.args in c.refuse_at.ensures ∙ rw
+    (ne_eqb a.number 22 c.if-number-eq-WRONG_SCANLINE_RUN.false)
 
-pub refusal-at-spec : {M : Type 1} → statement M
-refusal-at-spec =
+pub refusal_at_spec : {M : Type 1} → statement M
+refusal_at_spec =
     tie.close
     (tie.spec
     (λ c κs. search rules)

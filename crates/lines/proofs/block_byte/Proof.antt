@@ -4,13 +4,13 @@ use borrow.Author.Rules.{rules}
 use Rattle.lines.proofs.block_byte.Statement.{statement}
 use Rattle.lines.proofs.block_byte.Tie as tie
 
-pub block-byte-spec : {M : Type 1} → statement M
-block-byte-spec =
+pub block_byte_spec : {M : Type 1} → statement M
+block_byte_spec =
     tie.close
     (tie.spec
     (λ c. search rules)
     (λ c κs. search rules)
     (λ c. search rules)
     (λ c κs. search rules)
-    (λ c. rw (eq-eqb _ _ c.before.if1.true) c.byte_of.ensures)
-    (λ c. rw (ne_eqb _ _ c.before.if1.false) c.byte-of2.ensures))
+    (λ c. rw (eq-eqb _ _ c.if-i-eq0.true) c.byte_of.ensures)
+    (λ c. rw (ne_eqb _ _ c.if-i-eq0.false) c.byte_of-else-i-eq0.ensures))

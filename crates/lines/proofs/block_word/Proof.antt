@@ -15,28 +15,28 @@ one-plane width (inl e) a b = absurd (a e)
 one-plane width (inr (inl e)) a b = absurd (b e)
 one-plane width (inr (inr e)) a b = e
 
-returns : tie.Need-returns
+returns : tie.Need-returns-then-width-eq32
 unfolding block_word
-returns c = rw (eq-eqb _ _ c.before.if1.true) c.two-groups.ensures
+returns c = rw (eq-eqb _ _ c.if-width-eq32.true) c.two_groups.ensures
 
-returns-2 : tie.Need-returns-2
+returns-2 : tie.Need-returns-then-width-eq64
 unfolding block_word
 returns-2 c =
-    rw (ne_eqb _ _ c.before.before.if1.false, eq-eqb _ _ c.before.if2.true) c.four-groups.ensures
+    rw (ne_eqb _ _ c.if-width-eq32.false, eq-eqb _ _ c.if-width-eq64.true) c.four_groups.ensures
 
-eight-groups-requires : tie.Need-eight-groups-requires
+eight-groups-requires : tie.Need-eight_groups-requires
 eight-groups-requires c κs =
     let o = c.before.before.before in
-    let one = one-plane o.args.width o.requires.1 c.before.if1.false c.if2.false in
+    let one = one-plane o.args.width o.requires.1 c.if-width-eq32.false c.if-width-eq64.false in
     omega (arith, one, o.requires.0)
 
-returns-3 : tie.Need-returns-3
+returns-3 : tie.Need-returns
 unfolding block_word
 returns-3 c =
-    rw (ne_eqb _ _ c.before.before.if1.false, ne_eqb _ _ c.before.if2.false) c.eight-groups.ensures
+    rw (ne_eqb _ _ c.if-width-eq32.false, ne_eqb _ _ c.if-width-eq64.false) c.eight_groups.ensures
 
-pub block-word-spec : {M : Type 1} → statement M
-block-word-spec =
+pub block_word_spec : {M : Type 1} → statement M
+block_word_spec =
     tie.close
     (tie.spec
     (λ c κs. search rules)

@@ -9,15 +9,15 @@ returns c =
     let right = c.before.before in
     let left = right.before.before.before.before in
     let columns = left.before.before in
-    let a = columns.before.before.before.before.args in
+    let a = columns.args in
     group-columns a.screen.now a.out.now _ _ a.at a.planes a.x _ _ (search rules)
-    columns.before.spread-column.ensures
-    columns.spread-column2.ensures
-    left.put-eight.ensures
-    right.put-eight2.ensures
+    columns.spread_column-left.ensures
+    columns.spread_column-right.ensures
+    left.put_eight.ensures
+    right.put_eight-2.ensures
 
-pub copy-group-spec : {M : Type 1} → statement M
-copy-group-spec =
+pub copy_group_spec : {M : Type 1} → statement M
+copy_group_spec =
     tie.close
     (tie.spec
     (λ c κs. search rules)

@@ -16,34 +16,34 @@ use Rattle.lines.proofs.Screens.{line-place, first_lines, lines-turn}
 use Rattle.lines.proofs.copy_lines.Statement.{statement}
 use Rattle.lines.proofs.copy_lines.Tie as tie
 
-abbrev invariant-loop : tie.invariant-loop
+abbrev invariant-loop : tie.invariant-loop-y
 invariant-loop table screen r out₀ width height y₀ out y =
     (y ≤ height) × (length out ≡ length out₀) × (out ≡ over (first_lines screen r y) out₀)
 
-abbrev decreases-loop : tie.decreases-loop
+abbrev decreases-loop : tie.decreases-loop-y
 decreases-loop table screen r out₀ width height y₀ out y = height - y
 
-loop-holds : tie.Need-loop-init invariant-loop decreases-loop
+loop-holds : tie.Need-loop-y-init invariant-loop decreases-loop
 unfolding flatten
 loop-holds c = search rules
 
 -- the next line's registers fit what is left of the output
-place_here : (c : tie.In-loop invariant-loop decreases-loop) → let w = c.before.before.before.width.result in
-    c.before.loop.y * w + w ≤ length c.before.loop.out
+place_here : (c : tie.In-loop-y invariant-loop decreases-loop) → let w = c.width-width.result in
+    c.loop-y.y * w + w ≤ length c.loop-y.out
 place_here c =
     let h = c.before.before in
-    let w = h.before.width in
-    let a = h.before.before.before.before.args in
-    omega (arith, line-place a.r c.before.loop.y w.result _ w.ensures h.height.ensures (omega arith))
+    let w = h.width-width in
+    let a = h.args in
+    omega (arith, line-place a.r c.loop-y.y w.result _ w.ensures h.height-height.ensures (omega arith))
 
-sub-fill-line : tie.Need-overflow-sub-fill-line invariant-loop decreases-loop
+sub-fill-line : tie.Need-slice_bounds-fill_line-count invariant-loop decreases-loop
 sub-fill-line c = omega (arith, place_here c)
 
-fill-line-requires : tie.Need-fill-line-requires invariant-loop decreases-loop
+fill-line-requires : tie.Need-fill_line-requires invariant-loop decreases-loop
 fill-line-requires c κs =
-    let l = c.before.before.loop in
-    let n = c.before.before.before.before.width.result in
-    let h = c.before.before.before.before.before.before.before.requires in
+    let l = c.loop-y in
+    let n = c.width-width.result in
+    let h = c.requires in
     let o = l.out in (
       h.0,
       h.1,
@@ -51,32 +51,32 @@ fill-line-requires c κs =
       omega (arith, place_here c.before, ap length (tail-part o (l.y * n)), length-drop (l.y * n) o),
     )
 
-loop-again : tie.Need-loop-preserved invariant-loop decreases-loop
+loop-again : tie.Need-loop-y-preserved invariant-loop decreases-loop
 loop-again c =
     let p = c.before.before in
-    let l = p.before.before.before.loop in
+    let l = p.loop-y in
     let i = l.invariant in
-    let w = p.before.before.before.before.before.width in
-    let a = p.before.before.before.before.before.before.before.before.args in
+    let w = p.width-width in
+    let a = p.args in
     let h : l.y < height_of a.r = omega arith in (
       omega arith,
       search rules,
       lines-turn a.screen.now a.r l.y (l.y * w.result) a.out.now l.out _ h
-          (ap (λ (m : ℕ). l.y * m) w.ensures) i.2 p.fill-line.ensures,
+          (ap (λ (m : ℕ). l.y * m) w.ensures) i.2 p.fill_line.ensures,
     )
 
 returns : tie.Need-returns invariant-loop decreases-loop
 unfolding screen_registers
 returns c =
-    let l = c.before.loop in
-    let a = c.before.before.before.before.before.before.args in
+    let l = c.loop-y in
+    let a = c.args in
     let all : height_of a.r ≤ l.y = omega arith in
     let whole = take_all l.y (line_numbers a.r) (omega (arith, length-tabulate (height_of a.r) (λ y. y))) in
     l.invariant.2
     ∙ ap (λ (ys : List ℕ). over (flatten (map (scan_line a.screen.now a.r) ys)) a.out.now) whole
 
-pub copy-lines-spec : {M : Type 1} → statement M
-copy-lines-spec =
+pub copy_lines_spec : {M : Type 1} → statement M
+copy_lines_spec =
     tie.close
     (tie.spec
     invariant-loop

@@ -10,10 +10,10 @@ returns : tie.Need-returns
 unfolding eight_groups
 returns c =
     c.joined.ensures
-    ∙ ap₂ (λ (i j : ℕ). joined_word i 4 j) c.before.before.four-groups.ensures c.before.four-groups2.ensures
+    ∙ ap₂ (λ (i j : ℕ). joined_word i 4 j) c.four_groups.ensures c.four_groups-2.ensures
 
-pub eight-groups-spec : {M : Type 1} → statement M
-eight-groups-spec =
+pub eight_groups_spec : {M : Type 1} → statement M
+eight_groups_spec =
     tie.close
     (tie.spec
     (λ c. search rules)

@@ -9,8 +9,8 @@ returns : tie.Need-returns
 unfolding eight_registers
 returns c = omega arith
 
-pub eight-registers-spec : {M : Type 1} → statement M
-eight-registers-spec =
+pub eight_registers_spec : {M : Type 1} → statement M
+eight_registers_spec =
     tie.close
     (tie.spec
     (λ c κs. search rules)

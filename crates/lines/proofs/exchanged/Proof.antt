@@ -9,5 +9,8 @@ returns : tie.Need-returns
 unfolding exchange
 returns c = refl
 
-pub exchanged-spec : {M : Type 1} → statement M
-exchanged-spec = tie.close (tie.spec (λ c. search rules) (λ c. search rules) returns)
+pub exchanged_spec : {M : Type 1} → statement M
+exchanged_spec = tie.close (tie.spec
+    (λ c. search rules)
+    (λ c. search rules)
+    returns)

@@ -31,54 +31,54 @@ module _ {r q : Resolution} (e : r ≡ q) where
       ap (λ (l : List ℕ). over l out)
       (groups_line-scan_line s q y bytes ∙ ap (λ (r : Resolution). scan_line s r y) (sym e))
 
-copy-groups-requires : tie.Need-copy-groups-requires
+copy-groups-requires : tie.Need-copy_groups-requires
 copy-groups-requires c κs =
-    let p = c.before.before.before.before.before.requires in
-    let w = fits {q = Low} c.before.enum_told.given.1 _ _ p.2 p.3 in
+    let p = c.requires in
+    let w = fits {q = Low} c.in-Low.is _ _ p.2 p.3 in
     ((p.0, omega arith, omega arith, w.0), (omega arith, omega arith, w.1))
 
-copy-groups-requires-2 : tie.Need-copy-groups-requires-2
+copy-groups-requires-2 : tie.Need-copy_groups-requires-in-Medium
 copy-groups-requires-2 c κs =
-    let p = c.before.before.before.before.before.requires in
-    let w = fits {q = Medium} c.before.enum-told2.given.1 _ _ p.2 p.3 in
+    let p = c.requires in
+    let w = fits {q = Medium} c.in-Medium.is _ _ p.2 p.3 in
     ((p.0, omega arith, omega arith, w.0), (omega arith, omega arith, w.1))
 
-copy-groups-requires-3 : tie.Need-copy-groups-requires-3
+copy-groups-requires-3 : tie.Need-copy_groups-requires-in-High
 copy-groups-requires-3 c κs =
-    let p = c.before.before.before.before.before.requires in
-    let w = fits {q = High} c.before.enum-told3.given.1 _ _ p.2 p.3 in
+    let p = c.requires in
+    let w = fits {q = High} c.in-High.is _ _ p.2 p.3 in
     ((p.0, omega arith, omega arith, w.0), (omega arith, omega arith, w.1))
 
-returns : tie.Need-returns
+returns : tie.Need-returns-in-Low
 returns c =
-    let bytes = c.before.before.before.before.before.before.before.shared-slice-known.given in
-    c.before.before.copy-groups.ensures
-    ∙ copied {q = Low} c.before.before.before.before.enum_told.given.1 _ _ _ (λ n. (bytes n).fits)
+    let bytes = c.shared_slice_known-1.given in
+    c.copy_groups.ensures
+    ∙ copied {q = Low} c.in-Low.is _ _ _ (λ n. (bytes n).fits)
 
-returns-2 : tie.Need-returns-2
+returns-2 : tie.Need-returns-in-Medium
 returns-2 c =
-    let bytes = c.before.before.before.before.before.before.before.shared-slice-known.given in
-    c.before.before.copy-groups2.ensures
-    ∙ copied {q = Medium} c.before.before.before.before.enum-told2.given.1 _ _ _ (λ n. (bytes n).fits)
+    let bytes = c.shared_slice_known-1.given in
+    c.copy_groups-in-Medium.ensures
+    ∙ copied {q = Medium} c.in-Medium.is _ _ _ (λ n. (bytes n).fits)
 
-returns-3 : tie.Need-returns-3
+returns-3 : tie.Need-returns-in-High
 returns-3 c =
-    let bytes = c.before.before.before.before.before.before.before.shared-slice-known.given in
-    c.before.before.copy-groups3.ensures
-    ∙ copied {q = High} c.before.before.before.before.enum-told3.given.1 _ _ _ (λ n. (bytes n).fits)
+    let bytes = c.shared_slice_known-1.given in
+    c.copy_groups-in-High.ensures
+    ∙ copied {q = High} c.in-High.is _ _ _ (λ n. (bytes n).fits)
 
-pub fill-line-spec : {M : Type 1} → statement M
-fill-line-spec =
+pub fill_line_spec : {M : Type 1} → statement M
+fill_line_spec =
     tie.close
     (tie.spec
     (λ c. search rules)
-    (λ c. omega (arith, height-le c.before.before.before.before.args.r))
+    (λ c. omega (arith, height-le c.args.r))
     copy-groups-requires
     (λ c. search rules)
-    (λ c. omega (arith, height-le c.before.before.before.before.args.r))
+    (λ c. omega (arith, height-le c.args.r))
     copy-groups-requires-2
     (λ c. search rules)
-    (λ c. omega (arith, height-le c.before.before.before.before.args.r))
+    (λ c. omega (arith, height-le c.args.r))
     copy-groups-requires-3
     (λ c. search rules)
     returns

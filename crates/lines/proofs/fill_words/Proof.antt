@@ -14,35 +14,35 @@ use Rattle.lines.proofs.Pieces.{piece-within}
 use Rattle.lines.proofs.fill_words.Statement.{statement}
 use Rattle.lines.proofs.fill_words.Tie as tie
 
-abbrev invariant-loop : tie.invariant-loop
+abbrev invariant-loop : tie.invariant-loop-b
 invariant-loop words₀ registers width blocks b₀ words b =
     (b ≤ blocks) × (words ≡ over (take (b * 2) (tabulate (blocks * 2) (line_word registers width))) words₀)
 
-abbrev decreases-loop : tie.decreases-loop
+abbrev decreases-loop : tie.decreases-loop-b
 decreases-loop words₀ registers width blocks b₀ words b = blocks - b
 
-within-here : (c : tie.In-loop invariant-loop decreases-loop)
-    → c.before.loop.b * c.before.before.before.args.width + c.before.before.before.args.width
-    ≤ c.before.before.before.args.blocks * c.before.before.before.args.width
+within-here : (c : tie.In-loop-b invariant-loop decreases-loop)
+    → c.loop-b.b * c.args.width + c.args.width
+    ≤ c.args.blocks * c.args.width
 within-here c =
-    let a = c.before.before.before.args in
-    piece-within c.before.loop.b a.blocks a.width (omega arith)
+    let a = c.args in
+    piece-within c.loop-b.b a.blocks a.width (omega arith)
 
-block-word-requires-2 : tie.Need-block-word-requires-2 invariant-loop decreases-loop
+block-word-requires-2 : tie.Need-block_word-requires-in-loop-b invariant-loop decreases-loop
 block-word-requires-2 c κs =
-    (omega (arith, within-here c.before), c.before.before.before.before.requires.1)
+    (omega (arith, within-here c.before.before), c.requires.1)
 
-loop-again : tie.Need-loop-preserved invariant-loop decreases-loop
+loop-again : tie.Need-loop-b-preserved invariant-loop decreases-loop
 loop-again c =
-    let l = c.before.before.before.loop in
-    let a = c.before.before.before.before.before.args in
+    let l = c.loop-b in
+    let a = c.args in
     let s = a.registers.now in
     let d = a.words.now in
     let n : ℕ = a.blocks * 2 in
     let k : ℕ = l.b * 2 in
     let f : ℕ → ℕ = line_word s a.width in
-    let left = c.before.block-word in
-    let right = c.block-word2 in
+    let left = c.block_word in
+    let right = c.block_word-in-loop-b in
     let one = tabulate-turn n f d l.words k left.result (omega arith) (omega arith) l.invariant.1
     (left.ensures ∙ line_word-left s a.width l.b) in
     let w = set l.words k left.result in
@@ -55,26 +55,26 @@ loop-again c =
 
 returns : tie.Need-returns invariant-loop decreases-loop
 returns c =
-    let l = c.before.loop in
-    let a = c.before.before.before.args in
+    let l = c.loop-b in
+    let a = c.args in
     let f : ℕ → ℕ = line_word a.registers.now a.width in
     over_done (tabulate (a.blocks * 2) f) a.words.now l.words (l.b * 2)
     (omega (arith, length-tabulate (a.blocks * 2) f)) l.invariant.1
 
-pub fill-words-spec : {M : Type 1} → statement M
-fill-words-spec =
+pub fill_words_spec : {M : Type 1} → statement M
+fill_words_spec =
     tie.close
     (tie.spec
     invariant-loop
     decreases-loop
     (λ c. search rules)
     (λ c. omega (arith, within-here c))
-    (λ c κs. (omega (arith, within-here c), c.before.before.before.requires.1))
+    (λ c κs. (omega (arith, within-here c), c.requires.1))
     (λ c. search rules)
     (λ c. search rules)
     (λ c. search rules)
-    (λ c. omega (arith, within-here c.before))
-    (λ c. omega (arith, within-here c.before))
+    (λ c. omega (arith, within-here c.before.before))
+    (λ c. omega (arith, within-here c.before.before))
     block-word-requires-2
     (λ c. search rules)
     (λ c. search rules)

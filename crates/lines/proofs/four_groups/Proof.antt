@@ -9,14 +9,14 @@ use Rattle.lines.proofs.four_groups.Tie as tie
 returns : tie.Need-returns
 unfolding four_groups
 returns c =
-    let a = c.before.before.before.before.args in
+    let a = c.args in
     c.joined.ensures
     ∙ ap₂ (λ (i j : ℕ). joined_word i (a.planes * 2) j)
-    c.before.before.two-groups.ensures
-    c.before.two-groups2.ensures
+    c.two_groups.ensures
+    c.two_groups-2.ensures
 
-pub four-groups-spec : {M : Type 1} → statement M
-four-groups-spec =
+pub four_groups_spec : {M : Type 1} → statement M
+four_groups_spec =
     tie.close
     (tie.spec
     (λ c. search rules)

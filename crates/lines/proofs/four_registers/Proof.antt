@@ -9,8 +9,8 @@ returns : tie.Need-returns
 unfolding four_registers
 returns c = omega arith
 
-pub four-registers-spec : {M : Type 1} → statement M
-four-registers-spec =
+pub four_registers_spec : {M : Type 1} → statement M
+four_registers_spec =
     tie.close
     (tie.spec
     (λ c. search rules)

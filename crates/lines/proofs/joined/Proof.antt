@@ -9,5 +9,7 @@ returns : tie.Need-returns
 unfolding joined_word
 returns c = refl
 
-pub joined-spec : {M : Type 1} → statement M
-joined-spec = tie.close (tie.spec (λ c. search rules) returns)
+pub joined_spec : {M : Type 1} → statement M
+joined_spec = tie.close (tie.spec
+    (λ c. search rules)
+    returns)

@@ -9,29 +9,29 @@ use Rattle.resolution.specs.Shapes.{height_of, width_of}
 use Rattle.lines.proofs.line_out_at.Statement.{statement}
 use Rattle.lines.proofs.line_out_at.Tie as tie
 
-returns : tie.Need-returns
+returns : tie.Need-returns-then-height-line
 returns c =
-    let a = c.before.before.before.before.before.args in
+    let a = c.args in
     let y : height_of a.r ≤ a.line = omega arith in
     simp (le-leb _ _ y) (c.refuse.ensures, refl)
 
-returns-2 : tie.Need-returns-2
+returns-2 : tie.Need-returns-then-out-width
 returns-2 c =
-    let a = c.before.before.before.before.before.before.before.args in
+    let a = c.args in
     let y : a.line < height_of a.r = omega arith in
     let x : length a.out.now < width_of a.r = omega arith in
-    simp (lt-leb _ _ y, lt-ltb _ _ x) (c.refuse2.ensures, refl)
+    simp (lt-leb _ _ y, lt-ltb _ _ x) (c.refuse-then-out-width.ensures, refl)
 
-returns-3 : tie.Need-returns-3
+returns-3 : tie.Need-returns
 returns-3 c =
     let l = c.before.before.before in
-    let a = l.before.before.before.before.before.before.before.before.before.before.args in
+    let a = l.args in
     let y : a.line < height_of a.r = omega arith in
     let x : width_of a.r ≤ length a.out.now = omega arith in
-    simp (lt-leb _ _ y, le-ltb _ _ x) (c.none.ensures, l.fill-line.ensures)
+    simp (lt-leb _ _ y, le-ltb _ _ x) (c.none.ensures, l.fill_line.ensures)
 
-pub line-out-at-spec : {M : Type 1} → statement M
-line-out-at-spec =
+pub line_out_at_spec : {M : Type 1} → statement M
+line_out_at_spec =
     tie.close
     (tie.spec
     (λ c κs. search rules)

@@ -27,18 +27,21 @@ module _ (n : ℕ) (f : ℕ → ℕ) (d w : List ℕ) (few : n ≤ 20) (is : w �
       ∙ get_or-over-in (tabulate n f) d i 0 (omega (arith, length-tabulate n f))
       ∙ get_d_tabulate n f i 0 h)
 
-turn-words-requires : tie.Need-turn-words-requires
+turn-words-requires : tie.Need-turn_words-requires
 turn-words-requires c κs =
-    let a = c.before.before.before.before.args in
+    let a = c.args in
     filled-length (a.blocks * 2) (line_word a.registers.now a.width) _ _ (omega arith)
-    c.before.fill-words.ensures refl
+    c.fill_words.ensures refl
 
 returns : tie.Need-returns
 returns c =
     let f = c.before.before in
-    let a = f.before.before.before.args in
-    turned-word (a.blocks * 2) (line_word a.registers.now a.width) _ _ (omega arith) f.fill-words.ensures _
-    c.turn-words.ensures
+    let a = f.args in
+    turned-word (a.blocks * 2) (line_word a.registers.now a.width) _ _ (omega arith) f.fill_words.ensures _
+    c.turn_words.ensures
 
-pub line-words-spec : {M : Type 1} → statement M
-line-words-spec = tie.close (tie.spec (λ c κs. search rules) turn-words-requires returns)
+pub line_words_spec : {M : Type 1} → statement M
+line_words_spec = tie.close (tie.spec
+    (λ c κs. search rules)
+    turn-words-requires
+    returns)

@@ -7,13 +7,17 @@ use borrow.Author.Rules.{rules}
 use Rattle.lines.proofs.pixels.Statement.{statement}
 use Rattle.lines.proofs.pixels.Tie as tie
 
-mul-result : tie.Need-overflow-mul-result
+mul-result : tie.Need-overflow_mul-result
 mul-result c =
-    let e = ap₂ (λ (a b : ℕ). a * b) c.before.height.ensures c.width.ensures in
-    omega (arith, e, pixels-le c.before.before.args.r)
+    let e = ap₂ (λ (a b : ℕ). a * b) c.height.ensures c.width.ensures in
+    omega (arith, e, pixels-le c.args.r)
 
 returns : tie.Need-returns
-returns c = ap₂ (λ (a b : ℕ). a * b) c.before.height.ensures c.width.ensures
+returns c = ap₂ (λ (a b : ℕ). a * b) c.height.ensures c.width.ensures
 
-pub pixels-spec : {M : Type 1} → statement M
-pixels-spec = tie.close (tie.spec (λ c κs. search rules) (λ c κs. search rules) mul-result returns)
+pub pixels_spec : {M : Type 1} → statement M
+pixels_spec = tie.close (tie.spec
+    (λ c κs. search rules)
+    (λ c κs. search rules)
+    mul-result
+    returns)

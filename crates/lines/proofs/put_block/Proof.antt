@@ -11,37 +11,37 @@ use Rattle.lines.specs.Blocks.{block_byte}
 use Rattle.lines.proofs.put_block.Statement.{statement}
 use Rattle.lines.proofs.put_block.Tie as tie
 
-abbrev invariant-loop : tie.invariant-loop
+abbrev invariant-loop : tie.invariant-loop-i
 invariant-loop left right screen₀ at i₀ screen i =
     (i ≤ 16) × (length screen ≡ length screen₀)
     × (screen ≡ over_at at (take i (tabulate 16 (block_byte left right))) screen₀)
 
-abbrev decreases-loop : tie.decreases-loop
+abbrev decreases-loop : tie.decreases-loop-i
 decreases-loop left right screen₀ at i₀ screen i = 16 - i
 
-loop-holds : tie.Need-loop-init invariant-loop decreases-loop
+loop-holds : tie.Need-loop-i-init invariant-loop decreases-loop
 loop-holds c =
-    let a = c.before.args in
+    let a = c.args in
     (omega arith, refl, sym (take-append-drop a.at a.screen.now))
 
-loop-again : tie.Need-loop-preserved invariant-loop decreases-loop
+loop-again : tie.Need-loop-i-preserved invariant-loop decreases-loop
 loop-again c =
-    let l = c.before.before.loop in
-    let a = c.before.before.before.before.args in (
+    let l = c.loop-i in
+    let a = c.args in (
       omega arith,
       simp length-set (omega arith),
-      over_at-tabulate-turn a.at 16 _ _ _ l.i _ (omega arith) (omega arith) l.invariant.2 c.block-byte.ensures,
+      over_at-tabulate-turn a.at 16 _ _ _ l.i _ (omega arith) (omega arith) l.invariant.2 c.block_byte.ensures,
     )
 
 returns : tie.Need-returns invariant-loop decreases-loop
 returns c =
-    let l = c.before.loop in
-    let a = c.before.before.before.args in
+    let l = c.loop-i in
+    let a = c.args in
     over_at-tabulate-done a.at 16 (block_byte a.left a.right) a.screen.now l.screen l.i (omega arith)
     l.invariant.2
 
-pub put-block-spec : {M : Type 1} → statement M
-put-block-spec =
+pub put_block_spec : {M : Type 1} → statement M
+put_block_spec =
     tie.close
     (tie.spec
     invariant-loop

@@ -45,69 +45,69 @@ module _ {r q : Resolution} (e : r ≡ q) where
       (tabulate-ext (line_bytes_of q) f (line_byte q line) (λ i h. is i h ∙ groups_byte-line q line i))
       ∙ ap (λ (p : Resolution). with_line s p y line) (sym e)
 
-put-words-requires : tie.Need-put-words-requires
+put-words-requires : tie.Need-put_words-requires
 put-words-requires c κs =
     let t = c.before.before.before in
-    let inside = in-screen {q = Low} t.enum_told.given.1 _ t.before.before.before.before.requires.0.1 in
+    let inside = in-screen {q = Low} t.in-Low.is _ t.requires.0.1 in
     (omega arith, inside, omega arith)
 
-put-words-requires-2 : tie.Need-put-words-requires-2
+put-words-requires-2 : tie.Need-put_words-requires-in-Medium
 put-words-requires-2 c κs =
     let t = c.before.before.before in
-    let inside = in-screen {q = Medium} t.enum-told2.given.1 _ t.before.before.before.before.requires.0.1 in
+    let inside = in-screen {q = Medium} t.in-Medium.is _ t.requires.0.1 in
     (omega arith, inside, omega arith)
 
-put-words-requires-3 : tie.Need-put-words-requires-3
+put-words-requires-3 : tie.Need-put_words-requires-in-High
 put-words-requires-3 c κs =
     let t = c.before.before.before in
-    let inside = in-screen {q = High} t.enum-told3.given.1 _ t.before.before.before.before.requires.0.1 in
+    let inside = in-screen {q = High} t.in-High.is _ t.requires.0.1 in
     (omega arith, inside, omega arith)
 
-returns : tie.Need-returns
+returns : tie.Need-returns-in-Low
 returns c =
     let w = c.before.before.before.before.before in
-    let e = w.before.enum_told.given.1 in
-    let o = w.before.before.before.before.before in
+    let e = w.in-Low.is in
+    let o = w.before.before.before.before in
     let fit = below {q = Low} e o.args.registers.now o.requires.1 in
-    c.before.before.put-words.ensures
+    c.put_words.ensures
     ∙ made {q = Low} e _ _ _
-    (words-groups _ 32 (inl refl) 10 w.line-words.result w.line-words.ensures fit)
+    (words-groups _ 32 (inl refl) 10 w.line_words.result w.line_words.ensures fit)
 
-returns-2 : tie.Need-returns-2
+returns-2 : tie.Need-returns-in-Medium
 returns-2 c =
     let w = c.before.before.before.before.before in
-    let e = w.before.enum-told2.given.1 in
-    let o = w.before.before.before.before.before in
+    let e = w.in-Medium.is in
+    let o = w.before.before.before.before in
     let fit = below {q = Medium} e o.args.registers.now o.requires.1 in
-    c.before.before.put-words2.ensures
+    c.put_words-in-Medium.ensures
     ∙ made {q = Medium} e _ _ _
-    (words-groups _ 64 (inr (inl refl)) 10 w.line-words2.result w.line-words2.ensures fit)
+    (words-groups _ 64 (inr (inl refl)) 10 w.line_words-in-Medium.result w.line_words-in-Medium.ensures fit)
 
-returns-3 : tie.Need-returns-3
+returns-3 : tie.Need-returns-in-High
 returns-3 c =
     let w = c.before.before.before.before.before in
-    let e = w.before.enum-told3.given.1 in
-    let o = w.before.before.before.before.before in
+    let e = w.in-High.is in
+    let o = w.before.before.before.before in
     let fit = below {q = High} e o.args.registers.now o.requires.1 in
-    c.before.before.put-words3.ensures
+    c.put_words-in-High.ensures
     ∙ made {q = High} e _ _ _
-    (words-groups _ 128 (inr (inr refl)) 5 w.line-words3.result w.line-words3.ensures fit)
+    (words-groups _ 128 (inr (inr refl)) 5 w.line_words-in-High.result w.line_words-in-High.ensures fit)
 
-pub put-line-spec : {M : Type 1} → statement M
-put-line-spec =
+pub put_line_spec : {M : Type 1} → statement M
+put_line_spec =
     tie.close
     (tie.spec
     (λ c. search rules)
-    (λ c κs. (inl refl, omega arith, omega arith, omega (arith, ap width_of c.enum_told.given.1)))
-    (λ c. omega (arith, height-le c.before.before.before.before.before.before.before.args.r))
+    (λ c κs. (inl refl, omega arith, omega arith, omega (arith, ap width_of c.in-Low.is)))
+    (λ c. omega (arith, height-le c.args.r))
     put-words-requires
     (λ c. search rules)
-    (λ c κs. (inr (inl refl), omega arith, omega arith, omega (arith, ap width_of c.enum-told2.given.1)))
-    (λ c. omega (arith, height-le c.before.before.before.before.before.before.before.args.r))
+    (λ c κs. (inr (inl refl), omega arith, omega arith, omega (arith, ap width_of c.in-Medium.is)))
+    (λ c. omega (arith, height-le c.args.r))
     put-words-requires-2
     (λ c. search rules)
-    (λ c κs. (inr (inr refl), omega arith, omega arith, omega (arith, ap width_of c.enum-told3.given.1)))
-    (λ c. omega (arith, height-le c.before.before.before.before.before.before.before.args.r))
+    (λ c κs. (inr (inr refl), omega arith, omega arith, omega (arith, ap width_of c.in-High.is)))
+    (λ c. omega (arith, height-le c.args.r))
     put-words-requires-3
     (λ c. search rules)
     returns

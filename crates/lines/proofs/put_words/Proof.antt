@@ -23,31 +23,31 @@ block-bytes words b i h =
     (sym (digits_div b h))
     (sym (digits_mod b h))
 
-abbrev invariant-loop : tie.invariant-loop
+abbrev invariant-loop : tie.invariant-loop-b
 invariant-loop words screen₀ start blocks b₀ screen b =
     (b ≤ blocks) × (length screen ≡ length screen₀)
     × (screen ≡ over_at start (take (b * 16) (tabulate (blocks * 16) (words_byte words))) screen₀)
 
-abbrev decreases-loop : tie.decreases-loop
+abbrev decreases-loop : tie.decreases-loop-b
 decreases-loop words screen₀ start blocks b₀ screen b = blocks - b
 
-loop-holds : tie.Need-loop-init invariant-loop decreases-loop
+loop-holds : tie.Need-loop-b-init invariant-loop decreases-loop
 loop-holds c =
-    let a = c.before.args in
+    let a = c.args in
     (omega arith, refl, sym (take-append-drop a.start a.screen.now))
 
-loop-again : tie.Need-loop-preserved invariant-loop decreases-loop
+loop-again : tie.Need-loop-b-preserved invariant-loop decreases-loop
 loop-again c =
     let p = c.before.before in
-    let l = p.before.before.before.before.before.loop in
+    let l = p.loop-b in
     let i = l.invariant in
-    let a = p.before.before.before.before.before.before.before.args in
+    let a = p.args in
     let s = a.words.now in
     let d = a.screen.now in
     let at : ℕ = l.b * 16 in
     let f : ℕ → ℕ = words_byte s in
     let w : ℕ → ℕ = block_byte (get_or s (l.b * 2) 0) (get_or s (l.b * 2 + 1) 0) in
-    let e = p.put-block.ensures in
+    let e = p.put_block.ensures in
     let room : a.start + at + length (tabulate 16 w) ≤ length l.screen = omega (arith, length-tabulate 16 w) in
     let next : at + 16 ≡ (l.b + 1) * 16 = omega arith in (
       omega arith,
@@ -60,14 +60,14 @@ loop-again c =
 
 returns : tie.Need-returns invariant-loop decreases-loop
 returns c =
-    let l = c.before.loop in
-    let a = c.before.before.before.args in
+    let l = c.loop-b in
+    let a = c.args in
     let f : ℕ → ℕ = words_byte a.words.now in
     over_at-tabulate-done a.start (a.blocks * 16) f a.screen.now l.screen (l.b * 16) (omega arith)
     l.invariant.2
 
-pub put-words-spec : {M : Type 1} → statement M
-put-words-spec =
+pub put_words_spec : {M : Type 1} → statement M
+put_words_spec =
     tie.close
     (tie.spec
     invariant-loop

@@ -6,29 +6,23 @@ use Rattle.lines.specs.Screens.{screen_out}
 use Rattle.lines.proofs.screen_out.Statement.{statement}
 use Rattle.lines.proofs.screen_out.Tie as tie
 
-screen-out-at-requires : tie.Need-screen-out-at-requires
-screen-out-at-requires c κs =
-    let r = c.before.before in
-    let j = r.before.before in
-    chosen-whole _ j.before.before.before.args.resolution _ (sym j.judge-screen.ensures ∙ r.r.given.1)
+screen-out-at-requires : tie.Need-screen_out_at-requires
+screen-out-at-requires c κs = chosen-whole _ c.args.resolution _ (sym c.judge_screen.ensures ∙ c.in-Fits.is)
 
-returns : tie.Need-returns
+returns : tie.Need-returns-in-Fits
 unfolding screen_out
 returns c =
-    let k = c.before.before in
-    let r = k.before.before.before in
-    let e = sym r.before.before.judge-screen.ensures ∙ r.r.given.1 in
-    rw (judge_screen-chosen _ _ _, e) k.screen-out-at.ensures
+    let e = sym c.judge_screen.ensures ∙ c.in-Fits.is in
+    rw (judge_screen-chosen _ _ _, e) c.screen_out_at.ensures
 
-returns-2 : tie.Need-returns-2
+returns-2 : tie.Need-returns-in-Refused
 unfolding screen_out
 returns-2 c =
-    let n = c.before.before in
-    let e = sym n.before.before.judge-screen.ensures ∙ n.number.given.1 in
+    let e = sym c.judge_screen.ensures ∙ c.in-Refused.is in
     rw (judge_screen-chosen _ _ _, e) (c.refuse.ensures, refl)
 
-pub screen-out-spec : {M : Type 1} → statement M
-screen-out-spec =
+pub screen_out_spec : {M : Type 1} → statement M
+screen_out_spec =
     tie.close
     (tie.spec
     (λ c κs. search rules)

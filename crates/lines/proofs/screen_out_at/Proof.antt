@@ -9,22 +9,22 @@ use borrow.Author.Rules.{rules}
 use Rattle.lines.proofs.screen_out_at.Statement.{statement}
 use Rattle.lines.proofs.screen_out_at.Tie as tie
 
-returns : tie.Need-returns
+returns : tie.Need-returns-then-out-pixels
 returns c =
-    let a = c.before.before.before.before.before.args in
-    let short : length a.out.now < pixels_of a.r = omega (arith, c.before.before.pixels.ensures) in
+    let a = c.args in
+    let short : length a.out.now < pixels_of a.r = omega (arith, c.pixels.ensures) in
     simp (lt-ltb _ _ short) (c.refuse.ensures, refl)
 
-returns-2 : tie.Need-returns-2
+returns-2 : tie.Need-returns
 returns-2 c =
     let l = c.before.before.before in
     let p = l.before.before.before.before.before in
-    let a = p.before.before.before.args in
+    let a = p.args in
     let room : pixels_of a.r ≤ length a.out.now = omega (arith, p.pixels.ensures) in
-    simp (le-ltb _ _ room) (c.none.ensures, l.copy-lines.ensures)
+    simp (le-ltb _ _ room) (c.none.ensures, l.copy_lines.ensures)
 
-pub screen-out-at-spec : {M : Type 1} → statement M
-screen-out-at-spec =
+pub screen_out_at_spec : {M : Type 1} → statement M
+screen_out_at_spec =
     tie.close
     (tie.spec
     (λ c κs. search rules)

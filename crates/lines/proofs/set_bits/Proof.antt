@@ -9,28 +9,28 @@ use Rattle.lines.proofs.Bits.{zero_bits, more-bits}
 use Rattle.lines.proofs.set_bits.Statement.{statement}
 use Rattle.lines.proofs.set_bits.Tie as tie
 
-abbrev invariant-loop : tie.invariant-loop
+abbrev invariant-loop : tie.invariant-loop-i
 invariant-loop registers n bits₀ i₀ bits i =
     (i ≤ n)
     × ((p : ℕ) → ltb bits (2 ^ p) ≡ all_first i (λ (x : ℕ). ltb x (2 ^ p)) registers)
 
-abbrev decreases-loop : tie.decreases-loop
+abbrev decreases-loop : tie.decreases-loop-i
 decreases-loop registers n bits₀ i₀ bits i = n - i
 
-loop-again : tie.Need-loop-preserved invariant-loop decreases-loop
+loop-again : tie.Need-loop-i-preserved invariant-loop decreases-loop
 loop-again c =
-    let l = c.before.before.loop in
-    let a = c.before.before.before.args in
+    let l = c.loop-i in
+    let a = c.args in
     (omega arith, λ p. more-bits a.registers.now l.i l.bits p (l.invariant.1 p))
 
 returns : tie.Need-returns invariant-loop decreases-loop
 returns c =
-    let l = c.before.loop in
-    let e : l.i ≡ c.before.before.args.n = omega arith in
+    let l = c.loop-i in
+    let e : l.i ≡ c.args.n = omega arith in
     λ p. l.invariant.1 p ∙ rw e
 
-pub set-bits-spec : {M : Type 1} → statement M
-set-bits-spec =
+pub set_bits_spec : {M : Type 1} → statement M
+set_bits_spec =
     tie.close
     (tie.spec
     invariant-loop

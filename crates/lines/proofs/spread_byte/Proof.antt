@@ -20,9 +20,12 @@ entry table b h is = ap (λ (l : List ℕ). get_or l b 0) is ∙ get_d_tabulate 
 
 returns : tie.Need-returns
 returns c =
-    let a = c.before.args in
-    let e = entry a.table.now a.b (omega arith) c.before.requires in
+    let a = c.args in
+    let e = entry a.table.now a.b (omega arith) c.requires in
     (e, omega (arith, e, spread-le a.b))
 
-pub spread-byte-spec : {M : Type 1} → statement M
-spread-byte-spec = tie.close (tie.spec (λ c. search rules) (λ c. search rules) returns)
+pub spread_byte_spec : {M : Type 1} → statement M
+spread_byte_spec = tie.close (tie.spec
+    (λ c. search rules)
+    (λ c. search rules)
+    returns)

@@ -28,23 +28,23 @@ module _ (s : List ℕ) (at planes : ℕ) where
       omega (arith, spread-zero) in
       two ∙ ap (λ (n : ℕ). spread_column (plane_bytes s at n)) (sym e)
 
-returns : tie.Need-returns
+returns : tie.Need-returns-then-planes-eq1
 returns c =
-    let a = c.before.before.before.before.args in
-    c.spread-byte.ensures.0 ∙ one-plane a.screen.now a.at a.planes (omega arith)
+    let a = c.args in
+    c.spread_byte.ensures.0 ∙ one-plane a.screen.now a.at a.planes (omega arith)
 
-returns-2 : tie.Need-returns-2
+returns-2 : tie.Need-returns-then-planes-eq2
 returns-2 c =
     let q = c.before.before in
-    let a = q.before.before.before.before.before.args in
+    let a = q.args in
     let s = a.screen.now in
-    let e : q.spread-byte2.result + c.spread-byte3.result * 2
+    let e : q.spread_byte-then-planes-eq2.result + c.spread_byte-then-planes-eq2-2.result * 2
     ≡ spread (get_or s a.at 0) + spread (get_or s (a.at + 2) 0) * 2 =
-    omega (arith, q.spread-byte2.ensures.0, c.spread-byte3.ensures.0) in
+    omega (arith, q.spread_byte-then-planes-eq2.ensures.0, c.spread_byte-then-planes-eq2-2.ensures.0) in
     e ∙ two-planes s a.at a.planes (omega arith)
 
-pub spread-column-spec : {M : Type 1} → statement M
-spread-column-spec =
+pub spread_column_spec : {M : Type 1} → statement M
+spread_column_spec =
     tie.close
     (tie.spec
     (λ c. search rules)
@@ -60,4 +60,4 @@ spread-column-spec =
     returns-2
     (λ c κs. search rules)
     (λ c κs. search rules)
-    (λ c. c.spread-planes.ensures ∙ ap spread_column c.before.column-planes.ensures))
+    (λ c. c.spread_planes.ensures ∙ ap spread_column c.column_planes.ensures))

@@ -9,8 +9,8 @@ returns : tie.Need-returns
 unfolding spread_column
 returns c = omega arith
 
-pub spread-planes-spec : {M : Type 1} → statement M
-spread-planes-spec =
+pub spread_planes_spec : {M : Type 1} → statement M
+spread_planes_spec =
     tie.close
     (tie.spec
     (λ c κs. search rules)

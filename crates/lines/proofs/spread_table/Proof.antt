@@ -9,5 +9,6 @@ returns : tie.Need-returns
 unfolding tabulate spread
 returns c = refl
 
-pub spread-table-spec : {M : Type 1} → statement M
-spread-table-spec = tie.close (tie.spec returns)
+pub spread_table_spec : {M : Type 1} → statement M
+spread_table_spec = tie.close (tie.spec
+    returns)

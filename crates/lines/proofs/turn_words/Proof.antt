@@ -14,18 +14,18 @@ use Rattle.lines.specs.Blocks.{turn}
 use Rattle.lines.proofs.turn_words.Statement.{statement}
 use Rattle.lines.proofs.turn_words.Tie as tie
 
-abbrev invariant-loop : tie.invariant-loop
+abbrev invariant-loop : tie.invariant-loop-i
 invariant-loop words₀ i₀ words i =
     (i ≤ 20) × (length words ≡ 20)
     × (words ≡ over (take i (tabulate 20 (λ k. turn (get_or words₀ k 0)))) words₀)
 
-abbrev decreases-loop : tie.decreases-loop
+abbrev decreases-loop : tie.decreases-loop-i
 decreases-loop words₀ i₀ words i = 20 - i
 
-loop-again : tie.Need-loop-preserved invariant-loop decreases-loop
+loop-again : tie.Need-loop-i-preserved invariant-loop decreases-loop
 loop-again c =
-    let l = c.before.before.before.loop in
-    let a = c.before.before.before.before.args in
+    let l = c.loop-i in
+    let a = c.args in
     let s = a.words.now in
     let f : ℕ → ℕ = λ k. turn (get_or s k 0) in
     let t : List ℕ = take l.i (tabulate 20 f) in
@@ -40,12 +40,12 @@ loop-again c =
 
 returns : tie.Need-returns invariant-loop decreases-loop
 returns c =
-    let l = c.before.loop in
-    let s = c.before.before.args.words.now in
+    let l = c.loop-i in
+    let s = c.args.words.now in
     tabulate-done 20 (λ k. turn (get_or s k 0)) s l.words l.i (omega arith) (omega arith) l.invariant.2
 
-pub turn-words-spec : {M : Type 1} → statement M
-turn-words-spec =
+pub turn_words_spec : {M : Type 1} → statement M
+turn_words_spec =
     tie.close
     (tie.spec
     invariant-loop

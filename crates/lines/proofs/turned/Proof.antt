@@ -8,9 +8,13 @@ use Rattle.lines.proofs.turned.Tie as tie
 returns : tie.Need-returns
 unfolding turn
 returns c =
-    c.exchanged3.ensures
+    c.exchanged.ensures
     ∙ ap (exchange 9 ones)
-    (c.before.exchanged2.ensures ∙ ap (exchange 18 twos) c.before.before.exchanged.ensures)
+    (c.exchanged-quarters.ensures ∙ ap (exchange 18 twos) c.exchanged-halves.ensures)
 
-pub turned-spec : {M : Type 1} → statement M
-turned-spec = tie.close (tie.spec (λ c κs. search rules) (λ c κs. search rules) (λ c κs. search rules) returns)
+pub turned_spec : {M : Type 1} → statement M
+turned_spec = tie.close (tie.spec
+    (λ c κs. search rules)
+    (λ c κs. search rules)
+    (λ c κs. search rules)
+    returns)

@@ -9,14 +9,14 @@ use Rattle.lines.proofs.two_groups.Tie as tie
 returns : tie.Need-returns
 unfolding two_groups
 returns c =
-    let a = c.before.before.before.before.args in
+    let a = c.args in
     c.joined.ensures
     ∙ ap₂ (λ (i j : ℕ). joined_word i a.planes j)
-    c.before.before.eight-registers.ensures
-    c.before.eight-registers2.ensures
+    c.eight_registers.ensures
+    c.eight_registers-2.ensures
 
-pub two-groups-spec : {M : Type 1} → statement M
-two-groups-spec =
+pub two_groups_spec : {M : Type 1} → statement M
+two_groups_spec =
     tie.close
     (tie.spec
     (λ c. search rules)

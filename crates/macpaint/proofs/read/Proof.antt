@@ -9,40 +9,40 @@ use borrow.Author.Rules.{rules}
 use Rattle.macpaint.proofs.read.Statement.{statement}
 use Rattle.macpaint.proofs.read.Tie as tie
 
-returns : tie.Need-returns
+returns : tie.Need-returns-then-plate-lt-PLATE_BYTES
 returns c =
-    let a = c.before.before.before.before.before.args in
+    let a = c.args in
     rw (
       c.body_refused.ensures,
-      c.before.refuse.ensures,
-      read_short a.file.now (length a.plate.now) c.before.before.if1.true,
+      c.refuse.ensures,
+      read_short a.file.now (length a.plate.now) c.if-plate-lt-PLATE_BYTES.true,
     ) (refl, refl)
 
-returns-2 : tie.Need-returns-2
+returns-2 : tie.Need-returns-then-refusal-ne0
 returns-2 c =
-    let t = c.before in
-    let e = t.before.before.before in
-    let a = e.before.before.before.args in
-    let why = t.before.before.header-refusal.ensures in
+    let t = c in
+    let e = t in
+    let a = e.args in
+    let why = t.header_refusal-refusal.ensures in
     let further = read_body a.file.now header_length after_body plate_raster in
     rw (
-      c.body-refused2.ensures,
+      c.body_refused-then-refusal-ne0.ensures,
       why,
-      read-judged a.file.now (length a.plate.now) e.if1.false,
-      judge-refused a.file.now further (rw why at t.if2.true),
+      read-judged a.file.now (length a.plate.now) e.if-plate-lt-PLATE_BYTES.false,
+      judge-refused a.file.now further (rw why at t.if-refusal-ne0.true),
     ) (refl, refl)
 
-returns-3 : tie.Need-returns-3
+returns-3 : tie.Need-returns
 returns-3 c =
-    let f = c.before.before.before.before in
-    let e = f.before.before.before in
-    let a = e.before.before.before.args in
-    let why = f.before.before.header-refusal.ensures in
+    let f = c in
+    let e = f in
+    let a = e.args in
+    let why = f.header_refusal-refusal.ensures in
     let further = read_body a.file.now header_length after_body plate_raster in
     rw (
-      read-judged a.file.now (length a.plate.now) e.if1.false,
-      judge-passed a.file.now further (rw why at f.if2.false),
-    ) c.before.before.read-rows.ensures
+      read-judged a.file.now (length a.plate.now) e.if-plate-lt-PLATE_BYTES.false,
+      judge-passed a.file.now further (rw why at f.if-refusal-ne0.false),
+    ) c.read_rows.ensures
 
 pub read_spec : {M : Type 1} → statement M
 read_spec =

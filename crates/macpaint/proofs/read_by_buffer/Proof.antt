@@ -11,17 +11,20 @@ use Rattle.macpaint.proofs.read_by_buffer.Tie as tie
 
 returns : tie.Need-returns
 returns c =
-    let j = c.before.before.before in
-    let a = j.before.before.before.before.before.before.args in
+    let j = c in
+    let a = j.args in
     let zeros = length-replicate {A = ℕ} plate_bytes 0 in
-    let room = j.before.before.before.before.before.before.requires in
+    let room = j.requires in
     let area = length a.plate.now in
     rw (into-fits a.file.now header_length after_body plate_raster plate_bytes area plate-fits room) at
-    (rw (j.before.before.before.plate-raster.ensures, zeros) at j.read-body.ensures)
+    (rw (j.plate_raster.ensures, zeros) at j.read_body.ensures)
 
-pub read-by-buffer-spec : {M : Type 1} → statement M
-read-by-buffer-spec =
+pub read_by_buffer_spec : {M : Type 1} → statement M
+read_by_buffer_spec =
     tie.close
     (tie.spec
-    (λ c κs. search rules) (λ c. search rules) (λ c κs. search rules) (λ c. search rules)
+    (λ c κs. search rules)
+    (λ c. search rules)
+    (λ c κs. search rules)
+    (λ c. search rules)
     returns)

@@ -10,45 +10,61 @@ use borrow.Author.Rules.{rules}
 use Rattle.neochrome.proofs.put_header.Statement.{statement}
 use Rattle.neochrome.proofs.put_header.Tie as tie
 
-add-result : tie.Need-overflow-add-result
+add-result : tie.Need-overflow_add-result
 unfolding word_bytes
-add-result c = omega (arith, c.before.before.put-middle.ensures.bytes)
+add-result c = omega (arith, c.put_middle.ensures.bytes)
 
 returns : tie.Need-returns
 unfolding word_bytes
 returns c =
-    let third = c.before.before.before.before.before.before in
-    let second = third.before.before.before.before.before in
-    let first = second.before.before.before.before.before in
-    let made = first.before.before.before in
-    let a = made.before.before.before.before.before.args in
+    let third = c in
+    let second = third in
+    let first = second in
+    let made = first in
+    let a = made.args in
     let d = a.out.now in
-    let q = made.palette-bytes in
-    let r = made.before.before.word-bytes2 in
-    let f = made.before.before.before.word_Bytes in
-    let m = c.before.before.put-middle in
-    let x = first.copy in
-    let y = second.copy2 in
-    let z = third.copy3 in
-    let one = written-copied f.result d x.new.1.0 x.result x.ensures.0 x.ensures.1 in
-    let two = written-more one r.result y.new.1.0 y.result y.ensures.0
+    let q = made.palette_bytes-palette in
+    let r = made.word_bytes-resolution in
+    let f = made.word_bytes-flag in
+    let m = c.put_middle in
+    let x = first.copy-end in
+    let y = second.copy-end-2 in
+    let z = third.copy-end-3 in
+    let one = written-copied f.result d x.new.out x.result x.ensures.0 x.ensures.1 in
+    let two = written-more one r.result y.new.out y.result y.ensures.0
     (y.ensures.1 ∙ copied-over r.result _) in
-    let three = written-more two q.result z.new.1.0 z.result z.ensures.0
+    let three = written-more two q.result z.new.out z.result z.ensures.0
     (z.ensures.1 ∙ copied-over q.result _) in
-    let all = written-more three middle m.new.0 m.result m.ensures.bytes m.ensures.all in (
+    let all = written-more three middle m.new.out m.result m.ensures.bytes m.ensures.all in (
       written_as (header a.picture) (rw (f.ensures, r.ensures, q.ensures) (simp append_assoc)) all,
       omega (arith, m.ensures.bytes),
     )
 
-pub put-header-spec : {M : Type 1} → statement M
-put-header-spec =
+pub put_header_spec : {M : Type 1} → statement M
+put_header_spec =
     tie.close
     (tie.spec
-    (λ c κs. search rules) (λ c κs. search rules) (λ c κs. search rules) (λ c. search rules)
-    (λ c κs. search rules) (λ c. search rules) (λ c. search rules) (λ c. search rules) (λ c. search rules)
-    (λ c κs. search rules) (λ c. search rules) (λ c. search rules) (λ c. search rules) (λ c. search rules)
-    (λ c. search rules) (λ c κs. search rules) (λ c. search rules) (λ c. search rules) (λ c. search rules)
-    (λ c. search rules) (λ c κs. search rules)
+    (λ c κs. search rules)
+    (λ c κs. search rules)
+    (λ c κs. search rules)
+    (λ c. search rules)
+    (λ c κs. search rules)
+    (λ c. search rules)
+    (λ c. search rules)
+    (λ c. search rules)
+    (λ c. search rules)
+    (λ c κs. search rules)
+    (λ c. search rules)
+    (λ c. search rules)
+    (λ c. search rules)
+    (λ c. search rules)
+    (λ c. search rules)
+    (λ c κs. search rules)
+    (λ c. search rules)
+    (λ c. search rules)
+    (λ c. search rules)
+    (λ c. search rules)
+    (λ c κs. search rules)
     add-result
     (λ c. search rules)
     returns)

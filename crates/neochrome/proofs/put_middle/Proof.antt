@@ -12,19 +12,29 @@ use Rattle.neochrome.proofs.put_middle.Tie as tie
 returns : tie.Need-returns
 unfolding word_bytes
 returns c =
-    let first = c.before.before.before.before.before.before.before in
-    let d = first.before.before.before.before.args.out.now in
-    let n = first.copy in
-    let r = c.before.before.copy2 in
+    let first = c in
+    let d = first.args.out.now in
+    let n = first.copy-end in
+    let r = c.copy in
     let rest : List ℕ = replicate 10 0 ++ word_bytes 320 ++ word_bytes 200 ++ replicate 66 0 in
-    let w = written-copied name d n.new.1.0 n.result n.ensures.0 n.ensures.1 in
-    written-more w rest r.new.1.0 r.result r.ensures.0 r.ensures.1
+    let w = written-copied name d n.new.out n.result n.ensures.0 n.ensures.1 in
+    written-more w rest r.new.out r.result r.ensures.0 r.ensures.1
 
-pub put-middle-spec : {M : Type 1} → statement M
-put-middle-spec =
+pub put_middle_spec : {M : Type 1} → statement M
+put_middle_spec =
     tie.close
     (tie.spec
-    (λ c. search rules) (λ c. search rules) (λ c κs. search rules) (λ c. search rules) (λ c. search rules)
-    (λ c. search rules) (λ c. search rules) (λ c. search rules) (λ c. search rules) (λ c. search rules)
-    (λ c κs. search rules) (λ c. search rules) (λ c. search rules)
+    (λ c. search rules)
+    (λ c. search rules)
+    (λ c κs. search rules)
+    (λ c. search rules)
+    (λ c. search rules)
+    (λ c. search rules)
+    (λ c. search rules)
+    (λ c. search rules)
+    (λ c. search rules)
+    (λ c. search rules)
+    (λ c κs. search rules)
+    (λ c. search rules)
+    (λ c. search rules)
     returns)

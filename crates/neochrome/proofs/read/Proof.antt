@@ -9,31 +9,31 @@ use borrow.Author.Rules.{rules}
 use Rattle.neochrome.proofs.read.Statement.{statement}
 use Rattle.neochrome.proofs.read.Tie as tie
 
-returns : tie.Need-returns
+returns : tie.Need-returns-then-area-lt-SCREEN_BYTES
 returns c =
-    rw (read_short _ _ c.before.before.if1.true)
-    (rw (c.read-refused.ensures, c.before.refuse.ensures), refl)
+    rw (read_short _ _ c.if-area-lt-SCREEN_BYTES.true)
+    (rw (c.read_refused.ensures, c.refuse.ensures), refl)
 
-read-opened-requires : tie.Need-read-opened-requires
+read-opened-requires : tie.Need-read_opened-requires
 read-opened-requires c κs =
-    let m = c.before.before in
-    let file = m.before.before.before.before.before.before.args.file.now in
-    let e = file-opened (opening file) _ (sym m.r.given.1 ∙ m.before.before.open-file.ensures) in
+    let m = c in
+    let file = m.args.file.now in
+    let e = file-opened (opening file) _ (sym m.in-File.is ∙ m.open_file.ensures) in
     ((judged-value (Passes file) (opening file) _ (opening-judged file) e).0.fits, omega arith)
 
-returns-2 : tie.Need-returns-2
+returns-2 : tie.Need-returns-in-File
 returns-2 c =
-    let m = c.before.before.before.before.before in
-    let file = m.before.before.before.before.before.before.args.file.now in
-    let e = file-opened (opening file) _ (sym m.r.given.1 ∙ m.before.before.open-file.ensures) in
-    rw (read_opened _ _ m.before.before.before.if1.false _ e) c.before.before.read_opened.ensures
+    let m = c in
+    let file = m.args.file.now in
+    let e = file-opened (opening file) _ (sym m.in-File.is ∙ m.open_file.ensures) in
+    rw (read_opened _ _ m.if-area-lt-SCREEN_BYTES.false _ e) c.read_opened.ensures
 
-returns-3 : tie.Need-returns-3
+returns-3 : tie.Need-returns-in-Refused
 returns-3 c =
-    let m = c.before.before in
-    let file = m.before.before.before.before.before.before.args.file.now in
-    let e = refused-opened (opening file) _ (sym m.why.given.1 ∙ m.before.before.open-file.ensures) in
-    rw (read-refused _ _ m.before.before.before.if1.false _ e) (c.read-refused2.ensures, refl)
+    let m = c in
+    let file = m.args.file.now in
+    let e = refused-opened (opening file) _ (sym m.in-Refused.is ∙ m.open_file.ensures) in
+    rw (read-refused _ _ m.if-area-lt-SCREEN_BYTES.false _ e) (c.read_refused-in-Refused.ensures, refl)
 
 pub read_spec : {M : Type 1} → statement M
 read_spec =

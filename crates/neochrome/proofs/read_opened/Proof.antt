@@ -12,20 +12,27 @@ use Rattle.neochrome.proofs.read_opened.Tie as tie
 
 returns : tie.Need-returns
 returns c =
-    let q = c.before.before.before in
-    let a = q.before.before.before.before.before.before.before.before.args in
+    let q = c in
+    let a = q.args in
     let file = a.file.now in
     let n : length file - screen_start ≡ screen_bytes = omega arith in (
       c.read_done.ensures
-          ∙ simp (c.before.without-tail.ensures, c.before.before.number.ensures, q.palette-at.ensures),
+          ∙ simp (c.without_tail.ensures, c.number.ensures, q.palette_at-palette.ensures),
       copied-part file a.area.now _ screen_start screen_bytes _ (ap (λ (k : ℕ). take k (drop screen_start file)) n)
-          q.before.before.before.copy.ensures.1,
+          q.copy.ensures.1,
     )
 
-pub read-opened-spec : {M : Type 1} → statement M
-read-opened-spec =
+pub read_opened_spec : {M : Type 1} → statement M
+read_opened_spec =
     tie.close
     (tie.spec
-    (λ c. search rules) (λ c. search rules) (λ c. search rules) (λ c κs. search rules) (λ c κs. search rules)
-    (λ c κs. search rules) (λ c κs. search rules) (λ c κs. search rules) (λ c. search rules)
+    (λ c. search rules)
+    (λ c. search rules)
+    (λ c. search rules)
+    (λ c κs. search rules)
+    (λ c κs. search rules)
+    (λ c κs. search rules)
+    (λ c κs. search rules)
+    (λ c κs. search rules)
+    (λ c. search rules)
     returns)

@@ -7,32 +7,32 @@ use borrow.Author.Rules.{rules}
 use Rattle.neochrome.proofs.write.Statement.{statement}
 use Rattle.neochrome.proofs.write.Tie as tie
 
-put-file-requires : tie.Need-put-file-requires
+put-file-requires : tie.Need-put_file-requires
 put-file-requires c κs =
-    let a = c.before.before.before.before.before.before.args in
+    let a = c.args in
     let p =
     at-passed (length a.screen.now) (length a.out.now) a.picture.resolution _
-    (sym c.before.enum_told.given.1 ∙ c.before.before.before.judge-writing.ensures) in
+    (sym c.in-At.is ∙ c.judge_writing.ensures) in
     (p.screen-fits, p.output-fits)
 
-returns : tie.Need-returns
+returns : tie.Need-returns-in-At
 returns c =
-    let a = c.before.before.before.before.before.before.before.before.before.before.args in
-    let t = c.before.before.before.before.before in
+    let a = c.args in
+    let t = c in
     let p =
     at-passed (length a.screen.now) (length a.out.now) a.picture.resolution _
-    (sym t.enum_told.given.1 ∙ t.before.before.judge-writing.ensures) in
+    (sym t.in-At.is ∙ t.judge_writing.ensures) in
     rw (write-passed a.picture a.screen.now (length a.out.now) _ p)
-    (written-done (record { file = _; body = 0; records = 0 }) c.before.before.before.put-file.ensures
+    (written-done (record { file = _; body = 0; records = 0 }) c.put_file.ensures
     c.write_done.ensures)
 
-returns-2 : tie.Need-returns-2
+returns-2 : tie.Need-returns-in-Refused
 returns-2 c =
-    let a = c.before.before.before.before.before.before.before.args in
+    let a = c.args in
     let e =
     refused_why (length a.screen.now) (length a.out.now) a.picture.resolution _
-    (sym c.before.before.why.given.1 ∙ c.before.before.before.before.judge-writing.ensures) in
-    rw (write-refused a.picture a.screen.now (length a.out.now) _ e) (c.write-refused.ensures, refl)
+    (sym c.in-Refused.is ∙ c.judge_writing.ensures) in
+    rw (write-refused a.picture a.screen.now (length a.out.now) _ e) (c.write_refused.ensures, refl)
 
 pub write_spec : {M : Type 1} → statement M
 write_spec =

@@ -4,7 +4,10 @@ use Rattle.neochrome_animation.proofs.animation_done.Statement.{statement}
 use Rattle.neochrome_animation.proofs.animation_done.Tie as tie
 
 returns : tie.Need-returns
-returns c = rw (c.before.none.ensures, c.number.ensures)
+returns c = rw (c.none.ensures, c.number.ensures)
 
-pub animation-done-spec : {M : Type 1} → statement M
-animation-done-spec = tie.close (tie.spec (λ c κs. search rules) (λ c κs. search rules) returns)
+pub animation_done_spec : {M : Type 1} → statement M
+animation_done_spec = tie.close (tie.spec
+    (λ c κs. search rules)
+    (λ c κs. search rules)
+    returns)

@@ -6,5 +6,7 @@ use Rattle.neochrome_animation.proofs.animation_refused.Tie as tie
 returns : tie.Need-returns
 returns c = rw c.number.ensures
 
-pub animation-refused-spec : {M : Type 1} → statement M
-animation-refused-spec = tie.close (tie.spec (λ c κs. search rules) returns)
+pub animation_refused_spec : {M : Type 1} → statement M
+animation_refused_spec = tie.close (tie.spec
+    (λ c κs. search rules)
+    returns)

@@ -7,25 +7,25 @@ use borrow.Author.Rules.{rules}
 use Rattle.neochrome_animation.proofs.judge.Statement.{statement}
 use Rattle.neochrome_animation.proofs.judge.Tie as tie
 
-returns : tie.Need-returns
+returns : tie.Need-returns-then-list-eq-LIST_1989
 returns c =
-    let a = c.before.before.before.args in
-    c.judge-1989.ensures ∙ sym (ap outcome_as (list-1989 a.file.now a.list c.before.if1.true))
+    let a = c.args in
+    c.judge_1989.ensures ∙ sym (ap outcome_as (list-1989 a.file.now a.list c.if-list-eq-LIST_1989.true))
 
-returns-2 : tie.Need-returns-2
+returns-2 : tie.Need-returns-then-list-eq-LIST_2008
 returns-2 c =
-    let a = c.before.before.before.before.args in
-    c.judge-2008.ensures ∙ sym (ap outcome_as (list-2008 a.file.now a.list c.before.if2.true))
+    let a = c.args in
+    c.judge_2008.ensures ∙ sym (ap outcome_as (list-2008 a.file.now a.list c.if-list-eq-LIST_2008.true))
 
-returns-3 : tie.Need-returns-3
+returns-3 : tie.Need-returns
 returns-3 c =
-    let a = c.before.before.before.before.args in
+    let a = c.args in
     ap Refused c.refuse.ensures
     ∙ sym
-    (ap outcome_as (list-other a.file.now a.list c.before.before.if1.false c.before.if2.false))
+    (ap outcome_as (list-other a.file.now a.list c.if-list-eq-LIST_1989.false c.if-list-eq-LIST_2008.false))
 
-pub judge-spec : {M : Type 1} → statement M
-judge-spec =
+pub judge_spec : {M : Type 1} → statement M
+judge_spec =
     tie.close
     (tie.spec
     (λ c κs. search rules)

@@ -13,27 +13,28 @@ use Rattle.neochrome_animation.proofs.judge_1989.Statement.{statement}
 use Rattle.neochrome_animation.proofs.judge_1989.Tie as tie
 
 -- what the opening gave
-opened : (m : tie.After-enum-told)
-    → (r : Resolution) × (opening1989 m.before.before.before.before.args.file.now ≡ accepted r)
-opened m = (_, file-opened _ _ (sym m.enum_told.given.1 ∙ m.before.before.open-1989.ensures))
+opened : (m : tie.In-File)
+    → (r : Resolution) × (opening1989 m.args.file.now ≡ accepted r)
+opened m = (_, file-opened _ _ (sym m.in-File.is ∙ m.open_1989.ensures))
 
-shown-1989-requires : tie.Need-shown-1989-requires
+shown-1989-requires : tie.Need-shown_1989-requires
 shown-1989-requires c κs = (opened-accepts _ _ (opened-as-2008 _ _ (opened c).1)).fits
 
-returns : tie.Need-returns
-returns c = ap Shown c.shown-1989.ensures ∙ sym (ap outcome_as (opened-1989 _ _ (opened c.before).1))
+returns : tie.Need-returns-in-File
+returns c = ap Shown c.shown_1989.ensures ∙ sym (ap outcome_as (opened-1989 _ _ (opened c.before).1))
 
-returns-2 : tie.Need-returns-2
+returns-2 : tie.Need-returns-in-Refused
 returns-2 c =
-    let m = c.before in
-    let e = refused-opened _ _ (sym m.why.given.1 ∙ m.before.before.open-1989.ensures) in
+    let m = c in
+    let e = refused-opened _ _ (sym m.in-Refused.is ∙ m.open_1989.ensures) in
     sym (ap outcome_as (refused-1989 _ _ e))
 
-pub judge-1989-spec : {M : Type 1} → statement M
-judge-1989-spec =
+pub judge_1989_spec : {M : Type 1} → statement M
+judge_1989_spec =
     tie.close
     (tie.spec
-    (λ c κs. search rules) (λ c. search rules)
+    (λ c κs. search rules)
+    (λ c. search rules)
     shown-1989-requires
     (λ c. search rules)
     returns

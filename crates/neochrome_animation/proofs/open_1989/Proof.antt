@@ -10,36 +10,39 @@ use borrow.Author.Rules.{rules}
 use Rattle.neochrome_animation.proofs.open_1989.Statement.{statement}
 use Rattle.neochrome_animation.proofs.open_1989.Tie as tie
 
-returns : tie.Need-returns
+returns : tie.Need-returns-then-why-eq-WRONG_FLAG
 returns c =
-    let m = c.before.before.before.before in
-    let file = m.before.before.before.before.args.file.now in
-    let e = refused-opened (opening file) _ (sym m.why.given.1 ∙ m.before.before.open-file.ensures) in
+    let m = c in
+    let file = m.args.file.now in
+    let e = refused-opened (opening file) _ (sym m.in-Refused.is ∙ m.open_file.ensures) in
     ap Refused c.refuse.ensures
     ∙ sym
     (ap opened_as (refused-as-1989 file _ e)
-    ∙ rw (eq-eqb m.why.given.0.0.number wrong_flag c.before.if1.true))
+    ∙ rw (eq-eqb m.in-Refused.why.number wrong_flag c.if-why-eq-WRONG_FLAG.true))
 
-returns-2 : tie.Need-returns-2
+returns-2 : tie.Need-returns-in-File
 returns-2 c =
-    let m = c.before in
-    let file = m.before.before.before.before.args.file.now in
-    let e = file-opened (opening file) _ (sym m.r.given.1 ∙ m.before.before.open-file.ensures) in
+    let m = c in
+    let file = m.args.file.now in
+    let e = file-opened (opening file) _ (sym m.in-File.is ∙ m.open_file.ensures) in
     sym (ap opened_as (opened-as-1989 file _ e))
 
-returns-3 : tie.Need-returns-3
+returns-3 : tie.Need-returns-else-why-eq-WRONG_FLAG
 returns-3 c =
-    let m = c.before.before.before in
-    let file = m.before.before.before.before.args.file.now in
-    let e = refused-opened (opening file) _ (sym m.why.given.1 ∙ m.before.before.open-file.ensures) in
+    let m = c in
+    let file = m.args.file.now in
+    let e = refused-opened (opening file) _ (sym m.in-Refused.is ∙ m.open_file.ensures) in
     sym
-    (ap opened_as (refused-as-1989 file _ e) ∙ rw (ne_eqb m.why.given.0.0.number wrong_flag c.if1.false))
+    (ap opened_as (refused-as-1989 file _ e) ∙ rw (ne_eqb m.in-Refused.why.number wrong_flag c.if-why-eq-WRONG_FLAG.false))
 
-pub open-1989-spec : {M : Type 1} → statement M
-open-1989-spec =
+pub open_1989_spec : {M : Type 1} → statement M
+open_1989_spec =
     tie.close
     (tie.spec
-    (λ c κs. search rules) (λ c. search rules) (λ c. search rules) (λ c κs. search rules)
+    (λ c κs. search rules)
+    (λ c. search rules)
+    (λ c. search rules)
+    (λ c κs. search rules)
     returns
     returns-2
     returns-3)

@@ -6,16 +6,20 @@ use Rattle.neochrome_animation.proofs.shown.Tie as tie
 returns : tie.Need-returns
 returns c =
     rw (
-      c.before.before.before.shown-limit.ensures,
-      c.before.before.shown-limit2.ensures,
-      c.before.from-speed.ensures,
+      c.shown_limit.ensures,
+      c.shown_limit-2.ensures,
+      c.from_speed.ensures,
       c.vblanks.ensures,
     )
 
-pub shown-spec : {M : Type 1} → statement M
-shown-spec =
+pub shown_spec : {M : Type 1} → statement M
+shown_spec =
     tie.close
     (tie.spec
-    (λ c. search rules) (λ c. search rules)
-    (λ c κs. search rules) (λ c κs. search rules) (λ c κs. search rules) (λ c κs. search rules)
+    (λ c. search rules)
+    (λ c. search rules)
+    (λ c κs. search rules)
+    (λ c κs. search rules)
+    (λ c κs. search rules)
+    (λ c κs. search rules)
     returns)

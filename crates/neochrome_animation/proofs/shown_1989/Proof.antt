@@ -8,5 +8,8 @@ returns : tie.Need-returns
 unfolding shown1989
 returns c = c.shown.ensures
 
-pub shown-1989-spec : {M : Type 1} → statement M
-shown-1989-spec = tie.close (tie.spec (λ c. search rules) (λ c κs. search rules) returns)
+pub shown_1989_spec : {M : Type 1} → statement M
+shown_1989_spec = tie.close (tie.spec
+    (λ c. search rules)
+    (λ c κs. search rules)
+    returns)

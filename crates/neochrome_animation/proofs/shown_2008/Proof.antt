@@ -8,14 +8,17 @@ returns : tie.Need-returns
 unfolding shown2008
 returns c =
     rw (
-      c.before.before.before.word_at.ensures,
-      c.before.before.word-at2.ensures,
-      c.before.word-at3.ensures,
+      c.word_at.ensures,
+      c.word_at-2.ensures,
+      c.word_at-step_count.ensures,
     ) at c.shown.ensures
 
-pub shown-2008-spec : {M : Type 1} → statement M
-shown-2008-spec =
+pub shown_2008_spec : {M : Type 1} → statement M
+shown_2008_spec =
     tie.close
     (tie.spec
-    (λ c κs. search rules) (λ c κs. search rules) (λ c κs. search rules) (λ c κs. search rules)
+    (λ c κs. search rules)
+    (λ c κs. search rules)
+    (λ c κs. search rules)
+    (λ c κs. search rules)
     returns)

@@ -12,7 +12,7 @@ use Rattle.pack.proofs.differing.Tie as tie
 
 returns : tie.Need-returns
 returns c =
-    let a = c.before.before.args in
+    let a = c.args in
     let s : List ℕ = a.a ∷ a.b ∷ a.c ∷ a.d ∷ a.e ∷ a.f ∷ a.g ∷ a.h ∷ [] in
     let b : Bytes s =
     bytes-cons a.a (drop 1 s) (omega arith)
@@ -22,7 +22,10 @@ returns c =
     (bytes-cons a.e (drop 5 s) (omega arith)
     (bytes-cons a.f (drop 6 s) (omega arith)
     (bytes-cons a.g (drop 7 s) (omega arith) (bytes-cons a.h [] (omega arith) no_bytes))))))) in
-    rw (c.before.word.ensures, c.word2.ensures) (first-other a.x s (omega arith) b)
+    rw (c.word.ensures, c.word-2.ensures) (first-other a.x s (omega arith) b)
 
-pub differing-spec : {M : Type 1} → statement M
-differing-spec = tie.close (tie.spec (λ c κs. search rules) (λ c κs. search rules) returns)
+pub differing_spec : {M : Type 1} → statement M
+differing_spec = tie.close (tie.spec
+    (λ c κs. search rules)
+    (λ c κs. search rules)
+    returns)

@@ -11,34 +11,34 @@ use Rattle.pack.proofs.emit.Statement.{statement}
 use Rattle.pack.proofs.emit.Tie as tie
 
 -- the bytes written are within the output
-room : (c : tie.After-emit-near) → c.emit-near.result.bytes ≤ length c.emit-near.new.1.0
-room c = emitted-room c.emit-near.ensures c.before.before.before.before.requires.1
+room : (c : tie.After-emit_near-near) → c.emit_near-near.result.bytes ≤ length c.emit_near-near.new.out
+room c = emitted-room c.emit_near-near.ensures c.requires.1
 
-emit-rest-requires : tie.Need-emit-rest-requires
+emit-rest-requires : tie.Need-emit_rest-rest-requires
 emit-rest-requires c κs =
     let d = c.before.before.before in
     let s = d.before.before.before.before in
-    ((s.requires.0, d.emit-near.ensures.within), left-fits d.emit-near.ensures s.requires.1)
+    ((s.requires.0, d.emit_near-near.ensures.within), left-fits d.emit_near-near.ensures s.requires.1)
 
 -- what holds after all records
-all : (d : tie.After-emit-rest)
-    → let e = d.before.before.before.before.emit-near in
-    let a = d.before.before.before.before.before.before.before.before.args in
-    let p = d.emit-rest in
+all : (d : tie.After-emit_rest-rest)
+    → let e = d.emit_near-near in
+    let a = d.args in
+    let p = d.emit_rest-rest in
     Emitted a.row.now 0 (length a.row.now) a.out.now
-    (put_mid e.result.bytes (length e.new.1.0 - e.result.bytes) e.new.1.0 p.new.1.1.0)
+    (put_mid e.result.bytes (length e.new.out - e.result.bytes) e.new.out p.new.out)
     (e.result.bytes + p.result.bytes) (e.result.records + p.result.records)
-all d = emitted_then d.before.before.before.before.emit-near.ensures d.emit-rest.ensures
+all d = emitted_then d.emit_near-near.ensures d.emit_rest-rest.ensures
 
-add-t9 : tie.Need-overflow-add-t9
+add-t9 : tie.Need-overflow_add-result
 add-t9 c =
     let d = c.before.before.before in
     let s = d.before.before.before.before.before.before.before.before in
     let e = all d in
-    omega (arith, emitted-room e s.requires.1, emitted-kept e s.requires.1, s.well-formed)
+    omega (arith, emitted-room e s.requires.1, emitted-kept e s.requires.1, s.well_formed)
 
-pub emit-spec : {M : Type 1} → statement M
-emit-spec =
+pub emit_spec : {M : Type 1} → statement M
+emit_spec =
     tie.close
     (tie.spec
     (λ c κs. search rules)

@@ -2,7 +2,6 @@
 use Prim.Native.Nat.{◌+◌, ◌-◌, ◌≤◌}
 use native.Mathlib.Omega.{arith}
 use mathlib.Core.Path.{◌≡◌, refl, ◌∙◌}
-use borrow.Author.Tests.{eqb-true, eqb-false}
 use lib.ListN.{length}
 use Rattle.pack.specs.Runs.{end_of}
 use Rattle.pack.proofs.Runs.{end_same, end-other, end-over}
@@ -10,37 +9,37 @@ use borrow.Author.Rules.{rules}
 use Rattle.pack.proofs.end_by_bytes.Statement.{statement}
 use Rattle.pack.proofs.end_by_bytes.Tie as tie
 
-abbrev invariant-loop : tie.invariant-loop
+abbrev invariant-loop : tie.invariant-loop-n
 invariant-loop row x from n₀ n = (n ≤ length row) × (end_of x row n ≡ end_of x row from)
 
-abbrev decreases-loop : tie.decreases-loop
+abbrev decreases-loop : tie.decreases-loop-n
 decreases-loop row x from n₀ n = length row - n
 
-loop-again : tie.Need-loop-preserved invariant-loop decreases-loop
+loop-again : tie.Need-loop-n-preserved invariant-loop decreases-loop
 loop-again c =
     let t = c.before.before in
-    let l = t.before.loop in
-    let a = t.before.before.args in
-    let h = t.loop-test.true in (
+    let l = t.loop-n in
+    let a = t.args in
+    let h = t.loop-n-test.true in (
       search rules,
-      end_same a.x a.row.now l.n (l.n + 1) (omega arith) h (eqb-true _ _ c.if1.true) ∙ l.invariant.1,
+      end_same a.x a.row.now l.n (l.n + 1) (omega arith) h c.if-row-n.true ∙ l.invariant.1,
     )
 
-returns : tie.Need-returns invariant-loop decreases-loop
+returns : tie.Need-returns-else-row-n invariant-loop decreases-loop
 returns c =
     let t = c.before.before in
-    let l = t.before.loop in
-    let a = t.before.before.args in
-    end-other a.x a.row.now l.n t.loop-test.true (eqb-false _ _ c.if1.false) ∙ l.invariant.1
+    let l = t.loop-n in
+    let a = t.args in
+    end-other a.x a.row.now l.n t.loop-n-test.true c.if-row-n.false ∙ l.invariant.1
 
-returns-2 : tie.Need-returns-2 invariant-loop decreases-loop
+returns-2 : tie.Need-returns-after-loop-n invariant-loop decreases-loop
 returns-2 c =
-    let l = c.before.loop in
-    let a = c.before.before.args in
-    end-over a.x a.row.now l.n c.loop-test.false ∙ l.invariant.1
+    let l = c.loop-n in
+    let a = c.args in
+    end-over a.x a.row.now l.n c.loop-n-test.false ∙ l.invariant.1
 
-pub end-by-bytes-spec : {M : Type 1} → statement M
-end-by-bytes-spec =
+pub end_by_bytes_spec : {M : Type 1} → statement M
+end_by_bytes_spec =
     tie.close
     (tie.spec
     invariant-loop

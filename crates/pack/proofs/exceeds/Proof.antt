@@ -11,14 +11,17 @@ use borrow.Author.Rules.{rules}
 use Rattle.pack.proofs.exceeds.Statement.{statement}
 use Rattle.pack.proofs.exceeds.Tie as tie
 
-returns : tie.Need-returns
+returns : tie.Need-returns-then-row-room
 returns c =
-    let a = c.before.before.args in
+    let a = c.args in
     let row = a.row.now in
     sym (le-ltb a.room (length (least row)) (omega (arith, least-bound row)))
 
-returns-2 : tie.Need-returns-2
-returns-2 c = ap (λ (n : ℕ). ltb c.before.before.before.args.room n) c.body-len.ensures
+returns-2 : tie.Need-returns
+returns-2 c = ap (λ (n : ℕ). ltb c.args.room n) c.body_len.ensures
 
-pub exceeds-spec : {M : Type 1} → statement M
-exceeds-spec = tie.close (tie.spec returns (λ c κs. search rules) returns-2)
+pub exceeds_spec : {M : Type 1} → statement M
+exceeds_spec = tie.close (tie.spec
+    returns
+    (λ c κs. search rules)
+    returns-2)

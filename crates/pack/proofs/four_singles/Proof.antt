@@ -11,22 +11,22 @@ use Rattle.pack.proofs.four_singles.Tie as tie
 never : false ≡ true → ⊥
 never e = let z : ◌≡◌ {A = ℕ} 0 1 = cc in omega arith
 
-returns-5 : tie.Need-returns-5
+returns-5 : tie.Need-returns
 returns-5 c t =
     let four = c.before.before in
     let three = four.before.before.before in
     let two = three.before.before.before in
     let one = two.before.before.before in
     record {
-      inside = one.if1.false;
-      first = two.if2.false;
-      second = three.if3.false;
-      third = four.if4.false;
+      inside = one.if-row-at.false;
+      first = two.if-row-at-2.false;
+      second = three.if-row-at-3.false;
+      third = four.if-row-at-4.false;
       fourth = eqb-false _ _ (not-true _ t);
     }
 
-pub four-singles-spec : {M : Type 1} → statement M
-four-singles-spec =
+pub four_singles_spec : {M : Type 1} → statement M
+four_singles_spec =
     tie.close
     (tie.spec
     (λ c. search rules)

@@ -6,12 +6,15 @@ use borrow.Author.Tests.{le-leb, lt-leb}
 use Rattle.pack.proofs.least_len.Statement.{statement}
 use Rattle.pack.proofs.least_len.Tie as tie
 
-returns : tie.Need-returns
-returns c = simp (lt-leb (length c.before.before.args.row.now) 128 (omega arith))
+returns : tie.Need-returns-then-row-gt-MAX_WIDTH
+returns c = simp (lt-leb (length c.args.row.now) 128 (omega arith))
 
-returns-2 : tie.Need-returns-2
+returns-2 : tie.Need-returns
 returns-2 c =
-    simp (le-leb (length c.before.before.before.args.row.now) 128 (omega arith)) c.body-len.ensures
+    simp (le-leb (length c.args.row.now) 128 (omega arith)) c.body_len.ensures
 
-pub least-len-spec : {M : Type 1} → statement M
-least-len-spec = tie.close (tie.spec returns (λ c κs. search rules) returns-2)
+pub least_len_spec : {M : Type 1} → statement M
+least_len_spec = tie.close (tie.spec
+    returns
+    (λ c κs. search rules)
+    returns-2)

@@ -11,34 +11,34 @@ use Rattle.pack.proofs.pack_row.Statement.{statement}
 use Rattle.pack.proofs.pack_row.Tie as tie
 
 -- past the first test the width is in range
-range-here : (e : tie.Else1) → width_out_of_range (length e.before.before.before.before.args.row.now) ≡ false
-range-here e = sym e.before.width-out-of-range.ensures ∙ e.if1.false
+range-here : (e : tie.Else-width_out_of_range) → width_out_of_range (length e.args.row.now) ≡ false
+range-here e = sym e.width_out_of_range.ensures ∙ e.if-width_out_of_range.false
 
-returns : tie.Need-returns
+returns : tie.Need-returns-then-width_out_of_range
 returns c =
     let t = c.before.before in
-    let a = t.before.before.before.before.args in
-    let w = sym t.before.width-out-of-range.ensures ∙ t.if1.true in
-    rw (pack-wide max_body a.row.now (length a.out.now) w, ← c.before.refuse.ensures)
-    (c.row-refused.ensures, refl)
+    let a = t.args in
+    let w = sym t.width_out_of_range.ensures ∙ t.if-width_out_of_range.true in
+    rw (pack-wide max_body a.row.now (length a.out.now) w, ← c.refuse.ensures)
+    (c.row_refused.ensures, refl)
 
-returns-2 : tie.Need-returns-2
+returns-2 : tie.Need-returns-then-out-lt-MAX_BODY
 returns-2 c =
     let e = c.before.before.before in
-    let a = e.before.before.before.before.args in
+    let a = e.args in
     let w = range-here e in
-    rw (pack-short max_body a.row.now (length a.out.now) w (omega arith), ← c.before.refuse2.ensures)
-    (c.row-refused2.ensures, refl)
+    rw (pack-short max_body a.row.now (length a.out.now) w (omega arith), ← c.refuse-then-out-lt-MAX_BODY.ensures)
+    (c.row_refused-then-out-lt-MAX_BODY.ensures, refl)
 
-returns-3 : tie.Need-returns-3
+returns-3 : tie.Need-returns
 returns-3 c =
     let e = c.before.before.before.before.before in
-    let a = e.before.before.before.before.args in
+    let a = e.args in
     let w = range-here e in
-    rw (← pack-into-row a.row.now (length a.out.now) w (omega arith)) c.before.before.pack-into.ensures
+    rw (← pack-into-row a.row.now (length a.out.now) w (omega arith)) c.pack_into.ensures
 
-pub pack-row-spec : {M : Type 1} → statement M
-pack-row-spec =
+pub pack_row_spec : {M : Type 1} → statement M
+pack_row_spec =
     tie.close
     (tie.spec
     (λ c κs. search rules)

@@ -9,25 +9,25 @@ use Rattle.pack.proofs.put_before.Statement.{statement}
 use Rattle.pack.proofs.put_before.Tie as tie
 
 -- a single byte alone
-single : (c : tie.Then1)
-    → let a = c.before.before.before.before.args in
+single : (c : tie.Then-s-i)
+    → let a = c.args in
     LiteralFirst a.row.now a.i 1 a.out.now
 single c =
     let s = c.before.before.before.before in
     let known = s.requires.0.2 in
-    let h : s.args.i < length s.args.row.now = omega (arith, c.if1.true, known.within) in
+    let h : s.args.i < length s.args.row.now = omega (arith, c.if-s-i.true, known.within) in
     literal-first s.args.row.now s.args.i h s.requires.0.0 1 (omega arith) s.args.out.now s.requires.1
     (omega arith)
-    (known-one s.args.row.now s.args.i s.args.s known h (omega (arith, c.if1.true)) c.if1.true)
+    (known-one s.args.row.now s.args.i s.args.s known h (omega (arith, c.if-s-i.true)) c.if-s-i.true)
 
-returns : tie.Need-returns
+returns : tie.Need-returns-then-s-i
 returns c =
     let t = c.before.before.before.before.before in
-    let p = c.before.before.put-bytes.ensures in
-    rw t.if1.true ((single t).1 _ _ _ p.0 p.1)
+    let p = c.put_bytes-p.ensures in
+    rw t.if-s-i.true ((single t).1 _ _ _ p.0 p.1)
 
-pub put-before-spec : {M : Type 1} → statement M
-put-before-spec =
+pub put_before_spec : {M : Type 1} → statement M
+put_before_spec =
     tie.close
     (tie.spec
     (λ c. search rules)
@@ -39,4 +39,4 @@ put-before-spec =
     returns
     (λ c κs. search rules)
     (λ c. search rules)
-    (λ c. c.before.before.put-short.ensures))
+    (λ c. c.put_short.ensures))

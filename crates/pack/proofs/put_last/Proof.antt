@@ -9,48 +9,48 @@ use borrow.Author.Rules.{rules}
 use Rattle.pack.proofs.put_last.Statement.{statement}
 use Rattle.pack.proofs.put_last.Tie as tie
 
-returns : tie.Need-returns
+returns : tie.Need-returns-then-left-gt2
 returns c =
     let s = c.before.before.before in
     emitted-none s.args.row.now s.args.i s.args.out.now (omega (arith, s.requires.0.0))
 
 -- a pair
-pair : (c : tie.Then2)
-    → let a = c.before.before.before.before.before.before.args in
+pair : (c : tie.Then-end_by_bytes-i)
+    → let a = c.args in
     RepeatFirst a.row.now a.i 2 a.out.now
 pair c =
     let s = c.before.before.before.before.before.before in
-    let e = c.before.end-by-bytes.ensures in
+    let e = c.end_by_bytes.ensures in
     repeat-first s.args.row.now s.args.i s.requires.0.0 s.requires.0.1 2 (omega arith) s.args.out.now
     s.requires.1 (omega arith)
-    (last-pair s.args.row.now s.args.i s.requires.0.0 (omega (arith, c.before.before.before.if1.false))
-    (sym c.if2.true ∙ e))
+    (last-pair s.args.row.now s.args.i s.requires.0.0 (omega (arith, c.if-left-gt2.false))
+    (sym c.if-end_by_bytes-i.true ∙ e))
 
 -- a literal to the end
-literal : (c : tie.Else2)
-    → let a = c.before.before.before.before.before.before.args in
+literal : (c : tie.Else-end_by_bytes-i)
+    → let a = c.args in
     LiteralFirst a.row.now a.i (length a.row.now - a.i) a.out.now
 literal c =
     let s = c.before.before.before.before.before.before in
-    let e = c.before.end-by-bytes.ensures in
+    let e = c.end_by_bytes.ensures in
     literal-first s.args.row.now s.args.i s.requires.0.0 s.requires.0.1
     (length s.args.row.now - s.args.i) (omega (arith, s.requires.0.1)) s.args.out.now s.requires.1
     (omega (arith, s.requires.0.0))
-    (last-other s.args.row.now s.args.i s.requires.0.0 (omega (arith, c.before.before.before.if1.false))
-    (λ q. c.if2.false (e ∙ q)))
+    (last-other s.args.row.now s.args.i s.requires.0.0 (omega (arith, c.if-left-gt2.false))
+    (λ q. c.if-end_by_bytes-i.false (e ∙ q)))
 
-returns-2 : tie.Need-returns-2
+returns-2 : tie.Need-returns-then-end_by_bytes-i
 returns-2 c =
-    let p = c.before.before.put-repeat.ensures in
+    let p = c.put_repeat-p.ensures in
     (pair c.before.before.before.before.before).1 _ _ _ p.0 p.1
 
-returns-3 : tie.Need-returns-3
+returns-3 : tie.Need-returns
 returns-3 c =
-    let p = c.before.before.put-bytes.ensures in
+    let p = c.put_bytes-p.ensures in
     (literal c.before.before.before.before.before).1 _ _ _ p.0 p.1
 
-pub put-last-spec : {M : Type 1} → statement M
-put-last-spec =
+pub put_last_spec : {M : Type 1} → statement M
+put_last_spec =
     tie.close
     (tie.spec
     (λ c. search rules)

@@ -24,39 +24,39 @@ pair-here i s h =
     let e : control_at i s ≡ 255 = rw (le-ltb i s.single h) refl in
     (e, ap shown_by e ∙ (repeat-shown 2 (omega arith) (omega arith)).0)
 
-put-bytes-requires : tie.Need-put-bytes-requires
+put-bytes-requires : tie.Need-put_bytes-requires
 put-bytes-requires c κs =
     let s = c.before.before.before.before.before.before in
-    let k = literal-here s.args.i s.args.s c.before.before.if1.true s.requires.0.0 in
+    let k = literal-here s.args.i s.args.s c.if-i-s.true s.requires.0.0 in
     (omega arith, omega (arith, s.requires.0.0), omega (arith, k, s.requires.1.0), omega (arith, k, s.requires.1.1))
 
-returns : tie.Need-returns
+returns : tie.Need-returns-then-i-s
 returns c =
     let s = c.before.before.before.before.before.before.before.before.before in
     let a = s.args in
-    let q = c.before.before.put-bytes in
-    let k = literal-here a.i a.s c.before.before.before.before.before.if1.true s.requires.0.0 in
-    puts-literal (control_at a.i a.s) (a.s.single - a.i) a.row.now a.out.now q.new.1.1.0
+    let q = c.put_bytes in
+    let k = literal-here a.i a.s c.if-i-s.true s.requires.0.0 in
+    puts-literal (control_at a.i a.s) (a.s.single - a.i) a.row.now a.out.now q.new.out
     q.result.taken q.result.made k.0 (omega arith) (omega (arith, s.requires.0.0))
     (omega (arith, k, s.requires.1.0)) q.ensures.0 q.ensures.1
 
-put-repeat-requires : tie.Need-put-repeat-requires
+put-repeat-requires : tie.Need-put_repeat-requires
 put-repeat-requires c κs =
     let s = c.before.before.before.before.before in
-    let k = pair-here s.args.i s.args.s c.before.if1.false in
+    let k = pair-here s.args.i s.args.s c.if-i-s.false in
     (omega arith, omega arith, s.requires.0.1, omega (arith, k, s.requires.1.1))
 
-returns-2 : tie.Need-returns-2
+returns-2 : tie.Need-returns
 returns-2 c =
     let s = c.before.before.before.before.before.before.before.before in
     let a = s.args in
-    let q = c.before.before.put-repeat in
-    let k = pair-here a.i a.s c.before.before.before.before.if1.false in
-    puts-repeat (control_at a.i a.s) 2 a.row.now a.out.now q.new.1.1.0 q.result.taken
+    let q = c.put_repeat in
+    let k = pair-here a.i a.s c.if-i-s.false in
+    puts-repeat (control_at a.i a.s) 2 a.row.now a.out.now q.new.out q.result.taken
     q.result.made k.0 (omega arith) (omega arith) s.requires.0.1 q.ensures.0 q.ensures.1
 
-pub put-next-spec : {M : Type 1} → statement M
-put-next-spec =
+pub put_next_spec : {M : Type 1} → statement M
+put_next_spec =
     tie.close
     (tie.spec
     (λ c. search rules)

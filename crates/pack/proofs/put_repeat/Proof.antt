@@ -13,15 +13,15 @@ use Rattle.pack.proofs.put_repeat.Tie as tie
 
 returns : tie.Need-returns
 returns c =
-    let a = c.before.args in
+    let a = c.args in
     let k = repeat-shown a.n (omega arith) (omega arith) in (
       (refl, refl),
       repeat-written (257 - a.n) a.row.now a.out.now (omega arith) (omega arith)
           ∙ ap (λ (k : ℕ). over ((257 - a.n) ∷ take k a.row.now) a.out.now) (sym k.0),
     )
 
-pub put-repeat-spec : {M : Type 1} → statement M
-put-repeat-spec =
+pub put_repeat_spec : {M : Type 1} → statement M
+put_repeat_spec =
     tie.close
     (tie.spec
     (λ c. search rules)

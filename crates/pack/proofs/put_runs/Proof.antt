@@ -12,71 +12,71 @@ use borrow.Author.Rules.{rules}
 use Rattle.pack.proofs.put_runs.Statement.{statement}
 use Rattle.pack.proofs.put_runs.Tie as tie
 
-returns : tie.Need-returns
+returns : tie.Need-returns-then-s-eq0
 returns c =
     let p = c.before.before.before.before in
     let s = p.before.before.before.before in
-    let e : s.args.s.end + s.args.s.count ≡ s.args.s.end = omega (arith, c.if1.true) in
-    rw e p.put-before.ensures
+    let e : s.args.s.end + s.args.s.count ≡ s.args.s.end = omega (arith, c.if-s-eq0.true) in
+    rw e p.put_before-p.ensures
 
 -- a run follows the short ones: where its record goes, and the record
-room : (f : tie.Else1) → let p = f.before.before.before.before.put-before in
-    p.result.bytes ≤ length p.new.1.1.1.0
+room : (f : tie.Else-s-eq0) → let p = f.put_before-p in
+    p.result.bytes ≤ length p.new.out
 room f =
     let p = f.before.before.before.before in
-    emitted-room p.put-before.ensures p.before.before.before.before.requires.1
+    emitted-room p.put_before-p.ensures p.requires.1
 
-long : (f : tie.Else1)
+long : (f : tie.Else-s-eq0)
     → let p = f.before.before.before.before in
-    let a = p.before.before.before.before.args in
-    let o = p.put-before.result.bytes in
-    let out = p.put-before.new.1.1.1.0 in
+    let a = p.args in
+    let o = p.put_before-p.result.bytes in
+    let out = p.put_before-p.new.out in
     RepeatFirst a.row.now a.s.end a.s.count (take (length out - o) (drop o out))
 long f =
     let p = f.before.before.before.before in
     let s = p.before.before.before.before in
     let t = s.args.s in
-    let l = s.requires.0.2.after f.if1.false in
+    let l = s.requires.0.2.after f.if-s-eq0.false in
     repeat-first s.args.row.now t.end l.inside s.requires.0.0 t.count
-    (omega (arith, long-bounds l, s.requires.0.0)) _ (left-fits p.put-before.ensures s.requires.1)
+    (omega (arith, long-bounds l, s.requires.0.0)) _ (left-fits p.put_before-p.ensures s.requires.1)
     (omega (arith, l.long)) (long-control l)
 
 -- what holds after the record
-turned : (d : tie.After-put-repeat)
+turned : (d : tie.After-put_repeat-q)
     → let p = d.before.before.before.before.before.before.before in
-    let a = p.before.before.before.before.args in
-    let b = p.put-before.result in
-    let out = p.put-before.new.1.1.1.0 in
-    let q = d.put-repeat in
+    let a = p.args in
+    let b = p.put_before-p.result in
+    let out = p.put_before-p.new.out in
+    let q = d.put_repeat-q in
     Emitted a.row.now a.i (a.s.end + a.s.count) a.out.now
-    (put_mid b.bytes (length out - b.bytes) out q.new.1.1.0) (b.bytes + q.result.made) (b.records + 1)
+    (put_mid b.bytes (length out - b.bytes) out q.new.out) (b.bytes + q.result.made) (b.records + 1)
 turned d =
-    let q = d.put-repeat.ensures in
-    emitted_then d.before.before.before.before.before.before.before.put-before.ensures
+    let q = d.put_repeat-q.ensures in
+    emitted_then d.put_before-p.ensures
     ((long d.before.before.before).1 _ _ _ q.0 q.1)
 
-add-t13 : tie.Need-overflow-add-t13
+add-t13 : tie.Need-overflow_add-result
 add-t13 c =
     let d = c.before.before.before in
     let s = d.before.before.before.before.before.before.before.before.before.before.before in
     let g = turned d in
-    omega (arith, emitted-room g s.requires.1, emitted-kept g s.requires.1, s.well-formed)
+    omega (arith, emitted-room g s.requires.1, emitted-kept g s.requires.1, s.well_formed)
 
-add-t17 : tie.Need-overflow-add-t17
+add-t17 : tie.Need-overflow_add-result-2
 add-t17 c =
     let d = c.before.before.before.before in
     let s = d.before.before.before.before.before.before.before.before.before.before.before in
     let g = turned d in
     omega (arith, g.few, g.within, s.requires.0.0)
 
-same-length-2 : tie.Need-same-length-2
+same-length-2 : tie.Need-shape_of-out
 same-length-2 c =
     let d = c.before.before.before.before in
     let s = d.before.before.before.before.before.before.before.before.before.before.before in
     emitted-kept (turned d) s.requires.1
 
-pub put-runs-spec : {M : Type 1} → statement M
-put-runs-spec =
+pub put_runs_spec : {M : Type 1} → statement M
+put_runs_spec =
     tie.close
     (tie.spec
     (λ c κs. search rules)

@@ -9,57 +9,57 @@ use Rattle.pack.proofs.ShortRuns.{ScanningOn, on-start, on-single, on-pair, on-l
 use Rattle.pack.proofs.short_runs.Statement.{statement}
 use Rattle.pack.proofs.short_runs.Tie as tie
 
-abbrev invariant-loop : tie.invariant-loop
+abbrev invariant-loop : tie.invariant-loop-at
 invariant-loop row i single₀ at₀ single at = ScanningOn row i single at
 
-abbrev decreases-loop : tie.decreases-loop
+abbrev decreases-loop : tie.decreases-loop-at
 decreases-loop row i single₀ at₀ single at = length row - at
 
 -- four single bytes
-four : (c : tie.Then1 invariant-loop decreases-loop)
-    → FourSingles c.before.before.before.before.before.args.row.now c.before.before.before.loop.at
-four c = c.before.four-singles.ensures c.if1.true
+four : (c : tie.Then-four_singles invariant-loop decreases-loop)
+    → FourSingles c.args.row.now c.loop-at.at
+four c = c.four_singles.ensures c.if-four_singles.true
 
 -- the run is within the row
-bounds : (c : tie.After-run-at invariant-loop decreases-loop)
-    → let row = c.before.before.before.before.before.before.args.row.now in
-    (1 ≤ c.run_at.result) × (c.before.before.before.before.loop.at + c.run_at.result ≤ length row)
-bounds c = run-bounds _ _ _ c.before.before.before.loop-test.true c.run_at.ensures
+bounds : (c : tie.After-run_at-n invariant-loop decreases-loop)
+    → let row = c.args.row.now in
+    (1 ≤ c.run_at-n.result) × (c.loop-at.at + c.run_at-n.result ≤ length row)
+bounds c = run-bounds _ _ _ c.loop-at-test.true c.run_at-n.ensures
 
-returns : tie.Need-returns invariant-loop decreases-loop
+returns : tie.Need-returns-then-n-gt2 invariant-loop decreases-loop
 returns c =
     let r = c.before in
     let t = r.before.before.before in
-    on-long t.loop-test.true r.run_at.ensures t.before.loop.invariant (omega arith)
+    on-long t.loop-at-test.true r.run_at-n.ensures t.loop-at.invariant (omega arith)
 
-loop-again-2 : tie.Need-loop-preserved-2 invariant-loop decreases-loop
+loop-again-2 : tie.Need-loop-at-preserved-then-n-eq1 invariant-loop decreases-loop
 loop-again-2 c =
     let r = c.before.before in
     let t = r.before.before.before in
-    on-single t.loop-test.true r.run_at.ensures t.before.loop.invariant c.if3.true
+    on-single t.loop-at-test.true r.run_at-n.ensures t.loop-at.invariant c.if-n-eq1.true
 
-loop-again-3 : tie.Need-loop-preserved-3 invariant-loop decreases-loop
+loop-again-3 : tie.Need-loop-at-preserved invariant-loop decreases-loop
 loop-again-3 c =
     let r = c.before.before in
     let t = r.before.before.before in
-    on-pair t.loop-test.true r.run_at.ensures t.before.loop.invariant c.before.if2.false c.if3.false
+    on-pair t.loop-at-test.true r.run_at-n.ensures t.loop-at.invariant c.if-n-gt2.false c.if-n-eq1.false
 
-pub short-runs-spec : {M : Type 1} → statement M
-short-runs-spec =
+pub short_runs_spec : {M : Type 1} → statement M
+short_runs_spec =
     tie.close
     (tie.spec
     invariant-loop
     decreases-loop
-    (λ c. on-start c.before.args.row.now c.before.args.i c.before.requires.0)
+    (λ c. on-start c.args.row.now c.args.i c.requires.0)
     (λ c κs. search rules)
-    (λ c. omega (arith, (four c).inside, c.before.before.before.before.before.well-formed))
+    (λ c. omega (arith, (four c).inside, c.well_formed))
     (λ c. omega (arith, (four c).inside))
-    (λ c. on-four (four c) c.before.before.before.loop.invariant)
+    (λ c. on-four (four c) c.loop-at.invariant)
     (λ c κs. search rules)
     returns
-    (λ c. omega (arith, bounds c.before, c.before.before.before.before.before.before.before.well-formed))
+    (λ c. omega (arith, bounds c.before, c.well_formed))
     (λ c. omega (arith, bounds c.before.before))
     loop-again-2
     (λ c. omega (arith, bounds c.before.before))
     loop-again-3
-    (λ c. on-end c.loop-test.false c.before.loop.invariant))
+    (λ c. on-end c.loop-at-test.false c.loop-at.invariant))

@@ -3,5 +3,7 @@ use borrow.Author.Rules.{rules}
 use Rattle.picture.proofs.read_done.Statement.{statement}
 use Rattle.picture.proofs.read_done.Tie as tie
 
-pub read-done-spec : {M : Type 1} → statement M
-read-done-spec = tie.close (tie.spec (λ c κs. search rules) (λ c. simp c.none.ensures))
+pub read_done_spec : {M : Type 1} → statement M
+read_done_spec = tie.close (tie.spec
+    (λ c κs. search rules)
+    (λ c. simp c.none.ensures))

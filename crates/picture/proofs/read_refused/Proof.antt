@@ -3,5 +3,7 @@ use borrow.Author.Rules.{rules}
 use Rattle.picture.proofs.read_refused.Statement.{statement}
 use Rattle.picture.proofs.read_refused.Tie as tie
 
-pub read-refused-spec : {M : Type 1} → statement M
-read-refused-spec = tie.close (tie.spec (λ c κs. search rules) (λ c. simp c.without-tail.ensures))
+pub read_refused_spec : {M : Type 1} → statement M
+read_refused_spec = tie.close (tie.spec
+    (λ c κs. search rules)
+    (λ c. simp c.without_tail-picture.ensures))

@@ -12,13 +12,13 @@ use Rattle.tiny.proofs.expand_sections.Tie as tie
 
 returns : tie.Need-returns
 returns c =
-    let a = c.before.before.before.before.before.before.before.before.before.before.before in
+    let a = c in
     let file = a.args.file.now in
-    let k = c.before.before.before.before.before.before.before in
-    let controls = k.control-count.ensures in
-    let start = k.before.control-start.ensures in
+    let k = c in
+    let controls = k.control_count-controls.ensures in
+    let start = k.control_start-start.ensures in
     let e = sections-lent file a.requires.0 _ _ _ start controls.0 a.requires.1 in
-    let done = c.before.before.expand.ensures in
+    let done = c.expand.ensures in
     let is = done.0 ∙ ap counted e in
     let used = controls-used file a.requires.0 in (
       is,
@@ -28,11 +28,19 @@ returns c =
       ),
     )
 
-pub expand-sections-spec : {M : Type 1} → statement M
-expand-sections-spec =
+pub expand_sections_spec : {M : Type 1} → statement M
+expand_sections_spec =
     tie.close
     (tie.spec
-    (λ c κs. search rules) (λ c κs. search rules) (λ c. search rules) (λ c. search rules)
-    (λ c. search rules) (λ c. search rules) (λ c. search rules) (λ c. search rules) (λ c. search rules)
-    (λ c κs. search rules) (λ c. search rules)
+    (λ c κs. search rules)
+    (λ c κs. search rules)
+    (λ c. search rules)
+    (λ c. search rules)
+    (λ c. search rules)
+    (λ c. search rules)
+    (λ c. search rules)
+    (λ c. search rules)
+    (λ c. search rules)
+    (λ c κs. search rules)
+    (λ c. search rules)
     returns)

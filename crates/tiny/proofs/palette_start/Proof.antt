@@ -6,17 +6,20 @@ use borrow.Author.Rules.{rules}
 use Rattle.tiny.proofs.palette_start.Statement.{statement}
 use Rattle.tiny.proofs.palette_start.Tie as tie
 
-returns : tie.Need-returns
+returns : tie.Need-returns-then-resolution_byte-gt-HIGHEST_PLAIN
 unfolding palette_start
 returns c =
-    let file = c.before.before.before.args.file.now in
-    rw (lt-ltb highest_plain (resolution_byte file) (omega (arith, c.before.resolution-byte.ensures)))
+    let file = c.args.file.now in
+    rw (lt-ltb highest_plain (resolution_byte file) (omega (arith, c.resolution_byte.ensures)))
 
-returns-2 : tie.Need-returns-2
+returns-2 : tie.Need-returns
 unfolding palette_start
 returns-2 c =
-    let file = c.before.before.before.args.file.now in
-    rw (le-ltb highest_plain (resolution_byte file) (omega (arith, c.before.resolution-byte.ensures)))
+    let file = c.args.file.now in
+    rw (le-ltb highest_plain (resolution_byte file) (omega (arith, c.resolution_byte.ensures)))
 
-pub palette-start-spec : {M : Type 1} → statement M
-palette-start-spec = tie.close (tie.spec (λ c κs. search rules) returns returns-2)
+pub palette_start_spec : {M : Type 1} → statement M
+palette_start_spec = tie.close (tie.spec
+    (λ c κs. search rules)
+    returns
+    returns-2)

@@ -5,14 +5,17 @@ use Rattle.tiny.proofs.picture_of.Tie as tie
 
 returns : tie.Need-returns
 returns c =
-    let start = c.before.before in
-    rw (c.without-tail.ensures, c.before.palette-at.ensures, start.palette-start.ensures)
-    (rw start.before.resolution-byte.ensures)
+    let start = c in
+    rw (c.without_tail.ensures, c.palette_at-palette.ensures, start.palette_start.ensures)
+    (rw start.resolution_byte-number.ensures)
 
-pub picture-of-spec : {M : Type 1} → statement M
-picture-of-spec =
+pub picture_of_spec : {M : Type 1} → statement M
+picture_of_spec =
     tie.close
     (tie.spec
-    (λ c κs. search rules) (λ c κs. search rules) (λ c κs. search rules) (λ c. search rules)
+    (λ c κs. search rules)
+    (λ c κs. search rules)
+    (λ c κs. search rules)
+    (λ c. search rules)
     (λ c κs. search rules)
     returns)

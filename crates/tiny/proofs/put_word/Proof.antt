@@ -19,5 +19,9 @@ returns c =
     ∙ ap₂ (λ (h l : ℕ). over (h ∷ l ∷ []) a.out.now) (sym (digits_div a.high fits))
     (sym (digits_mod a.high fits))
 
-pub put-word-spec : {M : Type 1} → statement M
-put-word-spec = tie.close (tie.spec (λ c. search rules) (λ c. search rules) (λ c. search rules) returns)
+pub put_word_spec : {M : Type 1} → statement M
+put_word_spec = tie.close (tie.spec
+    (λ c. search rules)
+    (λ c. search rules)
+    (λ c. search rules)
+    returns)

@@ -6,39 +6,45 @@ use borrow.Author.Rules.{rules}
 use Rattle.tiny.proofs.read_sections.Statement.{statement}
 use Rattle.tiny.proofs.read_sections.Tie as tie
 
-returns : tie.Need-returns
+returns : tie.Need-returns-then-file-start
 returns c =
-    let file = c.before.before.before.before.before.before.args.file.now in
-    let start = c.before.before.before.control-start.ensures in
-    rw (sections-short file (omega (arith, c.before.before.if1.true, start)))
-    (rw (c.read-refused.ensures, c.before.refuse.ensures), refl)
+    let file = c.args.file.now in
+    let start = c.control_start-start.ensures in
+    rw (sections-short file (omega (arith, c.if-file-start.true, start)))
+    (rw (c.read_refused.ensures, c.refuse.ensures), refl)
 
-returns-2 : tie.Need-returns-2
+returns-2 : tie.Need-returns-then-file-start-2
 returns-2 c =
-    let e = c.before.before in
-    let file = e.before.before.before.before.before.before.args.file.now in
-    let start = e.before.before.before.control-start.ensures in
-    let body = e.before.body-length.ensures.0 in
-    rw (sections-wrong file (omega (arith, e.before.before.if1.false, start))
-    (λ q. e.if2.true (omega (arith, q, start, body))))
-    (rw (c.read-refused2.ensures, c.before.refuse2.ensures), refl)
+    let e = c in
+    let file = e.args.file.now in
+    let start = e.control_start-start.ensures in
+    let body = e.body_length.ensures.0 in
+    rw (sections-wrong file (omega (arith, e.if-file-start.false, start))
+    (λ q. e.if-file-start-2.true (omega (arith, q, start, body))))
+    (rw (c.read_refused-then-file-start-2.ensures, c.refuse-then-file-start-2.ensures), refl)
 
-returns-3 : tie.Need-returns-3
+returns-3 : tie.Need-returns
 returns-3 c =
-    let e = c.before.before.before.before in
-    let file = e.before.before.before.before.before.before.args.file.now in
-    let start = e.before.before.before.control-start.ensures in
-    let body = e.before.body-length.ensures.0 in
-    rw (sections-fit file (omega (arith, e.before.before.if1.false, e.if2.false, start, body)))
-    (c.before.before.read-runs.ensures.0, c.before.before.read-runs.ensures.1)
+    let e = c in
+    let file = e.args.file.now in
+    let start = e.control_start-start.ensures in
+    let body = e.body_length.ensures.0 in
+    rw (sections-fit file (omega (arith, e.if-file-start.false, e.if-file-start-2.false, start, body)))
+    (c.read_runs.ensures.0, c.read_runs.ensures.1)
 
-pub read-sections-spec : {M : Type 1} → statement M
-read-sections-spec =
+pub read_sections_spec : {M : Type 1} → statement M
+read_sections_spec =
     tie.close
     (tie.spec
-    (λ c κs. search rules) (λ c κs. search rules) (λ c κs. search rules)
+    (λ c κs. search rules)
+    (λ c κs. search rules)
+    (λ c κs. search rules)
     returns
-    (λ c. search rules) (λ c κs. search rules) (λ c κs. search rules) (λ c κs. search rules)
+    (λ c. search rules)
+    (λ c κs. search rules)
+    (λ c κs. search rules)
+    (λ c κs. search rules)
     returns-2
-    (λ c κs. search rules) (λ c. search rules)
+    (λ c κs. search rules)
+    (λ c. search rules)
     returns-3)

@@ -9,15 +9,19 @@ use Rattle.degas.proofs.reading.copy_screen.Tie as tie
 
 returns : tie.Need-returns
 returns c =
-    let d = c.before.before.before in
-    let a = d.before.before.before.before.before.args in
+    let d = c in
+    let a = d.args in
     let part = copied-part a.file.now a.area.now _ header_length screen_bytes _ refl d.copy.ensures.1 in
     (c.read_done.ensures, part)
 
-pub copy-screen-spec : {M : Type 1} → statement M
-copy-screen-spec =
+pub copy_screen_spec : {M : Type 1} → statement M
+copy_screen_spec =
     tie.close
     (tie.spec
-    (λ c. search rules) (λ c. search rules) (λ c. search rules) (λ c κs. search rules) (λ c κs. search rules)
+    (λ c. search rules)
+    (λ c. search rules)
+    (λ c. search rules)
+    (λ c κs. search rules)
+    (λ c κs. search rules)
     (λ c. search rules)
     returns)

@@ -5,10 +5,15 @@ use Rattle.degas.proofs.reading.elite_picture.Tie as tie
 
 returns : tie.Need-returns
 returns c =
-    let n = c.before.before in
-    rw (c.with_tail.ensures, c.before.tail_at.ensures, n.number.ensures, n.before.palette-at.ensures)
+    let n = c in
+    rw (c.with_tail.ensures, c.tail_at.ensures, n.number.ensures, n.palette_at-palette.ensures)
 
-pub elite-picture-spec : {M : Type 1} → statement M
-elite-picture-spec =
+pub elite_picture_spec : {M : Type 1} → statement M
+elite_picture_spec =
     tie.close
-    (tie.spec (λ c κs. search rules) (λ c κs. search rules) (λ c κs. search rules) (λ c κs. search rules) returns)
+    (tie.spec
+    (λ c κs. search rules)
+    (λ c κs. search rules)
+    (λ c κs. search rules)
+    (λ c κs. search rules)
+    returns)

@@ -3,10 +3,13 @@ use borrow.Author.Rules.{rules}
 use Rattle.degas.proofs.reading.read_opened.Statement.{statement}
 use Rattle.degas.proofs.reading.read_opened.Tie as tie
 
-pub read-opened-spec : {M : Type 1} → statement M
-read-opened-spec =
+pub read_opened_spec : {M : Type 1} → statement M
+read_opened_spec =
     tie.close
-    (tie.spec (λ c κs. search rules) (λ c. search rules)
-    (λ c. rw c.before.before.before.before.if1.true c.before.before.read-packed.ensures)
-    (λ c κs. search rules) (λ c. search rules)
-    (λ c. rw c.before.before.before.before.if1.false c.before.before.read-raw.ensures))
+    (tie.spec
+    (λ c κs. search rules)
+    (λ c. search rules)
+    (λ c. rw c.if-h.true c.read_packed.ensures)
+    (λ c κs. search rules)
+    (λ c. search rules)
+    (λ c. rw c.if-h.false c.read_raw.ensures))

@@ -12,19 +12,24 @@ use Rattle.degas.proofs.writing.put_elite.Tie as tie
 returns : tie.Need-returns
 unfolding plain_file elite_file
 returns c =
-    let b = c.before.before.before.before.before.before in
-    let a = b.before.before.before.before.before.args in
+    let b = c in
+    let a = b.args in
     let p = a.picture in
     let screen = take screen_bytes a.screen.now in
     let tail = tail_bytes p.tail in
-    let t = c.before.before.put-tail.ensures.0 in
+    let t = c.put_tail.ensures.0 in
     written_as (elite_file p a.screen.now) (append_assoc (header p.resolution p) screen tail)
-    (written-more b.put-plain.ensures.0 tail _ _ t.bytes t.all)
+    (written-more b.put_plain-end.ensures.0 tail _ _ t.bytes t.all)
 
-pub put-elite-spec : {M : Type 1} → statement M
-put-elite-spec =
+pub put_elite_spec : {M : Type 1} → statement M
+put_elite_spec =
     tie.close
     (tie.spec
-    (λ c κs. search rules) (λ c. search rules) (λ c. search rules) (λ c. search rules) (λ c κs. search rules)
-    (λ c. search rules) (λ c. search rules)
+    (λ c κs. search rules)
+    (λ c. search rules)
+    (λ c. search rules)
+    (λ c. search rules)
+    (λ c κs. search rules)
+    (λ c. search rules)
+    (λ c. search rules)
     returns)

@@ -12,25 +12,33 @@ use Rattle.degas.proofs.writing.put_header.Tie as tie
 
 returns : tie.Need-returns
 returns c =
-    let d = c.before.before.before.before.before.before.before in
-    let b = d.before.before.before in
-    let a = b.before.before.before.before.args in
-    let first = b.before.word_Bytes.result in
-    let words = b.palette-bytes.result in
+    let d = c in
+    let b = d in
+    let a = b.args in
+    let first = b.word_bytes-first.result in
+    let words = b.palette_bytes-words.result in
     let m : length first ≡ 2 = search rules in
     let n : length words ≡ 32 = search rules in
-    let e = c.before.before.copy2.ensures in
-    let w = written-copied first a.out.now _ _ d.copy.ensures.0 d.copy.ensures.1 in (
-      written_as (header a.word a.picture) (ap₂ ◌++◌ b.before.word_Bytes.ensures b.palette-bytes.ensures)
+    let e = c.copy.ensures in
+    let w = written-copied first a.out.now _ _ d.copy-start.ensures.0 d.copy-start.ensures.1 in (
+      written_as (header a.word a.picture) (ap₂ ◌++◌ b.word_bytes-first.ensures b.palette_bytes-words.ensures)
           (written-more w words _ _ e.0 (e.1 ∙ copied-over words _)),
-      omega (arith, d.copy.ensures.0, e.0),
+      omega (arith, d.copy-start.ensures.0, e.0),
     )
 
-pub put-header-spec : {M : Type 1} → statement M
-put-header-spec =
+pub put_header_spec : {M : Type 1} → statement M
+put_header_spec =
     tie.close
     (tie.spec
-    (λ c κs. search rules) (λ c κs. search rules) (λ c. search rules) (λ c κs. search rules) (λ c. search rules)
-    (λ c. search rules) (λ c. search rules) (λ c. search rules) (λ c κs. search rules) (λ c. search rules)
+    (λ c κs. search rules)
+    (λ c κs. search rules)
+    (λ c. search rules)
+    (λ c κs. search rules)
+    (λ c. search rules)
+    (λ c. search rules)
+    (λ c. search rules)
+    (λ c. search rules)
+    (λ c κs. search rules)
+    (λ c. search rules)
     (λ c. search rules)
     returns)

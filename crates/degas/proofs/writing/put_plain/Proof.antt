@@ -11,17 +11,22 @@ use Rattle.degas.proofs.writing.put_plain.Tie as tie
 returns : tie.Need-returns
 unfolding plain_file
 returns c =
-    let h = c.before.before.before.before.before.before in
-    let screen = take screen_bytes h.before.before.before.before.args.screen.now in
-    let s = c.before.before.put-screen.ensures in (
-      written-more h.put-header.ensures.0 screen _ _ s.0.bytes s.0.all,
-      omega (arith, h.put-header.ensures.1, s.1),
+    let h = c in
+    let screen = take screen_bytes h.args.screen.now in
+    let s = c.put_screen.ensures in (
+      written-more h.put_header-start.ensures.0 screen _ _ s.0.bytes s.0.all,
+      omega (arith, h.put_header-start.ensures.1, s.1),
     )
 
-pub put-plain-spec : {M : Type 1} → statement M
-put-plain-spec =
+pub put_plain_spec : {M : Type 1} → statement M
+put_plain_spec =
     tie.close
     (tie.spec
-    (λ c κs. search rules) (λ c. search rules) (λ c. search rules) (λ c. search rules) (λ c κs. search rules)
-    (λ c. search rules) (λ c. search rules)
+    (λ c κs. search rules)
+    (λ c. search rules)
+    (λ c. search rules)
+    (λ c. search rules)
+    (λ c κs. search rules)
+    (λ c. search rules)
+    (λ c. search rules)
     returns)

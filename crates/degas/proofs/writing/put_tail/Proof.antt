@@ -10,15 +10,20 @@ use Rattle.degas.proofs.writing.put_tail.Tie as tie
 
 returns : tie.Need-returns
 returns c =
-    let a = c.before.before.before.before.before.before.before.args in
-    let e = c.before.before.copy.ensures in
-    let words = c.before.before.before.before.before.tail-bytes in
+    let a = c.args in
+    let e = c.copy.ensures in
+    let words = c.tail_bytes-words in
     let n : length words.result ≡ 32 = search rules in (
       written_as (tail_bytes a.tail) words.ensures
           (written-copied words.result a.out.now _ _ e.0 e.1),
       omega (arith, e.0),
     )
 
-pub put-tail-spec : {M : Type 1} → statement M
-put-tail-spec =
-    tie.close (tie.spec (λ c κs. search rules) (λ c. search rules) (λ c κs. search rules) (λ c. search rules) returns)
+pub put_tail_spec : {M : Type 1} → statement M
+put_tail_spec =
+    tie.close (tie.spec
+    (λ c κs. search rules)
+    (λ c. search rules)
+    (λ c κs. search rules)
+    (λ c. search rules)
+    returns)

@@ -6,14 +6,17 @@ use Rattle.neochrome_animation.proofs.Speed.{direction-left, direction-right}
 use Rattle.neochrome_animation.proofs.Direction.from_speed.Statement.{statement}
 use Rattle.neochrome_animation.proofs.Direction.from_speed.Tie as tie
 
-returns : tie.Need-returns
-returns c = rw (eq-eqb c.before.args.speed 0 c.if1.true)
+returns : tie.Need-returns-then-speed-eq0
+returns c = rw (eq-eqb c.args.speed 0 c.if-speed-eq0.true)
 
-returns-2 : tie.Need-returns-2
-returns-2 c = sym (direction-right c.before.before.args.speed c.before.if1.false (omega arith))
+returns-2 : tie.Need-returns-then-speed-lt-HIGH_BIT
+returns-2 c = sym (direction-right c.args.speed c.if-speed-eq0.false (omega arith))
 
-returns-3 : tie.Need-returns-3
-returns-3 c = sym (direction-left c.before.before.args.speed (omega arith))
+returns-3 : tie.Need-returns
+returns-3 c = sym (direction-left c.args.speed (omega arith))
 
-pub from-speed-spec : {M : Type 1} → statement M
-from-speed-spec = tie.close (tie.spec returns returns-2 returns-3)
+pub from_speed_spec : {M : Type 1} → statement M
+from_speed_spec = tie.close (tie.spec
+    returns
+    returns-2
+    returns-3)

@@ -14,13 +14,17 @@ use Rattle.picture.proofs.parts.palette_bytes.Tie as tie
 
 returns : tie.Need-returns
 returns c =
-    let a = c.before.before.before.before.args in
-    let n : length a.t1 ≡ 16 = search rules in
-    c.before.put-words.ensures
-    ∙ ap (λ (ws : List ℕ). over (words_bytes ws) (replicate 32 0)) (words-room a.t1 (replicate 32 0) (omega arith))
-    ∙ over-whole (words_bytes a.t1) _ (omega (arith, length-words_bytes a.t1))
+    let a = c.args in
+    let n : length a.palette ≡ 16 = search rules in
+    c.put_words.ensures
+    ∙ ap (λ (ws : List ℕ). over (words_bytes ws) (replicate 32 0)) (words-room a.palette (replicate 32 0) (omega arith))
+    ∙ over-whole (words_bytes a.palette) _ (omega (arith, length-words_bytes a.palette))
 
-pub palette-bytes-spec : {M : Type 1} → statement M
-palette-bytes-spec =
+pub palette_bytes_spec : {M : Type 1} → statement M
+palette_bytes_spec =
     tie.close
-    (tie.spec (λ c. search rules) (λ c. search rules) (λ c κs. search rules) returns)
+    (tie.spec
+    (λ c. search rules)
+    (λ c. search rules)
+    (λ c κs. search rules)
+    returns)

@@ -13,13 +13,17 @@ use Rattle.picture.proofs.parts.put_table.Tie as tie
 
 returns : tie.Need-returns
 returns c =
-    let a = c.before.before.before.before.before.before.args in
-    let n : length a.t1 ≡ 4 = search rules in (
-      c.before.before.put-words.ensures
-          ∙ ap (λ (ws : List ℕ). over (words_bytes ws) a.out.now) (words-room a.t1 a.out.now (omega arith)),
-      omega (arith, length-words_bytes a.t1),
+    let a = c.args in
+    let n : length a.table ≡ 4 = search rules in (
+      c.put_words.ensures
+          ∙ ap (λ (ws : List ℕ). over (words_bytes ws) a.out.now) (words-room a.table a.out.now (omega arith)),
+      omega (arith, length-words_bytes a.table),
     )
 
-pub put-table-spec : {M : Type 1} → statement M
-put-table-spec =
-    tie.close (tie.spec (λ c. search rules) (λ c κs. search rules) (λ c. search rules) returns)
+pub put_table_spec : {M : Type 1} → statement M
+put_table_spec =
+    tie.close (tie.spec
+    (λ c. search rules)
+    (λ c κs. search rules)
+    (λ c. search rules)
+    returns)

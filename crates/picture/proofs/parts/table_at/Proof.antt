@@ -9,14 +9,19 @@ use Rattle.picture.proofs.parts.table_at.Tie as tie
 returns : tie.Need-returns
 unfolding words_at tabulate
 returns c =
-    let two = c.before.before.word-at2.ensures in
-    let one = c.before.before.before.word_at.ensures in
-    simp (c.word-at4.ensures, c.before.word-at3.ensures, two, one, add-zero)
+    let two = c.word_at-2.ensures in
+    let one = c.word_at.ensures in
+    simp (c.word_at-4.ensures, c.word_at-3.ensures, two, one, add-zero)
 
-pub table-at-spec : {M : Type 1} → statement M
-table-at-spec =
+pub table_at_spec : {M : Type 1} → statement M
+table_at_spec =
     tie.close
     (tie.spec
-    (λ c κs. search rules) (λ c. search rules) (λ c κs. search rules) (λ c. search rules) (λ c κs. search rules)
-    (λ c. search rules) (λ c κs. search rules)
+    (λ c κs. search rules)
+    (λ c. search rules)
+    (λ c κs. search rules)
+    (λ c. search rules)
+    (λ c κs. search rules)
+    (λ c. search rules)
+    (λ c κs. search rules)
     returns)

@@ -9,7 +9,12 @@ returns : tie.Need-returns
 unfolding tables_of tabulate
 returns c = search rules
 
-pub tables-of-spec : {M : Type 1} → statement M
-tables-of-spec =
+pub tables_of_spec : {M : Type 1} → statement M
+tables_of_spec =
     tie.close
-    (tie.spec (λ c. search rules) (λ c. search rules) (λ c. search rules) (λ c. search rules) returns)
+    (tie.spec
+    (λ c. search rules)
+    (λ c. search rules)
+    (λ c. search rules)
+    (λ c. search rules)
+    returns)

@@ -10,10 +10,14 @@ use Rattle.picture.proofs.parts.tail_bytes.Tie as tie
 
 returns : tie.Need-returns
 returns c =
-    let t = c.before.before.before.tables-of in
-    let e = c.before.put-tables.ensures in
+    let t = c.tables_of-tables in
+    let e = c.put_tables.ensures in
     e.0 ∙ over-whole (tables_bytes t.result) (replicate 32 0) (omega (arith, e.1)) ∙ ap tables_bytes t.ensures
 
-pub tail-bytes-spec : {M : Type 1} → statement M
-tail-bytes-spec =
-    tie.close (tie.spec (λ c κs. search rules) (λ c. search rules) (λ c κs. search rules) returns)
+pub tail_bytes_spec : {M : Type 1} → statement M
+tail_bytes_spec =
+    tie.close (tie.spec
+    (λ c κs. search rules)
+    (λ c. search rules)
+    (λ c κs. search rules)
+    returns)

@@ -9,5 +9,8 @@ returns : tie.Need-returns
 unfolding word_bytes
 returns c = refl
 
-pub word-bytes-spec : {M : Type 1} → statement M
-word-bytes-spec = tie.close (tie.spec (λ c. search rules) (λ c. search rules) returns)
+pub word_bytes_spec : {M : Type 1} → statement M
+word_bytes_spec = tie.close (tie.spec
+    (λ c. search rules)
+    (λ c. search rules)
+    returns)
