@@ -32,8 +32,8 @@ module _ (flag count left : ℕ) where
   flag-wrong h = rw (ne_eqb flag scanline_flag h)
 
   module _ (right : flag ≡ scanline_flag) where
-    pub count_none : count ≡ 0 → run_allowed flag count left ≡ false
-    count_none h = rw (eq-eqb flag scanline_flag right, eq-eqb count 0 h)
+    pub count_none_lem : count ≡ 0 → run_allowed flag count left ≡ false
+    count_none_lem h = rw (eq-eqb flag scanline_flag right, eq-eqb count 0 h)
 
     pub count_left : (count ≡ 0 → ⊥) → run_allowed flag count left ≡ leb count left
     count_left h = rw (eq-eqb flag scanline_flag right, ne_eqb count 0 h)

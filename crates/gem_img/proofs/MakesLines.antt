@@ -36,7 +36,7 @@ use Rattle.gem_img.specs.Lines.{times_used, line_step, lines_left, fill_lines}
 use Rattle.gem_img.specs.MakesLines.{MakesLines, no_line, once, times}
 use Rattle.gem_img.specs.StopsLines.{NoWholeRun, StopsLines, flag_wrong, count_none, past_last, in_line, after_run}
 use Rattle.gem_img.specs.StopsLines.{after_line, after_times}
-use Rattle.gem_img.proofs.Lines.{allowed_elim, allowed-known, flag-wrong, count_none, count_left}
+use Rattle.gem_img.proofs.Lines.{allowed_elim, allowed-known, flag-wrong, count_none_lem, count_left}
 use Rattle.gem_img.proofs.Lines.{no-run-fault, no-run-from, no-run-times, run-cut}
 use Rattle.gem_img.proofs.Lines.{run-right, run-wrong, run-from, run-times, run-known, run-cut-fault}
 use Rattle.gem_img.proofs.Lines.{from-inside, line_at, step_to, run-refused, line_refused, line-accepted, begun}
@@ -526,7 +526,7 @@ module _ (pattern bytes : ℕ) (file : List ℕ) (wide : 0 < bytes) where
   stops-lines at {n} a (flag_wrong {flag = flag} {count = count} h f) =
       record { place = at; stands = a; ends = run-bad at n flag count a h (flag-wrong flag count n f) }
   stops-lines at a (count_none {n} h) =
-      record { place = at; stands = a; ends = run-bad at n 255 0 a h (count_none 255 0 n refl refl) }
+      record { place = at; stands = a; ends = run-bad at n 255 0 a h (count_none_lem 255 0 n refl refl) }
   stops-lines at a (past_last {n} {count} h m) =
       let ne : count ≡ 0 → ⊥ = λ z. omega arith in
       let bad : run_allowed 255 count n ≡ false = count_left 255 count n refl ne ∙ lt-leb count n m in

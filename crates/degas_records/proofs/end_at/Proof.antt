@@ -7,19 +7,24 @@ use borrow.Author.Rules.{rules}
 use Rattle.degas_records.proofs.end_at.Statement.{statement}
 use Rattle.degas_records.proofs.end_at.Tie as tie
 
-returns : tie.Need-returns
+returns : tie.Need-returns-then-size-at
 returns c =
-    let a = c.before.before.args in
-    ap Refused c.refuse-at.ensures ∙ sym (end-wrong a.size a.at (λ e. omega arith))
+    let a = c.args in
+    ap Refused c.refuse_at.ensures ∙ sym (end-wrong a.size a.at (λ e. omega arith))
 
-returns-2 : tie.Need-returns-2
-returns-2 c = let a = c.before.before.args in sym (end-done a.size a.at (omega arith))
+returns-2 : tie.Need-returns-then-size-at-eq-TAIL_LENGTH
+returns-2 c = let a = c.args in sym (end-done a.size a.at (omega arith))
 
-returns-3 : tie.Need-returns-3
+returns-3 : tie.Need-returns
 returns-3 c =
-    let a = c.before.before.before.args in
-    ap Refused c.refuse-at2.ensures ∙ sym (end-wrong a.size a.at (λ e. omega arith))
+    let a = c.args in
+    ap Refused c.refuse_at-2.ensures ∙ sym (end-wrong a.size a.at (λ e. omega arith))
 
-pub end-at-spec : {M : Type 1} → statement M
-end-at-spec =
-    tie.close (tie.spec (λ c κs. search rules) returns returns-2 (λ c κs. search rules) returns-3)
+pub end_at_spec : {M : Type 1} → statement M
+end_at_spec =
+    tie.close (tie.spec
+    (λ c κs. search rules)
+    returns
+    returns-2
+    (λ c κs. search rules)
+    returns-3)

@@ -7,22 +7,27 @@ use borrow.Author.Rules.{rules}
 use Rattle.degas_records.proofs.judge_packed.Statement.{statement}
 use Rattle.degas_records.proofs.judge_packed.Tie as tie
 
-returns : tie.Need-returns
+returns : tie.Need-returns-then-not-h
 returns c =
-    let a = c.before.before.before.args in
-    ap Refused c.refuse.ensures ∙ sym (ap opened_as (judged-raw a.size a.h c.before.if1.true))
+    let a = c.args in
+    ap Refused c.refuse.ensures ∙ sym (ap opened_as (judged-raw a.size a.h c.if-not-h.true))
 
-returns-2 : tie.Need-returns-2
+returns-2 : tie.Need-returns-then-size-gt-PACKED_MOST
 returns-2 c =
-    let a = c.before.before.before.before.args in
-    ap Refused c.refuse2.ensures
-    ∙ sym (ap opened_as (judged-long a.size a.h c.before.before.if1.false c.before.if2.true))
+    let a = c.args in
+    ap Refused c.refuse-then-size-gt-PACKED_MOST.ensures
+    ∙ sym (ap opened_as (judged-long a.size a.h c.if-not-h.false c.if-size-gt-PACKED_MOST.true))
 
-returns-3 : tie.Need-returns-3
+returns-3 : tie.Need-returns
 returns-3 c =
-    let a = c.before.before.before.args in
-    sym (ap opened_as (judged-packed a.size a.h c.before.if1.false c.if2.false))
+    let a = c.args in
+    sym (ap opened_as (judged-packed a.size a.h c.if-not-h.false c.if-size-gt-PACKED_MOST.false))
 
-pub judge-packed-spec : {M : Type 1} → statement M
-judge-packed-spec =
-    tie.close (tie.spec (λ c κs. search rules) returns (λ c κs. search rules) returns-2 returns-3)
+pub judge_packed_spec : {M : Type 1} → statement M
+judge_packed_spec =
+    tie.close (tie.spec
+    (λ c κs. search rules)
+    returns
+    (λ c κs. search rules)
+    returns-2
+    returns-3)

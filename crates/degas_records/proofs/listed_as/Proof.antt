@@ -5,8 +5,11 @@ use Rattle.degas_records.proofs.listed_as.Statement.{statement}
 use Rattle.degas_records.proofs.listed_as.Tie as tie
 
 returns : tie.Need-returns
-returns c = rw (c.before.listed-kind.ensures, c.row_len.ensures)
+returns c = rw (c.listed_kind-kind.ensures, c.row_len.ensures)
 
-pub listed-as-spec : {M : Type 1} → statement M
-listed-as-spec =
-    tie.close (tie.spec (λ c κs. search rules) (λ c κs. search rules) returns)
+pub listed_as_spec : {M : Type 1} → statement M
+listed_as_spec =
+    tie.close (tie.spec
+    (λ c κs. search rules)
+    (λ c κs. search rules)
+    returns)

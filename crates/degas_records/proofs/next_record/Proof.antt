@@ -8,33 +8,44 @@ use borrow.Author.Rules.{rules}
 use Rattle.degas_records.proofs.next_record.Statement.{statement}
 use Rattle.degas_records.proofs.next_record.Tie as tie
 
-returns : tie.Need-returns
+returns : tie.Need-returns-in-Listed
 returns c =
-    let m = c.before.before in
-    let f = m.before.before.before in
-    c.record-answer.ensures
-    ∙ ap (λ (found : Found). found_answer found f.step.result.next) (sym m.found.given.1)
-    ∙ ap record_answer f.step.ensures
+    let m = c in
+    let f = m in
+    c.record_answer.ensures
+    ∙ ap (λ (found : Found). found_answer found f.step-s.result.next) (sym m.in-Listed.is)
+    ∙ ap record_answer f.step-s.ensures
 
-returns-2 : tie.Need-returns-2
+returns-2 : tie.Need-returns-in-Done
 returns-2 c =
-    let m = c.before.before in
-    let f = m.before.before.before in
+    let m = c in
+    let f = m in
     c.no_record.ensures
-    ∙ ap (λ (why : Refusal). found_answer (Refused why) f.step.result.next) c.before.none.ensures
-    ∙ ap (λ (found : Found). found_answer found f.step.result.next) (sym m.enum_told.given.1)
-    ∙ ap record_answer f.step.ensures
+    ∙ ap (λ (why : Refusal). found_answer (Refused why) f.step-s.result.next) c.none.ensures
+    ∙ ap (λ (found : Found). found_answer found f.step-s.result.next) (sym m.in-Done.is)
+    ∙ ap record_answer f.step-s.ensures
 
-returns-3 : tie.Need-returns-3
+returns-3 : tie.Need-returns-in-Refused
 returns-3 c =
-    let m = c.before.before in
-    let f = m.before.before.before in
-    c.no-record2.ensures
-    ∙ ap (λ (found : Found). found_answer found f.step.result.next) (sym m.found2.given.1)
-    ∙ ap record_answer f.step.ensures
+    let m = c in
+    let f = m in
+    c.no_record-in-Refused.ensures
+    ∙ ap (λ (found : Found). found_answer found f.step-s.result.next) (sym m.in-Refused.is)
+    ∙ ap record_answer f.step-s.ensures
 
-pub next-record-spec : {M : Type 1} → statement M
-next-record-spec =
+pub next_record_spec : {M : Type 1} → statement M
+next_record_spec =
     tie.close
-    (tie.spec (λ c κs. search rules) (λ c. search rules) (λ c κs. search rules) (λ c. search rules) (λ c κs. search
-    rules) (λ c κs. search rules) (λ c. search rules) (λ c κs. search rules) returns returns-2 returns-3)
+    (tie.spec
+    (λ c κs. search rules)
+    (λ c. search rules)
+    (λ c κs. search rules)
+    (λ c. search rules)
+    (λ c κs. search
+    rules)
+    (λ c κs. search rules)
+    (λ c. search rules)
+    (λ c κs. search rules)
+    returns
+    returns-2
+    returns-3)

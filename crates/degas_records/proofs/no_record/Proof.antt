@@ -4,7 +4,9 @@ use Rattle.degas_records.proofs.no_record.Statement.{statement}
 use Rattle.degas_records.proofs.no_record.Tie as tie
 
 returns : tie.Need-returns
-returns c = rw c.refuse-in-row.ensures
+returns c = rw c.refuse_in_row-why.ensures
 
-pub no-record-spec : {M : Type 1} → statement M
-no-record-spec = tie.close (tie.spec (λ c κs. search rules) returns)
+pub no_record_spec : {M : Type 1} → statement M
+no_record_spec = tie.close (tie.spec
+    (λ c κs. search rules)
+    returns)

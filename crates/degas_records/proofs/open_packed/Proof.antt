@@ -8,21 +8,26 @@ use borrow.Author.Rules.{rules}
 use Rattle.degas_records.proofs.open_packed.Statement.{statement}
 use Rattle.degas_records.proofs.open_packed.Tie as tie
 
-returns : tie.Need-returns
+returns : tie.Need-returns-in-File
 returns c =
-    let m = c.before.before in
-    let file = m.before.before.before.before.args.file.now in
-    let is = file-opened (opening file) _ (sym m.h.given.1 ∙ m.before.before.open-file.ensures) in
-    c.judge-packed.ensures ∙ sym (ap opened_as (opening-header file _ is))
+    let m = c in
+    let file = m.args.file.now in
+    let is = file-opened (opening file) _ (sym m.in-File.is ∙ m.open_file.ensures) in
+    c.judge_packed.ensures ∙ sym (ap opened_as (opening-header file _ is))
 
-returns-2 : tie.Need-returns-2
+returns-2 : tie.Need-returns-in-Refused
 returns-2 c =
-    let m = c.before in
-    let file = m.before.before.before.before.args.file.now in
-    let is = refused-opened (opening file) _ (sym m.why.given.1 ∙ m.before.before.open-file.ensures) in
+    let m = c in
+    let file = m.args.file.now in
+    let is = refused-opened (opening file) _ (sym m.in-Refused.is ∙ m.open_file.ensures) in
     sym (ap opened_as (opening-refused file _ is))
 
-pub open-packed-spec : {M : Type 1} → statement M
-open-packed-spec =
-    tie.close (tie.spec (λ c κs. search rules) (λ c. search rules) (λ c κs. search rules) (λ c. search rules) returns
+pub open_packed_spec : {M : Type 1} → statement M
+open_packed_spec =
+    tie.close (tie.spec
+    (λ c κs. search rules)
+    (λ c. search rules)
+    (λ c κs. search rules)
+    (λ c. search rules)
+    returns
     returns-2)

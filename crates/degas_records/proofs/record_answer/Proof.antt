@@ -5,8 +5,11 @@ use Rattle.degas_records.proofs.record_answer.Statement.{statement}
 use Rattle.degas_records.proofs.record_answer.Tie as tie
 
 returns : tie.Need-returns
-returns c = rw (c.before.none.ensures, c.kind-number.ensures)
+returns c = rw (c.none.ensures, c.kind_number.ensures)
 
-pub record-answer-spec : {M : Type 1} → statement M
-record-answer-spec =
-    tie.close (tie.spec (λ c κs. search rules) (λ c κs. search rules) returns)
+pub record_answer_spec : {M : Type 1} → statement M
+record_answer_spec =
+    tie.close (tie.spec
+    (λ c κs. search rules)
+    (λ c κs. search rules)
+    returns)

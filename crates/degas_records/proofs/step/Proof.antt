@@ -9,26 +9,34 @@ use borrow.Author.Rules.{rules}
 use Rattle.degas_records.proofs.step.Statement.{statement}
 use Rattle.degas_records.proofs.step.Tie as tie
 
-returns : tie.Need-returns
+returns : tie.Need-returns-in-At
 returns c =
-    let m = c.before.before.before.before in
-    let a = m.before.before.before.before.args in
+    let m = c in
+    let a = m.args in
     let file = a.file.now in
-    let is = packed-opened (packed_opening file) _ (sym m.r.given.1 ∙ m.before.before.open-packed.ensures) in
-    c.body-step.ensures
-    ∙ ap₂ (λ (rows width : ℕ). body_step file rows width a.cursor) c.before.before.plane-rows.ensures c.before.row-bytes.ensures
+    let is = packed-opened (packed_opening file) _ (sym m.in-At.is ∙ m.open_packed.ensures) in
+    c.body_step.ensures
+    ∙ ap₂ (λ (rows width : ℕ). body_step file rows width a.cursor) c.plane_rows.ensures c.row_bytes.ensures
     ∙ sym (stepped-opened file a.cursor _ is)
 
-returns-2 : tie.Need-returns-2
+returns-2 : tie.Need-returns-in-Refused
 returns-2 c =
-    let m = c.before in
-    let a = m.before.before.before.before.args in
+    let m = c in
+    let a = m.args in
     let file = a.file.now in
-    let is = packed-refused (packed_opening file) _ (sym m.why.given.1 ∙ m.before.before.open-packed.ensures) in
+    let is = packed-refused (packed_opening file) _ (sym m.in-Refused.is ∙ m.open_packed.ensures) in
     sym (stepped-refused file a.cursor _ is)
 
 pub step_spec : {M : Type 1} → statement M
 step_spec =
     tie.close
-    (tie.spec (λ c κs. search rules) (λ c. search rules) (λ c κs. search rules) (λ c κs. search rules) (λ c κs. search
-    rules) (λ c. search rules) returns returns-2)
+    (tie.spec
+    (λ c κs. search rules)
+    (λ c. search rules)
+    (λ c κs. search rules)
+    (λ c κs. search rules)
+    (λ c κs. search
+    rules)
+    (λ c. search rules)
+    returns
+    returns-2)

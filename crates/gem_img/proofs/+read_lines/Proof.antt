@@ -23,24 +23,24 @@ abbrev μ : Measures 2 ps ℕ
 abbrev claims : ℕ → lts.Claims
 claims t = (and 2 ps (falls 2 ps ◌<◌ μ t) read-lines.Pre, read-lines.Post, read-by-buffer.Asked, read-by-buffer.Learnt)
 
-pub +read-lines-spec : {M : Type 1} → statement M
-+read-lines-spec =
+pub +read_lines_spec : {M : Type 1} → statement M
++read_lines_spec =
     close μ (λ t.
     lts.spec (claims t) (and 2 ps (is 2 ps μ t) read-lines.Pre) read-lines.Post
     (λ c. search rules)
-    (λ c. sym (length-take-le area_bytes c.before.before.before.before.args.area.now (omega arith)))
+    (λ c. sym (length-take-le area_bytes c.args.area.now (omega arith)))
     (λ c κs.
     let e = c.before.before.before.before in
     let long = length-take-le area_bytes e.args.area.now (omega arith) in
-    (omega (arith, long, e.requires.0, c.before.if1.true), omega (arith, long)))
+    (omega (arith, long, e.requires.0, c.before.if-area-gt-AREA_BYTES.true), omega (arith, long)))
     (λ c.
-    let a = c.before.before.before.before.before.before.before.args in
-    let again = c.before.before.read-lines in
-    length_front a.area.now again.new.1.0 area_bytes again.auto.1.0)
+    let a = c.args in
+    let again = c.read_lines in
+    length_front a.area.now again.new.area area_bytes again.auto.area)
     (λ c.
-    let a = c.before.before.before.before.before.before.before.args in
-    let again = c.before.before.read-lines in
+    let a = c.args in
+    let again = c.read_lines in
     let image = read_lines a.file.now in
-    let same = area-cut image a.area.now again.new.1.0 area_bytes again.auto.1.0 again.ensures.1 in
+    let same = area-cut image a.area.now again.new.area area_bytes again.auto.area again.ensures.1 in
     (again.ensures.0, same))
     (λ c κs. search rules) (λ c. search rules) (λ c. search rules))

@@ -1,7 +1,6 @@
 -- `gem_img::header_refusal` meets its contract: each test picks a case of `header_refusal`.
 use mathlib.Core.Path.{sym, ◌∙◌}
 use native.Mathlib.Omega.{arith}
-use borrow.Author.Tests.{not-true, not-false}
 use Rattle.gem_img.proofs.Reading.{below-least, below-header, profile-wrong, profile-right}
 use borrow.Author.Rules.{rules}
 use Rattle.gem_img.proofs.header_refusal.Statement.{statement}
@@ -21,7 +20,7 @@ returns-2 c =
 returns-3 : tie.Need-returns-then-not-in_profile
 returns-3 c =
     let a = c.args in
-    let bad = sym c.in_profile.ensures ∙ not-true _ c.if-not-in_profile.true in
+    let bad = sym c.in_profile.ensures ∙ c.if-not-in_profile.true in
     c.refuse-then-not-in_profile.ensures
     ∙ sym (profile-wrong a.file.now (omega arith)
     (omega (arith, c.header_bytes.ensures)) bad)
@@ -29,7 +28,7 @@ returns-3 c =
 returns-4 : tie.Need-returns
 returns-4 c =
     let a = c.args in
-    let good = sym c.in_profile.ensures ∙ not-false _ c.if-not-in_profile.false in
+    let good = sym c.in_profile.ensures ∙ c.if-not-in_profile.false in
     c.none.ensures
     ∙ sym (profile-right a.file.now (omega arith)
     (omega (arith, c.header_bytes.ensures)) good)

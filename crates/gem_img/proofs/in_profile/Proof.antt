@@ -2,7 +2,7 @@
 use mathlib.Core.Path.{◌≡◌, sym, ap, ◌∙◌}
 use mathlib.Core.Bool.{true, false}
 use native.Mathlib.Omega.{arith}
-use borrow.Author.Tests.{eq-eqb, ne_eqb, lt-ltb, le-ltb, not-true, not-false}
+use borrow.Author.Tests.{eq-eqb, ne_eqb, lt-ltb, le-ltb}
 use Rattle.words.specs.Word.{word_at}
 use Rattle.gem_img.specs.Header.{up_to, in_profile}
 use borrow.Author.Rules.{rules}
@@ -14,16 +14,14 @@ pattern-here : (e : tie.Else-not-up_to) → up_to 8
     (word_at e.args.file.now 6) ≡
     true
 pattern-here e =
-    ap (up_to 8) (sym e.word_at-4.ensures) ∙ sym e.before.up_to_lem.ensures ∙ not-false _
-    e.if-not-up_to.false
+    ap (up_to 8) (sym e.word_at-4.ensures) ∙ sym e.up_to.ensures ∙ e.if-not-up_to.false
 
 -- past the fifth
 width-here : (e : tie.Else-not-up_to-2) → let a =
     e.args in
     up_to 640 (word_at a.file.now 12) ≡ true
 width-here e =
-    ap (up_to 640) (sym e.word_at-5.ensures) ∙ sym e.up_to-2.ensures ∙ not-false _
-    e.if-not-up_to-2.false
+    ap (up_to 640) (sym e.word_at-5.ensures) ∙ sym e.up_to-2.ensures ∙ e.if-not-up_to-2.false
 
 returns : tie.Need-returns-then-word_at-ne-VERSION
 unfolding in_profile
@@ -52,8 +50,7 @@ unfolding in_profile
 returns-4 c =
     let a = c.args in
     let bad : up_to 8 (word_at a.file.now 6) ≡ false =
-    ap (up_to 8) (sym c.word_at-4.ensures) ∙ sym c.before.up_to_lem.ensures ∙ not-true _
-    c.if-not-up_to.true in
+    ap (up_to 8) (sym c.word_at-4.ensures) ∙ sym c.up_to.ensures ∙ c.if-not-up_to.true in
     rw (
       eq-eqb (word_at a.file.now 0) 1 (omega arith),
       le-ltb (word_at a.file.now 2) 8 (omega arith),
@@ -67,8 +64,7 @@ returns-5 c =
     let far = c in
     let a = far.args in
     let bad : up_to 640 (word_at a.file.now 12) ≡ false =
-    ap (up_to 640) (sym c.word_at-5.ensures) ∙ sym c.up_to-2.ensures ∙ not-true _
-    c.if-not-up_to-2.true in
+    ap (up_to 640) (sym c.word_at-5.ensures) ∙ sym c.up_to-2.ensures ∙ c.if-not-up_to-2.true in
     rw (
       eq-eqb (word_at a.file.now 0) 1 (omega arith),
       le-ltb (word_at a.file.now 2) 8 (omega arith),

@@ -22,7 +22,7 @@ module _ (e : tie.After-bytes_per_line) where
   total = e.word_at-lines.result * e.bytes_per_line.result
 
   fits : Sizes file
-  fits = sizes file e.before.before.before.before.before.before.before.pre.0
+  fits = sizes file e.requires.0
 
   all-is : total ≡ lines file * bytes_per_line (width file)
   all-is =

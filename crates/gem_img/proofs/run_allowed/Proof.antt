@@ -1,7 +1,7 @@
 -- `gem_img::run_allowed` meets its contract: each test picks a case of `run_allowed`.
 use mathlib.Core.Path.{sym}
 use native.Mathlib.Omega.{arith}
-use Rattle.gem_img.proofs.Lines.{flag-wrong, count_none, count_left}
+use Rattle.gem_img.proofs.Lines.{flag-wrong, count_none_lem, count_left}
 use Rattle.gem_img.proofs.run_allowed.Statement.{statement}
 use Rattle.gem_img.proofs.run_allowed.Tie as tie
 
@@ -10,7 +10,7 @@ returns c = let a = c.args in sym (flag-wrong a.flag a.count a.left c.if-flag-ne
 
 returns-2 : tie.Need-returns-then-count-eq0
 returns-2 c = let a = c.args in sym
-    (count_none a.flag a.count a.left (omega arith) (omega arith))
+    (count_none_lem a.flag a.count a.left (omega arith) (omega arith))
 
 returns-3 : tie.Need-returns
 returns-3 c = let a = c.args in sym

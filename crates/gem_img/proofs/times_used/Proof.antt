@@ -3,7 +3,6 @@ use mathlib.Core.Path.{sym, ◌∙◌}
 use Prim.Native.Nat.{◌+◌}
 use native.Mathlib.Omega.{arith}
 use lib.ListN.{get_or-eq_default}
-use borrow.Author.Tests.{not-true, not-false}
 use Rattle.gem_img.proofs.Lines.{no-run-times, run-times}
 use borrow.Author.Rules.{rules}
 use Rattle.gem_img.proofs.times_used.Statement.{statement}
@@ -12,12 +11,12 @@ use Rattle.gem_img.proofs.times_used.Tie as tie
 returns : tie.Need-returns-then-not-has_run
 returns c =
     let a = c.args in
-    sym (no-run-times a.file.now a.at (sym c.has_run.ensures ∙ not-true _ c.if-not-has_run.true))
+    sym (no-run-times a.file.now a.at (sym c.has_run.ensures ∙ c.if-not-has_run.true))
 
 returns-2 : tie.Need-returns-then-file-at-lt-SCANLINE_RUN_LEN
 returns-2 c =
     let a = c.args in
-    let run = sym c.has_run.ensures ∙ not-false _ c.if-not-has_run.false in
+    let run = sym c.has_run.ensures ∙ c.if-not-has_run.false in
     sym (run-times a.file.now a.at run ∙ get_or-eq_default a.file.now 0 {n = a.at + 3} (omega arith))
 
 cast-result : tie.Need-overflow_cast-result
@@ -27,7 +26,7 @@ cast-result c = let a = c.args in omega
 returns-3 : tie.Need-returns
 returns-3 c =
     let a = c.args in
-    let run = sym c.has_run.ensures ∙ not-false _ c.if-not-has_run.false in
+    let run = sym c.has_run.ensures ∙ c.if-not-has_run.false in
     sym (run-times a.file.now a.at run)
 
 pub times_used_spec : {M : Type 1} → statement M

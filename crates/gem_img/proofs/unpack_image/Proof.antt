@@ -20,7 +20,7 @@ module _ (e : tie.After-bytes_per_line-bytes) where
   file = e.args.file.now
 
   fits : Sizes file
-  fits = sizes file e.before.before.before.before.before.pre.0
+  fits = sizes file e.requires.0
 
   bytes-is : e.bytes_per_line-bytes.result ≡ bytes_per_line (width file)
   bytes-is = e.bytes_per_line-bytes.ensures ∙ ap bytes_per_line e.word_at.ensures

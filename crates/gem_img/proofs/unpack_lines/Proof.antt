@@ -58,7 +58,7 @@ module _ (e : tie.Else-number-ne0 invariant-loop decreases-loop) where
   out = e.loop-left.out
 
   ok : run_fault file from left ≡ 0
-  ok = sym e.run_fault-number.ensures ∙ e.if-number-ne0.left
+  ok = sym e.run_fault-number.ensures ∙ e.if-number-ne0.false
 
   some : 0 < times_used file from
   some = (times-bounds file from left (omega arith) ok).0
@@ -75,7 +75,7 @@ module _ (e : tie.Else-number-ne0 invariant-loop decreases-loop) where
   bounded = omega arith
 
   room : to + left * bytes ≤ length out
-  room = omega (arith, e.loop-left.inv.3.put.kept)
+  room = omega (arith, e.loop-left.invariant.3.put.kept)
 
   fits : length (fill_lines pattern bytes file e.args.at
       e.args.lines).made
@@ -99,15 +99,15 @@ module _ (e : tie.Else-number-ne0 invariant-loop decreases-loop) where
       ∙ omega (arith, kept, lent, room, length-take-le to out (omega (arith, room)))
 
 -- past the second, the line is unpacked
-module _ (o : tie.In-At-2 invariant-loop decreases-loop) where
+module _ (o : tie.In-At invariant-loop decreases-loop) where
   abbrev one : tie.Else-number-ne0 invariant-loop decreases-loop
-  one = o.before.before.before.before.before.before.before.before.before.before.before
+  one = o.before.before.before.before.before.before.before.before.before.before
 
   abbrev u : tie.After-unpack_times-ended invariant-loop decreases-loop
-  u = o.before.before.before.before.before.before
+  u = o.before.before.before.before.before
 
   abbrev next : ℕ
-  next = o.ended-1.given.0.0
+  next = o.in-At.next
 
   abbrev made : List ℕ
   made = repeated (times_used (file one) (from one)) (line_at (pattern one) (bytes one) (file one) (from one)).made
@@ -117,10 +117,10 @@ module _ (o : tie.In-At-2 invariant-loop decreases-loop) where
 
   ends : (line_at (pattern one) (bytes one) (file one) (from one)).ends ≡ accepted next
   ends =
-      let l = one.before.before.before.loop in
-      line-ended (pattern one) (bytes one) (file one) (from one) _ l.line l.inv.0
-      u.before.before.before.before.records-from.ensures _ u.unpack-times.ensures.0 next
-      o.ended-1.given.1
+      let l = one.loop-left in
+      line-ended (pattern one) (bytes one) (file one) (from one) _ l.line l.invariant.0
+      u.records_from-first.ensures _ u.unpack_times-ended.ensures.0 next
+      o.in-At.is
 
   turn : fill_lines (pattern one) (bytes one) (file one) (from one) (left one) ≡ after made further
   turn = lines_step (pattern one) (bytes one) (file one) (from one) (left one) (omega arith) (ok one) next ends
@@ -128,20 +128,20 @@ module _ (o : tie.In-At-2 invariant-loop decreases-loop) where
   size : length made ≡ times_used (file one) (from one) * bytes one
   size = length-made (pattern one) (bytes one) (file one) (from one) next ends
 
-  times-is : u.before.before.before.times-used.result ≡ times_used (file one) (from one)
-  times-is = u.before.before.before.times-used.ensures
+  times-is : u.times_used-times.result ≡ times_used (file one) (from one)
+  times-is = u.times_used-times.ensures
 
-  wrote : u.before.before.before.times-used.result * bytes one ≡ times_used (file one) (from one) * bytes one
+  wrote : u.times_used-times.result * bytes one ≡ times_used (file one) (from one) * bytes one
   wrote = ap (λ (k : ℕ). k * bytes one) times-is
 
   -- what is then in the part of the output
-  put : u.unpack-times.last.1.1.1.1.1.0
+  put : u.unpack_times-ended.new.out
       ≡ over made (take (length (out one) - to one) (drop (to one) (out one)))
   put =
-      let l = one.before.before.before.loop in
-      let start = u.before.before.before.before.records-from.ensures in
-      let same = same_line (pattern one) (bytes one) (file one) (from one) _ l.line l.inv.0 start in
-      u.unpack-times.ensures.1 next (ap (λ (f : Filling). f.ends) same ∙ ends)
+      let l = one.loop-left in
+      let start = u.records_from-first.ensures in
+      let same = same_line (pattern one) (bytes one) (file one) (from one) _ l.line l.invariant.0 start in
+      u.unpack_times-ended.ensures.1 next (ap (λ (f : Filling). f.ends) same ∙ ends)
       ∙ ap₂ (λ (k : ℕ) (f : Filling).
       over (repeated k f.made) (take (length (out one) - to one) (drop (to one) (out one)))) times-is same
 
@@ -201,25 +201,25 @@ returns-2 c =
     (rw d.0 c.in_default.is, λ end f. absurd (none-accepted _ end d.0 f))
 
 mul-to : tie.Need-overflow_mul-to invariant-loop decreases-loop
-mul-to c = let o = c.before in rw (wrote o) (omega (arith, split (one o), bounded (one o)))
+mul-to c = let o = c in rw (wrote o) (omega (arith, split (one o), bounded (one o)))
 
 add-to : tie.Need-overflow_add-to invariant-loop decreases-loop
-add-to c = let o = c.before in omega (arith, wrote o, split (one o), bounded (one o))
+add-to c = let o = c in omega (arith, wrote o, split (one o), bounded (one o))
 
 sub-left : tie.Need-overflow_sub-left invariant-loop decreases-loop
-sub-left c = let o = c.before in omega (arith, times-is o, few (one o))
+sub-left c = let o = c in omega (arith, times-is o, few (one o))
 
 loop-less : tie.Need-loop-left-smaller invariant-loop decreases-loop
-loop-less c = let o = c.before in omega (arith, times-is o, some (one o), few (one o))
+loop-less c = let o = c in omega (arith, times-is o, some (one o), few (one o))
 
 loop-again : tie.Need-loop-left-preserved invariant-loop decreases-loop
 loop-again c =
-    let o = c.before in
+    let o = c in
     let e = one o in
-    let l = e.before.before.before.loop in
-    let on = putting-turn l.inv.3 (made o) (further o) (turn o) (fits e) _ (put o) in (
-      (u o).unpack-times.auto.1.1.1.1.0 ∙ l.inv.0,
-      line-inside (pattern e) (file e) _ _ (next o) (from-inside (file e) (from e) (left e) l.inv.1 (ok e))
+    let l = e.loop-left in
+    let on = putting-turn l.invariant.3 (made o) (further o) (turn o) (fits e) _ (put o) in (
+      (u o).unpack_times-ended.auto.line ∙ l.invariant.0,
+      line-inside (pattern e) (file e) _ _ (next o) (from-inside (file e) (from e) (left e) l.invariant.1 (ok e))
           (ends o),
       omega (arith, wrote o, split e, ap (λ (k : ℕ). (left e - k) * bytes e) (times-is o)),
       putting-as (ap (λ (k : ℕ). fill_lines (pattern e) (bytes e) (file e) (next o) (left e - k)) (sym (times-is o)))

@@ -9,38 +9,38 @@ use borrow.Author.Rules.{rules}
 use Rattle.reader.proofs.read.Statement.{statement}
 use Rattle.reader.proofs.read.Tie as tie
 
-returns : tie.Need-returns
+returns : tie.Need-returns-then-kind-eq-KIND_DEGAS
 returns c =
-    let d = c.before.before in
-    rw (file-degas _ _ _ d.before.before.if1.true) d.read.ensures
+    let d = c in
+    rw (file-degas _ _ _ d.if-kind-eq-KIND_DEGAS.true) d.read.ensures
 
-returns-2 : tie.Need-returns-2
+returns-2 : tie.Need-returns-then-kind-eq-KIND_NEOCHROME
 returns-2 c =
-    let d = c.before.before in
-    rw (file-neochrome _ _ _ d.before.before.if2.true) d.read2.ensures
+    let d = c in
+    rw (file-neochrome _ _ _ d.if-kind-eq-KIND_NEOCHROME.true) d.read-then-kind-eq-KIND_NEOCHROME.ensures
 
-returns-3 : tie.Need-returns-3
+returns-3 : tie.Need-returns-then-kind-eq-KIND_TINY
 returns-3 c =
-    let d = c.before.before in
-    rw (file-tiny _ _ _ d.before.before.if3.true) d.read3.ensures
+    let d = c in
+    rw (file-tiny _ _ _ d.if-kind-eq-KIND_TINY.true) d.read-then-kind-eq-KIND_TINY.ensures
 
-returns-4 : tie.Need-returns-4
+returns-4 : tie.Need-returns-then-area-lt-SCREEN_BYTES
 returns-4 c =
-    let t = c.before.before in
+    let t = c in
     rw (
-      file-unknown _ _ _ t.before.before.before.if1.false t.before.before.if2.false t.before.if3.false,
-      area-short _ _ t.if4.true,
+      file-unknown _ _ _ t.if-kind-eq-KIND_DEGAS.false t.if-kind-eq-KIND_NEOCHROME.false t.if-kind-eq-KIND_TINY.false,
+      area-short _ _ t.if-area-lt-SCREEN_BYTES.true,
     )
-    (c.read-refused.ensures ∙ ap (λ (why : Refusal). read_answer (refused why)) c.before.refuse.ensures, refl)
+    (c.read_refused.ensures ∙ ap (λ (why : Refusal). read_answer (refused why)) c.refuse.ensures, refl)
 
-returns-5 : tie.Need-returns-5
+returns-5 : tie.Need-returns
 returns-5 c =
-    let t = c.before.before in
+    let t = c in
     rw (
-      file-unknown _ _ _ t.before.before.before.if1.false t.before.before.if2.false t.before.if3.false,
-      area-fits _ _ t.if4.false,
+      file-unknown _ _ _ t.if-kind-eq-KIND_DEGAS.false t.if-kind-eq-KIND_NEOCHROME.false t.if-kind-eq-KIND_TINY.false,
+      area-fits _ _ t.if-area-lt-SCREEN_BYTES.false,
     )
-    (c.read-refused2.ensures ∙ ap (λ (why : Refusal). read_answer (refused why)) c.before.refuse2.ensures, refl)
+    (c.read_refused-2.ensures ∙ ap (λ (why : Refusal). read_answer (refused why)) c.refuse-2.ensures, refl)
 
 pub read_spec : {M : Type 1} → statement M
 read_spec =

@@ -10,29 +10,29 @@ use borrow.Author.Rules.{rules}
 use Rattle.writer.proofs.refuse_form.Statement.{statement}
 use Rattle.writer.proofs.refuse_form.Tie as tie
 
-returns : tie.Need-returns
+returns : tie.Need-returns-then-screen-lt-SCREEN_BYTES
 returns c =
-    let a = c.before.before.before.args in
-    c.write-refused.ensures
-    ∙ ap (λ (why : Refusal). write_answer (refused why)) c.before.refuse.ensures
+    let a = c.args in
+    c.write_refused.ensures
+    ∙ ap (λ (why : Refusal). write_answer (refused why)) c.refuse.ensures
     ∙ sym (ap write_answer (areas-screen a.screen a.out (refuse unknown_kind) (omega arith)))
 
-returns-2 : tie.Need-returns-2
+returns-2 : tie.Need-returns-then-out-lt-FILE_BYTES
 returns-2 c =
-    let a = c.before.before.before.before.args in
-    c.write-refused2.ensures
-    ∙ ap (λ (why : Refusal). write_answer (refused why)) c.before.refuse2.ensures
+    let a = c.args in
+    c.write_refused-then-out-lt-FILE_BYTES.ensures
+    ∙ ap (λ (why : Refusal). write_answer (refused why)) c.refuse-then-out-lt-FILE_BYTES.ensures
     ∙ sym (ap write_answer (areas-output a.screen a.out (refuse unknown_kind) (omega arith) (omega arith)))
 
-returns-3 : tie.Need-returns-3
+returns-3 : tie.Need-returns
 returns-3 c =
-    let a = c.before.before.before.before.args in
-    c.write-refused3.ensures
-    ∙ ap (λ (why : Refusal). write_answer (refused why)) c.before.refuse3.ensures
+    let a = c.args in
+    c.write_refused-2.ensures
+    ∙ ap (λ (why : Refusal). write_answer (refused why)) c.refuse-2.ensures
     ∙ sym (ap write_answer (areas-fit a.screen a.out (refuse unknown_kind) (omega arith) (omega arith)))
 
-pub refuse-form-spec : {M : Type 1} → statement M
-refuse-form-spec =
+pub refuse_form_spec : {M : Type 1} → statement M
+refuse_form_spec =
     tie.close
     (tie.spec
     (λ c κs. search rules)

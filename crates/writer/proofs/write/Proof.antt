@@ -6,34 +6,34 @@ use borrow.Author.Rules.{rules}
 use Rattle.writer.proofs.write.Statement.{statement}
 use Rattle.writer.proofs.write.Tie as tie
 
-returns : tie.Need-returns
+returns : tie.Need-returns-then-form-eq-FORM_PLAIN
 returns c =
-    let d = c.before.before in
-    rw (form-plain _ _ _ _ d.before.before.if1.true) d.write.ensures
+    let d = c in
+    rw (form-plain _ _ _ _ d.if-form-eq-FORM_PLAIN.true) d.write.ensures
 
-returns-2 : tie.Need-returns-2
+returns-2 : tie.Need-returns-then-form-eq-FORM_ELITE
 returns-2 c =
-    let d = c.before.before in
-    rw (form-elite _ _ _ _ d.before.before.if2.true) d.write2.ensures
+    let d = c in
+    rw (form-elite _ _ _ _ d.if-form-eq-FORM_ELITE.true) d.write-then-form-eq-FORM_ELITE.ensures
 
-returns-3 : tie.Need-returns-3
+returns-3 : tie.Need-returns-then-form-eq-FORM_PACKED
 returns-3 c =
-    let d = c.before.before in
-    rw (form-packed _ _ _ _ d.before.before.if3.true) d.write3.ensures
+    let d = c in
+    rw (form-packed _ _ _ _ d.if-form-eq-FORM_PACKED.true) d.write-then-form-eq-FORM_PACKED.ensures
 
-returns-4 : tie.Need-returns-4
+returns-4 : tie.Need-returns-then-form-eq-FORM_NEOCHROME
 returns-4 c =
-    let d = c.before.before in
-    rw (form-neochrome _ _ _ _ d.before.before.if4.true) d.write4.ensures
+    let d = c in
+    rw (form-neochrome _ _ _ _ d.if-form-eq-FORM_NEOCHROME.true) d.write-then-form-eq-FORM_NEOCHROME.ensures
 
-returns-5 : tie.Need-returns-5
+returns-5 : tie.Need-returns
 returns-5 c =
-    let d = c.before.before.before in
-    let a = d.before.before.before.before.args in
+    let d = c in
+    let a = d.args in
     let keeps = unknown-kept (length a.screen.now) (length a.out.now) a.out.now in
-    let known = c.before in
-    rw (form-unknown _ _ _ _ d.before.if1.false d.if2.false known.before.if3.false known.if4.false)
-    (c.refuse-form.ensures, sym keeps)
+    let known = c in
+    rw (form-unknown _ _ _ _ d.if-form-eq-FORM_PLAIN.false d.if-form-eq-FORM_ELITE.false known.if-form-eq-FORM_PACKED.false known.if-form-eq-FORM_NEOCHROME.false)
+    (c.refuse_form.ensures, sym keeps)
 
 pub write_spec : {M : Type 1} → statement M
 write_spec =
