@@ -6,7 +6,9 @@ use Rattle.degas_record_reader.proofs.opening_cursor.Statement.{statement}
 use Rattle.degas_record_reader.proofs.opening_cursor.Tie as tie
 
 returns : tie.Need-returns
-returns c = ap (λ (a : CursorAnswer). a.cursor) c.before.open-records.ensures
+returns c = ap (λ (a : CursorAnswer). a.cursor) c.open_records.ensures
 
-pub opening-cursor-spec : {M : Type 1} → statement M
-opening-cursor-spec = tie.close (tie.spec (λ c κs. search rules) returns)
+pub opening_cursor_spec : {M : Type 1} → statement M
+opening_cursor_spec = tie.close (tie.spec
+    (λ c κs. search rules)
+    returns)
