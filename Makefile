@@ -10,7 +10,7 @@ version_part = $(shell sed -n 's/^\#define KUTIMUQ_VERSION_$(1) //p' include/kut
 SOVERSION := $(call version_part,MAJOR).$(call version_part,MINOR)
 VERSION := $(SOVERSION).$(call version_part,PATCH)
 
-ARCHIVE = target/staticlib/libcapi.a
+ARCHIVE = crates/capi/out/libcapi.a
 OUT = target/lib
 SHARED = libkutimuq.so.$(VERSION)
 SONAME = libkutimuq.so.$(SOVERSION)
@@ -18,8 +18,8 @@ SONAME = libkutimuq.so.$(SOVERSION)
 all: $(OUT)/libkutimuq.a $(OUT)/$(SHARED)
 
 # Folders count as sources too: a file that was removed changes its folder.
-$(ARCHIVE): $(shell find crates crates.txt)
-	rt staticlib capi
+$(ARCHIVE): crates.txt $(shell find crates/*/src crates/*/specs crates/*/proofs)
+	cd crates/capi && rt lib
 	touch $@
 
 $(OUT)/libkutimuq.a: $(ARCHIVE)

@@ -53,7 +53,7 @@ def rattle_constants(crates):
 def rattle_fields(crates):
     for source in sorted(pathlib.Path(crates).glob("*/src/*.rt")):
         text = re.sub(r"//[^\n]*", "", source.read_text())
-        for name, body in re.findall(r"#\[repr\(C\)\]\s*pub struct (\w+) \{(.*?)\n\}", text, re.S):
+        for name, body in re.findall(r"#\[repr\(C\)\]\s*(?:#\[[^\n]*\]\s*)*pub struct (\w+) \{(.*?)\n\}", text, re.S):
             for field, kind in re.findall(r"pub (\w+): (.+?),(?:\n|$)", body):
                 element, count = re.fullmatch(r"(?:\[(\w+); (\d+)\]|\w+)", kind).groups()
                 kind = element or kind

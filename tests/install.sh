@@ -89,7 +89,7 @@ example() {
     check "the torn sample's row" grep -qxF "$torn: $refusal" "$work/errors"
 }
 
-make -s -C "$root" -o target/staticlib/libcapi.a install PREFIX=/usr DESTDIR="$work"
+make -s -C "$root" -o crates/capi/out/libcapi.a install PREFIX=/usr DESTDIR="$work"
 export PKG_CONFIG_LIBDIR="$lib/pkgconfig" PKG_CONFIG_SYSROOT_DIR="$work" LD_LIBRARY_PATH="$lib"
 export PKG_CONFIG_ALLOW_SYSTEM_CFLAGS=1 PKG_CONFIG_ALLOW_SYSTEM_LIBS=1
 installed_library

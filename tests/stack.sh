@@ -1,6 +1,6 @@
 #!/bin/sh
 # Measures the stack that calls of the library take: stack.c over libcapi.a, in the folder that KUTIMUQ_LIB names,
-# default target/staticlib of the repository. --depths prints every measure. All is bound before main: the loader
+# default crates/capi/out of the repository. --depths prints every measure. All is bound before main: the loader
 # takes no stack of a measured call.
 set -eu
 
@@ -10,5 +10,5 @@ work=$(mktemp -d)
 trap 'rm -rf "$work"' EXIT
 
 gcc -std=c11 -Wall -Wextra -Werror -pedantic -Wl,-z,now -I "$root/include" -o "$work/stack" "$here/stack.c" \
-    "${KUTIMUQ_LIB:-$root/target/staticlib}/libcapi.a"
+    "${KUTIMUQ_LIB:-$root/crates/capi/out}/libcapi.a"
 "$work/stack" "$@"

@@ -6,8 +6,8 @@ use std::env;
 use std::path::Path;
 use std::process::exit;
 
-const DEFAULT_FOLDER: &str = "../../target/staticlib";
-/// The installed archive, and the one that `rt staticlib capi` writes.
+const DEFAULT_FOLDER: &str = "../../crates/capi/out";
+/// The installed archive, and the one that `rt lib` writes in crates/capi.
 const NAMES: [&str; 2] = ["kutimuq", "capi"];
 
 fn main() {
@@ -29,6 +29,6 @@ fn main() {
         }
     }
     eprintln!("neither libkutimuq.a nor libcapi.a is in {}", folder.display());
-    eprintln!("make it with `rt staticlib capi`, or name its folder in KUTIMUQ_LIB");
+    eprintln!("make it with `rt lib` in crates/capi, or name its folder in KUTIMUQ_LIB");
     exit(1);
 }

@@ -14,7 +14,7 @@ from operator import index
 SHARED_OBJECT = "libkutimuq.so"
 PACKAGE = os.path.dirname(os.path.realpath(__file__))
 REPOSITORY = os.path.normpath(os.path.join(PACKAGE, "..", "..", ".."))
-ARCHIVE = os.path.join(REPOSITORY, "target", "staticlib", "libcapi.a")
+ARCHIVE = os.path.join(REPOSITORY, "crates", "capi", "out", "libcapi.a")
 BUILT = os.path.join(REPOSITORY, "target", "python", SHARED_OBJECT)
 
 
@@ -33,7 +33,7 @@ def find() -> str:
     if os.path.isfile(ARCHIVE):
         return build(ARCHIVE, BUILT)
     raise LibraryMissing(
-        f"no {SHARED_OBJECT}: name it in KUTIMUQ_SO, put it into {PACKAGE}, or make {ARCHIVE} with `rt staticlib capi`"
+        f"no {SHARED_OBJECT}: name it in KUTIMUQ_SO, put it into {PACKAGE}, or make {ARCHIVE} with `rt lib` in crates/capi"
     )
 
 

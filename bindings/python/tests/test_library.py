@@ -130,7 +130,7 @@ class Finding(unittest.TestCase):
     @unittest.skipUnless(os.path.isfile(library.ARCHIVE) and shutil.which("gcc"), "the archive and gcc are needed")
     def test_built_from_the_archive(self):
         far = self.package()
-        archive = self.folder / "far" / "target" / "staticlib" / "libcapi.a"
+        archive = self.folder / "far" / "crates" / "capi" / "out" / "libcapi.a"
         built = self.folder / "far" / "target" / "python" / library.SHARED_OBJECT
         archive.parent.mkdir(parents=True)
         shutil.copy(library.ARCHIVE, archive)

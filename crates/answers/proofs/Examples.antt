@@ -57,16 +57,16 @@ same_outcome (accepted r) (refused w) = false
 same_outcome (refused v) (accepted s) = false
 same_outcome (refused v) (refused w) = same (numbers v) (numbers w)
 
-same_outcome : (a b : Outcome Row) → T (same_outcome a b) → a ≡ b
-same_outcome (accepted r) (accepted s) t =
+same_outcome_lem : (a b : Outcome Row) → T (same_outcome a b) → a ≡ b
+same_outcome_lem (accepted r) (accepted s) t =
     row r.bytes s.bytes r.records s.records r.made s.made
     (same-list (r.bytes ∷ r.records ∷ r.made) (s.bytes ∷ s.records ∷ s.made) t)
   where
     row : (u v n m : ℕ) (l k : List ℕ) → (u ∷ n ∷ l) ≡ (v ∷ m ∷ k) → done u n l ≡ done v m k
     row u v n m l k e = cc
-same_outcome (accepted r) (refused w) t = absurd t
-same_outcome (refused v) (accepted s) t = absurd t
-same_outcome (refused v) (refused w) t =
+same_outcome_lem (accepted r) (refused w) t = absurd t
+same_outcome_lem (refused v) (accepted s) t = absurd t
+same_outcome_lem (refused v) (refused w) t =
     why v.number v.place v.plane_row v.good_bytes w.number w.place w.plane_row
     w.good_bytes
     (same-list (numbers v) (numbers w) t)
@@ -102,7 +102,7 @@ test-holds (row_packed row body) t =
       subst (λ (b : List ℕ). IsLeast row b (least_records row)) (same-list (least row) body h.1)
           (least-is-least row (leb→le (length row) 128 h.0)),
     )
-test-holds (row_unpacked packed width outcome) t = same_outcome (unpack_row packed width width) outcome t
+test-holds (row_unpacked packed width outcome) t = same_outcome_lem (unpack_row packed width width) outcome t
 test-holds (coloured word red green blue) t =
     same-colour (word_colour St word) red green blue (same-list (parts (word_colour St word)) (red ∷ green ∷ blue ∷ []) t)
 test-holds (first_register words v) t = eqb→eq (register (words_bytes words) Low 0 0) v t

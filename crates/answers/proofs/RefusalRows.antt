@@ -74,7 +74,7 @@ use Rattle.conversion.specs.declared.Conversion.TheVariants.{ToElite, ToPlain}
 use Rattle.conversion.specs.Converting.{ignored_bits, zero_tail, recover, write_elite, plain_to_elite, elite_to_plain}
 use Rattle.conversion.specs.Converting.{converted, convert}
 use Rattle.answers.specs.RefusalRows.{BothZero, ZeroUnless, PackedDegas}
-use Rattle.demands.proofs.Answers.{read_answer, body-answer, write-answer, row-answer}
+use Rattle.demands.proofs.Answers.{read_answer_lem, body-answer, write-answer, row-answer}
 use Rattle.answers.proofs.IndexAnswers.{tally-answer, colour-answer, pond-answer}
 
 -- ---- an outcome by the way it is judged
@@ -216,13 +216,13 @@ pub read-at-record : (kind : ℕ) (file : List ℕ) (area : ℕ)
     → ZeroUnless AtRecord (read_answer (read_file kind file area)).refusal
 read-at-record kind file area =
     let o : Outcome Reading = read_file kind file area in
-    answer-unless o (read_answer o) (read-rows AtRecord kind file area (λ _. packed-at-record file))
+    answer-unless o (read_answer_lem o) (read-rows AtRecord kind file area (λ _. packed-at-record file))
 
 pub read-otherwise : (kind : ℕ) (file : List ℕ) (area : ℕ) → (PackedDegas kind file → ⊥)
     → BothZero (read_answer (read_file kind file area)).refusal
 read-otherwise kind file area other =
     let o : Outcome Reading = read_file kind file area in
-    answer-zero o (read_answer o) (read-rows NoNumber kind file area (λ is. absurd (other is)))
+    answer-zero o (read_answer_lem o) (read-rows NoNumber kind file area (λ is. absurd (other is)))
 
 -- ---- reading a plate: with 6 and 7 only; writing one: never
 

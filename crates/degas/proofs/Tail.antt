@@ -1,6 +1,6 @@
 -- Which accepted files have a tail, and where it stands: packed ones and raw ones of 32,066 bytes, at the file's end.
 use mathlib.Core.Path.{◌≡◌, ap}
-use mathlib.Core.Bool.{true, false, false≢true, ◌||◌}
+use mathlib.Core.Bool.{true, false≢true, ◌||◌}
 use mathlib.Core.List.{List}
 use Prim.Native.Nat.{ℕ, ◌+◌, ◌-◌}
 use native.Mathlib.Omega.{arith}

@@ -19,7 +19,6 @@ use Rattle.outcome.proofs.Outcome.{passed}
 use Rattle.packbits.specs.Rows.{RowsProgress, rows_progress, done_rows, rows_fault, rows_outcome}
 use Rattle.packbits.proofs.RowsBounds.{rows-reached}
 use Rattle.raster.specs.PlaneRows.{image_of}
-use Rattle.raster.specs.Shape.{rows}
 use Rattle.resolution.specs.declared.Resolution.{Resolution}
 use Rattle.resolution.specs.Shapes.{screen_bytes, row_bytes_of, plane_rows_of, raster_of}
 use Rattle.resolution.proofs.Choice.{with_resolution-elim}

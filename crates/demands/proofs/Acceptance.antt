@@ -20,7 +20,7 @@ use Rattle.tiny.specs.Reading.{read_tiny}
 use Rattle.tiny.proofs.Acceptance as tiny-laws
 use Rattle.reader.proofs.Choice.{file-degas, file-neochrome, file-tiny, read_file-judged}
 use Rattle.demands.specs.Accepted.{Accepts, degas, neochrome, tiny, given}
-use Rattle.demands.proofs.Answers.{read_answer}
+use Rattle.demands.proofs.Answers.{read_answer_lem}
 
 module _ (kind : ℕ) (file : List ℕ) (area : ℕ) where
   -- what is read of a file that fits
@@ -61,7 +61,7 @@ module _ (kind : ℕ) (file : List ℕ) (area : ℕ) where
     acceptance bytes = (
       λ e.
           (judged-accepted Given (read_file kind file area) (file-judged bytes)
-          (sym (ap (λ (why : Refusal). why.number) (read_answer (read_file kind file area))) ∙ e)
+          (sym (ap (λ (why : Refusal). why.number) (read_answer_lem (read_file kind file area))) ∙ e)
           ).2.0,
       λ a. ap (λ (o : Outcome Reading). (read_answer o).refusal.number) (file-complete a),
     )

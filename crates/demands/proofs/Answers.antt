@@ -8,9 +8,9 @@ use Rattle.bodies.specs.Unpacking.{UnpackedBody, unpacked_answer}
 use Rattle.picture.specs.Reading.{Reading, read_answer}
 use Rattle.picture.specs.Writing.{Writing, write_answer}
 
-pub read_answer : (o : Outcome Reading) → (read_answer o).refusal ≡ refusal_of o
-read_answer (accepted q) = refl
-read_answer (refused why) = refl
+pub read_answer_lem : (o : Outcome Reading) → (read_answer o).refusal ≡ refusal_of o
+read_answer_lem (accepted q) = refl
+read_answer_lem (refused why) = refl
 
 pub body-answer : (o : Outcome UnpackedBody) → (unpacked_answer o).refusal ≡ refusal_of o
 body-answer (accepted u) = refl

@@ -52,7 +52,7 @@ use Rattle.macpaint.proofs.ReadPlate.{header-none, judge-passed, read-judged}
 use Rattle.reader.specs.Reading.{kind_degas, read_file}
 use Rattle.reader.proofs.Choice.{file-degas}
 use Rattle.demands.specs.Damage.{Damaged, Completion, GoodBefore, DamagedPlate, PlateCompletion, PlateGoodBefore}
-use Rattle.demands.proofs.Answers.{read_answer, body-answer, row-answer, refused-by}
+use Rattle.demands.proofs.Answers.{read_answer_lem, body-answer, row-answer, refused-by}
 
 -- ---- refused at a record, exactly where the body stops
 
@@ -155,7 +155,7 @@ answer-broken : (file : List ℕ) (area : ℕ) (why : Refusal) → Bytes file
 answer-broken file area why all e at =
     let o : Outcome Reading = read_file kind_degas file area in
     read-broken file why all area
-    (sym (file-degas kind_degas file area refl) ∙ at-record-refused o why (sym (read_answer o) ∙ e) at) at
+    (sym (file-degas kind_degas file area refl) ∙ at-record-refused o why (sym (read_answer_lem o) ∙ e) at) at
 
 -- "those of the file reader the plane row's number from 0 as well. Every caller passes these numbers up unaltered": the
 -- reader answers with 6 and 7 exactly where the body stops, and with the body's numbers

@@ -5,23 +5,22 @@
 ghost use Rattle.std.specs.Prelude.{◌+◌, ◌≤◌, length, ◌≡◌};
 ghost use Rattle.pack.specs.Pack.{max_body};
 
-use libc::STDOUT_FILENO;
 use picture::FILE_BYTES;
 use report::SUMMARY_BYTES;
 use resolution::{Resolution, SCREEN_BYTES};
+use std::io;
 use writer::FORM_PACKED;
 
 mod house;
 mod orders;
 
 // Writes a label and the summary of a file.
-fn show(label: &[u8], file: &[u8]) {
+fn show(rt: &impl Print, label: &str, file: &[u8]) -> io::Result<()> {
     let mut text = [0u8; SUMMARY_BYTES];
     let answer = report::summarise(file, &mut text);
     let end = answer.length;
-    io::write_all(STDOUT_FILENO, label);
-    io::write_all(STDOUT_FILENO, b": ");
-    io::write_all(STDOUT_FILENO, &text[..end]);
+    print!(rt; "{label}: ")?;
+    rt.write_all(&text[..end])
 }
 
 // The plane rows of a low screen.
@@ -39,44 +38,44 @@ fn put_blank_rows(file: &mut [u8], at: usize)
 }
 
 // The blank file less its last byte.
-fn blank_less_last() {
+fn blank_less_last(rt: &impl Print) -> io::Result<()> {
     let mut file = [0u8; 1665];
     file[0] = 0x80;
     put_blank_rows(&mut file, 34);
-    show(b"blank file less its last byte", &file);
+    show(rt, "blank file less its last byte", &file)
 }
 
 // The blank file with one 80 before its first record.
-fn blank_with_no_op() {
+fn blank_with_no_op(rt: &impl Print) -> io::Result<()> {
     let mut file = [0u8; 1667];
     file[0] = 0x80;
     file[34] = 0x80;
     put_blank_rows(&mut file, 35);
-    show(b"one 80 before the first record", &file);
+    show(rt, "one 80 before the first record", &file)
 }
 
 // The blank file with all bits of its first plane row set: that row is plane 0, so the line's registers are 1.
-fn first_row_set() {
+fn first_row_set(rt: &impl Print) -> io::Result<()> {
     let mut file = [0u8; 1666];
     file[0] = 0x80;
     put_blank_rows(&mut file, 34);
     file[35] = 0xFF;
-    show(b"first plane row set", &file);
+    show(rt, "first plane row set", &file)
 }
 
 // A packed file that ends where its body starts.
-fn no_body() {
+fn no_body(rt: &impl Print) -> io::Result<()> {
     let mut file = [0u8; 34];
     file[0] = 0x80;
-    show(b"34 bytes, first word 8000", &file);
+    show(rt, "34 bytes, first word 8000", &file)
 }
 
 // The same, followed by a repeat of 41 bytes, in rows of 40.
-fn crossing_record() {
+fn crossing_record(rt: &impl Print) -> io::Result<()> {
     let mut file = [0u8; 36];
     file[0] = 0x80;
     file[34] = 0xD8;
-    show(b"first data byte D8 with one byte after it", &file);
+    show(rt, "first data byte D8 with one byte after it", &file)
 }
 
 // Byte c of a row that begins with `equal` equal bytes.
@@ -118,31 +117,27 @@ fn put_rows(screen: &mut [u8], first: usize) {
 }
 
 // Writes the length of such a screen's least body, and what writing it as form 3 gives.
-fn rows_of_three(label: &[u8], first: usize) {
+fn rows_of_three(rt: &impl Print, label: &str, first: usize) -> io::Result<()> {
     let mut screen = [0u8; SCREEN_BYTES];
     put_rows(&mut screen, first);
     let picture = picture::without_tail(0, [0u16; 16]);
     let mut out = [0u8; FILE_BYTES];
     let answer = writer::write(FORM_PACKED, picture, &screen, &mut out);
     let least = row_least(&row_of(first)) + (LOW_ROWS - 1) * row_least(&row_of(3));
-    io::write_all(STDOUT_FILENO, label);
-    io::write_all(STDOUT_FILENO, b": least body ");
-    io::print_decimal(STDOUT_FILENO, least as u64);
-    io::write_all(STDOUT_FILENO, b", number ");
-    io::print_decimal(STDOUT_FILENO, answer.refusal.number as u64);
-    io::write_all(STDOUT_FILENO, b", body ");
-    io::print_decimal(STDOUT_FILENO, answer.body as u64);
-    io::write_all(STDOUT_FILENO, b"\n");
+    println!(rt;
+        "{label}: least body {least}, number {}, body {}",
+        answer.refusal.number, answer.body
+    )
 }
 
-fn main() {
-    blank_less_last();
-    blank_with_no_op();
-    no_body();
-    crossing_record();
-    rows_of_three(b"800 rows of three equal and 37 more", 3);
-    rows_of_three(b"one of them made four equal and 36", 4);
-    first_row_set();
-    house::run();
-    orders::run();
+fn main(rt: HostRuntime) -> io::Result<()> {
+    blank_less_last(&rt)?;
+    blank_with_no_op(&rt)?;
+    no_body(&rt)?;
+    crossing_record(&rt)?;
+    rows_of_three(&rt, "800 rows of three equal and 37 more", 3)?;
+    rows_of_three(&rt, "one of them made four equal and 36", 4)?;
+    first_row_set(&rt)?;
+    house::run(&rt)?;
+    orders::run(&rt)
 }

@@ -1,10 +1,10 @@
 // Inputs with two faults: the number is that of the fault that document 01 judges first ("Order of judging").
 use legend::Legend;
-use libc::STDOUT_FILENO;
 use outcome::Refusal;
 use picture::FILE_BYTES;
 use reader::{KIND_DEGAS, KIND_NEOCHROME};
 use resolution::SCREEN_BYTES;
+use std::io;
 use tally::Rectangle;
 use writer::FORM_PACKED;
 
@@ -15,179 +15,215 @@ const UNKNOWN: u8 = 9;
 const RESOLUTION: u16 = 3;
 
 // Writes a label and why an input was refused.
-fn show_refusal(label: &[u8], refusal: Refusal) {
-    io::write_all(STDOUT_FILENO, label);
-    io::write_all(STDOUT_FILENO, b": ");
-    io::print_decimal(STDOUT_FILENO, refusal.number as u64);
-    io::write_all(STDOUT_FILENO, b" at ");
-    io::print_decimal(STDOUT_FILENO, refusal.place as u64);
-    io::write_all(STDOUT_FILENO, b"\n");
+fn show_refusal(rt: &impl Print, label: &str, refusal: Refusal) -> io::Result<()> {
+    println!(rt; "{label}: {} at {}", refusal.number, refusal.place)
 }
 
 // Reads a file into an area.
-fn show_read(label: &[u8], kind: u8, file: &[u8], area: &mut [u8]) {
+fn show_read(
+    rt: &impl Print,
+    label: &str,
+    kind: u8,
+    file: &[u8],
+    area: &mut [u8],
+) -> io::Result<()> {
     let answer = reader::read(kind, file, area);
-    show_refusal(label, answer.refusal);
+    show_refusal(rt, label, answer.refusal)
 }
 
 // Read: 1, 2, 3. The area and the file are each too short.
-fn read_areas() {
+fn read_areas(rt: &impl Print) -> io::Result<()> {
     let file = [0u8; 1];
     let mut short = [0u8; 31999];
     show_read(
-        b"read, short area, unknown kind",
+        rt,
+        "read, short area, unknown kind",
         UNKNOWN,
         &file,
         &mut short,
-    );
+    )?;
     let mut area = [0u8; SCREEN_BYTES];
     show_read(
-        b"read, unknown kind, wrong length",
+        rt,
+        "read, unknown kind, wrong length",
         UNKNOWN,
         &file,
         &mut area,
-    );
+    )
 }
 
 // Read: 3, 4, 5 of a NEOchrome file.
-fn read_neochrome() {
+fn read_neochrome(rt: &impl Print) -> io::Result<()> {
     let mut area = [0u8; SCREEN_BYTES];
     let cut = [1u8; 32127];
     show_read(
-        b"read, NEOchrome of 32,127 bytes, flag 257",
+        rt,
+        "read, NEOchrome of 32,127 bytes, flag 257",
         KIND_NEOCHROME,
         &cut,
         &mut area,
-    );
+    )?;
     let whole = [1u8; 32128];
     show_read(
-        b"read, NEOchrome, flag 257, resolution 257",
+        rt,
+        "read, NEOchrome, flag 257, resolution 257",
         KIND_NEOCHROME,
         &whole,
         &mut area,
-    );
+    )
 }
 
 // Read: 3, 5, 3 of a DEGAS file.
-fn read_degas() {
+fn read_degas(rt: &impl Print) -> io::Result<()> {
     let mut area = [0u8; SCREEN_BYTES];
     let cut = [3u8; 33];
     show_read(
-        b"read, DEGAS of 33 bytes, resolution 3",
+        rt,
+        "read, DEGAS of 33 bytes, resolution 3",
         KIND_DEGAS,
         &cut,
         &mut area,
-    );
+    )?;
     let raw = [3u8; 35];
     show_read(
-        b"read, raw DEGAS of 35 bytes, resolution 3",
+        rt,
+        "read, raw DEGAS of 35 bytes, resolution 3",
         KIND_DEGAS,
         &raw,
         &mut area,
-    );
+    )
 }
 
 // Writes a blank screen into an output.
-fn show_write(label: &[u8], form: u8, resolution: u16, out: &mut [u8]) {
+fn show_write(
+    rt: &impl Print,
+    label: &str,
+    form: u8,
+    resolution: u16,
+    out: &mut [u8],
+) -> io::Result<()> {
     let screen = [0u8; SCREEN_BYTES];
     let picture = picture::without_tail(resolution, [0u16; 16]);
     let answer = writer::write(form, picture, &screen, out);
-    show_refusal(label, answer.refusal);
+    show_refusal(rt, label, answer.refusal)
 }
 
 // Write: 1, 2, 5.
-fn write_order() {
+fn write_order(rt: &impl Print) -> io::Result<()> {
     let mut short = [0u8; 32127];
-    show_write(b"write, short output, unknown form", UNKNOWN, 0, &mut short);
     show_write(
-        b"write, short output, resolution 3",
+        rt,
+        "write, short output, unknown form",
+        UNKNOWN,
+        0,
+        &mut short,
+    )?;
+    show_write(
+        rt,
+        "write, short output, resolution 3",
         FORM_PACKED,
         RESOLUTION,
         &mut short,
-    );
+    )?;
     let mut out = [0u8; FILE_BYTES];
     show_write(
-        b"write, unknown form, resolution 3",
+        rt,
+        "write, unknown form, resolution 3",
         UNKNOWN,
         RESOLUTION,
         &mut out,
-    );
+    )
 }
 
 // Unpacks a row into an output.
-fn show_unpack(label: &[u8], packed: &[u8], width: usize, out: &mut [u8]) {
+fn show_unpack(
+    rt: &impl Print,
+    label: &str,
+    packed: &[u8],
+    width: usize,
+    out: &mut [u8],
+) -> io::Result<()> {
     let answer = unpack::unpack_row(packed, width, out);
-    show_refusal(label, answer.refusal);
+    show_refusal(rt, label, answer.refusal)
 }
 
 // Row pack: 10, 1. Row unpack: 10, 1, and then the records; in one record the row's end before missing input.
-fn row_orders() {
+fn row_orders(rt: &impl Print) -> io::Result<()> {
     let row = [0u8; 129];
     let mut short = [0u8; 2];
     let packed = pack::pack_row(&row, &mut short);
-    show_refusal(b"row pack, 129 bytes, short output", packed.refusal);
+    show_refusal(rt, "row pack, 129 bytes, short output", packed.refusal)?;
     show_unpack(
-        b"row unpack, width 129, short output",
+        rt,
+        "row unpack, width 129, short output",
         b"\xFD\x07",
         129,
         &mut short,
-    );
+    )?;
     show_unpack(
-        b"row unpack, short output, record across the row's end",
+        rt,
+        "row unpack, short output, record across the row's end",
         b"\xFD\x07",
         3,
         &mut short,
-    );
+    )?;
     show_unpack(
-        b"row unpack, FE alone into a row of two",
+        rt,
+        "row unpack, FE alone into a row of two",
         b"\xFE",
         2,
         &mut short,
-    );
+    )?;
     let mut out = [0u8; 3];
     show_unpack(
-        b"row unpack, 00 07 FE 07 into a row of three",
+        rt,
+        "row unpack, 00 07 FE 07 into a row of three",
         b"\x00\x07\xFE\x07",
         3,
         &mut out,
-    );
+    )
 }
 
 // Line out: 1, 5, 10, 1.
-fn line_out_order() {
+fn line_out_order(rt: &impl Print) -> io::Result<()> {
     let cut = [0u8; 31999];
     let screen = [0u8; SCREEN_BYTES];
     let mut short = [0u8; 319];
     show_refusal(
-        b"line out, short screen, resolution 3",
+        rt,
+        "line out, short screen, resolution 3",
         lines::line_out(&cut, RESOLUTION, 0, &mut short),
-    );
+    )?;
     show_refusal(
-        b"line out, resolution 3, line 400",
+        rt,
+        "line out, resolution 3, line 400",
         lines::line_out(&screen, RESOLUTION, 400, &mut short),
-    );
+    )?;
     show_refusal(
-        b"line out, line 200, short output",
+        rt,
+        "line out, line 200, short output",
         lines::line_out(&screen, 0, 200, &mut short),
-    );
+    )
 }
 
 // Line in: the same, and then the registers.
-fn line_in_order() {
+fn line_in_order(rt: &impl Print) -> io::Result<()> {
     let mut screen = [0u8; SCREEN_BYTES];
     let short = [16u8; 319];
     show_refusal(
-        b"line in, line 200, short line",
+        rt,
+        "line in, line 200, short line",
         lines::line_in(&mut screen, 0, 200, &short),
-    );
+    )?;
     show_refusal(
-        b"line in, short line, register 16",
+        rt,
+        "line in, short line, register 16",
         lines::line_in(&mut screen, 0, 0, &short),
-    );
+    )
 }
 
 // Tally: 1, 5, 10.
-fn tally_order() {
+fn tally_order(rt: &impl Print) -> io::Result<()> {
     let rectangle = Rectangle {
         left: 1,
         top: 0,
@@ -196,14 +232,18 @@ fn tally_order() {
     };
     let cut = [0u8; 31999];
     let short = tally::tally(&cut, RESOLUTION, rectangle);
-    show_refusal(b"tally, short screen, resolution 3", short.refusal);
+    show_refusal(rt, "tally, short screen, resolution 3", short.refusal)?;
     let screen = [0u8; SCREEN_BYTES];
     let unknown = tally::tally(&screen, RESOLUTION, rectangle);
-    show_refusal(b"tally, resolution 3, rectangle too wide", unknown.refusal);
+    show_refusal(
+        rt,
+        "tally, resolution 3, rectangle too wide",
+        unknown.refusal,
+    )
 }
 
 // Pond reading: 1, 5, 10. Colour: 5, 10.
-fn index_orders() {
+fn index_orders(rt: &impl Print) -> io::Result<()> {
     let screen = [0u8; SCREEN_BYTES];
     let rectangle = Rectangle {
         left: 0,
@@ -217,39 +257,44 @@ fn index_orders() {
         confidences: [101u8; 16],
     };
     let pond = pond::read_pond(&screen, RESOLUTION, rectangle, 1, 0, 101, legend);
-    show_refusal(b"pond reading, resolution 3, confidence 101", pond.refusal);
+    show_refusal(
+        rt,
+        "pond reading, resolution 3, confidence 101",
+        pond.refusal,
+    )?;
     let colour = colour::colour(RESOLUTION, 3, [0u16; 16], 16);
     show_refusal(
-        b"colour, resolution 3, machine 3, register 16",
+        rt,
+        "colour, resolution 3, machine 3, register 16",
         colour.refusal,
-    );
+    )?;
     let on_another = colour::colour(0, 3, [0u16; 16], 0);
-    show_refusal(b"colour, machine 3", on_another.refusal);
+    show_refusal(rt, "colour, machine 3", on_another.refusal)
 }
 
 // An entry set and released: 10, 19.
-fn legend_orders() {
+fn legend_orders(rt: &impl Print) -> io::Result<()> {
     let ours = legend::set_entry(legend::new_legend(), 1, 0, 7, 90);
     let set = legend::set_entry(ours.legend, 2, 0, 256, 90);
-    show_refusal(b"set, class 256, another's entry", set.refusal);
+    show_refusal(rt, "set, class 256, another's entry", set.refusal)?;
     let anothers = legend::set_entry(ours.legend, 2, 0, 7, 90);
-    show_refusal(b"set, another's entry", anothers.refusal);
+    show_refusal(rt, "set, another's entry", anothers.refusal)?;
     let release = legend::release_entry(ours.legend, 3, 0);
-    show_refusal(b"release, party 3, another's entry", release.refusal);
+    show_refusal(rt, "release, party 3, another's entry", release.refusal)?;
     let free = legend::release_entry(ours.legend, 1, 1);
-    show_refusal(b"release, free entry", free.refusal);
+    show_refusal(rt, "release, free entry", free.refusal)
 }
 
 // All of them.
-pub(crate) fn run() {
-    read_areas();
-    read_neochrome();
-    read_degas();
-    write_order();
-    row_orders();
-    line_out_order();
-    line_in_order();
-    tally_order();
-    index_orders();
-    legend_orders();
+pub(crate) fn run(rt: &impl Print) -> io::Result<()> {
+    read_areas(rt)?;
+    read_neochrome(rt)?;
+    read_degas(rt)?;
+    write_order(rt)?;
+    row_orders(rt)?;
+    line_out_order(rt)?;
+    line_in_order(rt)?;
+    tally_order(rt)?;
+    index_orders(rt)?;
+    legend_orders(rt)
 }

@@ -5,7 +5,6 @@ use Prim.Native.Nat.{ℕ}
 use mir.Val.{Val}
 use denote.Laws.{Is}
 use denote.Struct.Declared.{row}
-use borrow.Author.Rules.{length_unmapped}
 use Rattle.legend.specs.declared.Legend.{Legend}
 use Rattle.legend.specs.Entries.{WholeLegend}
 use Rattle.legend.specs.Setting.{setting, releasing, legend_answer}
@@ -19,9 +18,9 @@ use Rattle.isolation.proofs.Isolation.{others-step}
 -- from the relation that a parameter of the type has to its machine value
 pub whole : (l : Legend) (vs : List Val) → Is (row declared-legend.the_type) l vs → WholeLegend l
 whole l vs s = record {
-  owners = length_unmapped ℕ l.owners 16 s.1.1.0.1.0.1;
-  classes = length_unmapped ℕ l.classes 16 s.1.1.1.0.1.0.1;
-  confidences = length_unmapped ℕ l.confidences 16 s.1.1.1.1.0.1.0.1;
+  owners = s.1.1.0.1.0.1;
+  classes = s.1.1.1.0.1.0.1;
+  confidences = s.1.1.1.1.0.1.0.1;
 }
 
 module _ (l : Legend) (is : WholeLegend l) (s : List ℕ) (q : Question) (other : ℕ) (ne : other ≡ q.party → ⊥) where

@@ -7,7 +7,7 @@ use native.Mathlib.Nat.{pow-suc, one-le-pow, pow-le-pow_right, not-suc-le-zero, 
 use native.Mathlib.Omega.{arith}
 use lib.ListN.{length, length-append}
 use borrow.Author.Tests.{lt-ltb, le-ltb}
-use Rattle.io.specs.Digits.{last_digits, IsDigitCount}
+use Rattle.io.specs.Digits.{last_digits as digits, IsDigitCount}
 use Rattle.lists.proofs.Cond.{cond-ltb}
 use Rattle.report.specs.Decimal.{last_digits, decimal}
 
@@ -26,7 +26,7 @@ length-decimal n = length-last_digits 20 n
 
 -- ---- the fewest digits of the kit's `io::decimal`
 
-digits_last : (k f n : ℕ) → k ≤ f → IsDigitCount 10 1 n (suc k) → last_digits 10 (suc k) n ≡ last_digits (suc f) n
+digits_last : (k f n : ℕ) → k ≤ f → IsDigitCount 10 1 n (suc k) → digits 10 (suc k) n ≡ last_digits (suc f) n
 unfolding last_digits
 digits_last zero f n h w =
     let small : n < 10 = w.1 in
@@ -42,7 +42,7 @@ digits_last (suc k) (suc f) n h w =
     let low : n % 10 < 10 = omega arith in
     let fewer : IsDigitCount 10 1 (n / 10) (suc k) =
     (omega arith, omega (arith, w.1), λ _. rw less (omega (arith, pow-suc 10 k))) in
-    let rest : last_digits 10 (suc k) (n / 10) ≡ last_digits (suc f) (n / 10) =
+    let rest : digits 10 (suc k) (n / 10) ≡ last_digits (suc f) (n / 10) =
     digits_last k f (n / 10) (le_of_suc-le-suc h) fewer in
     rw (le-ltb n 10 more, lt-ltb (n % 10) 10 low, rest)
 
@@ -58,7 +58,7 @@ fewest-le k n h w = go (dec_le k 20)
         absurd (omega arith)
     go (yes l) = l
 
-pub digits_decimal : (k n : ℕ) → k ≤ 20 → IsDigitCount 10 1 n k → last_digits 10 k n ≡ decimal n
+pub digits_decimal : (k n : ℕ) → k ≤ 20 → IsDigitCount 10 1 n k → digits 10 k n ≡ decimal n
 unfolding decimal
 digits_decimal zero n h w = absurd (not-suc-le-zero w.0)
 digits_decimal (suc k) n h w = digits_last k 19 n (omega arith) w

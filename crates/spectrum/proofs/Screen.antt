@@ -16,9 +16,9 @@ use Rattle.lists.proofs.Tabulate.{tabulate-ext}
 use Rattle.raster.specs.Offsets.{group_offset, word_offset}
 use Rattle.raster.specs.Shape.{line_bytes, bytes}
 use Rattle.raster.specs.PlaneRows.{row_offset, plane_row, plane_rows, image_of}
-use Rattle.raster.specs.Planar.{planar_row, planar_image, put_planar}
+use Rattle.planar.specs.Planar.{planar_row, planar_image, put_planar}
 use Rattle.raster.proofs.PlaneRows.{length-plane_row, get_or-plane_row, image-of-rows}
-use Rattle.raster.proofs.Planar.{length-planar_image, row-of-planes}
+use Rattle.planar.proofs.Planar.{length-planar_image, row-of-planes}
 use Rattle.resolution.specs.declared.Resolution.TheVariants.{Low}
 use Rattle.resolution.specs.Shapes.{screen_bytes, raster_of}
 use Rattle.spectrum.specs.Screen.{shown_lines, plane_bytes, line_zero, spc_screen, ScreenOf}
@@ -84,7 +84,7 @@ screen-of planes full =
       top = λ p h. top-row p h (planar_image shown_lines planes);
       below = λ y p k h.
           below_row y p h (planar_image shown_lines planes)
-          ∙ row-of-planes shown_lines planes (y * 4 + p) full (omega arith)
+          ∙ row-of-planes shown_lines planes full (y * 4 + p) (omega arith)
           ∙ ap₂ (λ (q l : ℕ). take 40 (drop ((q * 199 + l) * 40) planes)) (digits_mod y h) (digits_div y h);
     }
 

@@ -4,7 +4,7 @@ use Rattle.std.specs.Prelude.{ℕ, ◌+◌, ◌*◌, ◌<◌, ◌≡◌, List, �
 use Rattle.raster.specs.declared.Raster.{Raster}
 use Rattle.raster.specs.Shape.{line_bytes}
 use Rattle.raster.specs.PlaneRows.{plane_row}
-use Rattle.raster.specs.Planar.{planar_image}
+use Rattle.planar.specs.Planar.{planar_image}
 use Rattle.resolution.specs.declared.Resolution.TheVariants.{Low}
 use Rattle.resolution.specs.Shapes.{raster_of}
 

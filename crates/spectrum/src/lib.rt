@@ -103,7 +103,7 @@ fn put_screen(planes: &[u8], screen: &mut [u8])
         groups: GROUPS,
         planes: PLANES,
     };
-    raster::put_planes(&mut screen[LINE_BYTES..], shape, planes);
+    planar::put_planes(&mut screen[LINE_BYTES..], shape, planes);
 }
 
 // Judges what is left of the data map, whose records end at an offset, and the colour map, and then writes both.

@@ -5,22 +5,22 @@ use borrow.Author.Rules.{rules}
 use Rattle.colour.proofs.colour.Statement.{statement}
 use Rattle.colour.proofs.colour.Tie as tie
 
-returns : tie.Need-returns
+returns : tie.Need-returns-in-Known
 unfolding shown
 returns c =
-    let w = c.before in
-    let e = sym w.before.before.before.before.from-number.ensures ∙ w.before.before.r.given.1 in
-    rw (e, sym w.palette-word.ensures) c.colour-at.ensures
+    let w = c in
+    let e = sym w.from_number.ensures ∙ w.in-Known.is in
+    rw (e, sym w.palette_word.ensures) c.colour_at.ensures
 
-returns-2 : tie.Need-returns-2
+returns-2 : tie.Need-returns-in-Unknown
 unfolding shown
 returns-2 c =
-    let f = c.before.before in
-    let e = sym f.before.before.from-number.ensures ∙ f.enum_told.given.1 in
-    rw e (c.colour-refused.ensures ∙ rw c.before.refuse.ensures)
+    let f = c in
+    let e = sym f.from_number.ensures ∙ f.in-Unknown.is in
+    rw e (c.colour_refused.ensures ∙ rw c.refuse.ensures)
 
-pub colour-spec : {M : Type 1} → statement M
-colour-spec =
+pub colour_spec : {M : Type 1} → statement M
+colour_spec =
     tie.close
     (tie.spec
     (λ c κs. search rules)

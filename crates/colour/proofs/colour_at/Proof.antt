@@ -4,19 +4,19 @@ use borrow.Author.Rules.{rules}
 use Rattle.colour.proofs.colour_at.Statement.{statement}
 use Rattle.colour.proofs.colour_at.Tie as tie
 
-returns : tie.Need-returns
+returns : tie.Need-returns-in-Known
 returns c =
-    let e = sym c.before.before.before.before.from-number.ensures ∙ c.before.before.m.given.1 in
-    rw e c.colour-on.ensures
+    let e = sym c.from_number.ensures ∙ c.in-Known.is in
+    rw e c.colour_on.ensures
 
-returns-2 : tie.Need-returns-2
+returns-2 : tie.Need-returns-in-Unknown
 returns-2 c =
-    let f = c.before.before in
-    let e = sym f.before.before.from-number.ensures ∙ f.enum_told.given.1 in
-    rw e (c.colour-refused.ensures ∙ rw c.before.refuse.ensures)
+    let f = c in
+    let e = sym f.from_number.ensures ∙ f.in-Unknown.is in
+    rw e (c.colour_refused.ensures ∙ rw c.refuse.ensures)
 
-pub colour-at-spec : {M : Type 1} → statement M
-colour-at-spec =
+pub colour_at_spec : {M : Type 1} → statement M
+colour_at_spec =
     tie.close
     (tie.spec
     (λ c κs. search rules)

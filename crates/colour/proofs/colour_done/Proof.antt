@@ -6,5 +6,7 @@ use Rattle.colour.proofs.colour_done.Tie as tie
 returns : tie.Need-returns
 returns c = rw c.none.ensures
 
-pub colour-done-spec : {M : Type 1} → statement M
-colour-done-spec = tie.close (tie.spec (λ c κs. search rules) returns)
+pub colour_done_spec : {M : Type 1} → statement M
+colour_done_spec = tie.close (tie.spec
+    (λ c κs. search rules)
+    returns)

@@ -9,22 +9,22 @@ use borrow.Author.Rules.{rules}
 use Rattle.colour.proofs.colour_on.Statement.{statement}
 use Rattle.colour.proofs.colour_on.Tie as tie
 
-returns : tie.Need-returns
+returns : tie.Need-returns-then-register-registers
 unfolding judge_register
 returns c =
-    let a = c.before.before.before.before.args in
+    let a = c.args in
     let h : registers_of a.r ≤ a.register = omega arith in
-    c.colour-refused.ensures ∙ rw (c.before.refuse.ensures, le-leb _ _ h)
+    c.colour_refused.ensures ∙ rw (c.refuse.ensures, le-leb _ _ h)
 
-returns-2 : tie.Need-returns-2
+returns-2 : tie.Need-returns
 unfolding judge_register
 returns-2 c =
-    let a = c.before.before.before.before.args in
+    let a = c.args in
     let h : a.register < registers_of a.r = omega arith in
-    c.colour-done.ensures ∙ rw (c.before.register-colour.ensures, lt-leb _ _ h)
+    c.colour_done.ensures ∙ rw (c.register_colour.ensures, lt-leb _ _ h)
 
-pub colour-on-spec : {M : Type 1} → statement M
-colour-on-spec =
+pub colour_on_spec : {M : Type 1} → statement M
+colour_on_spec =
     tie.close
     (tie.spec
     (λ c κs. search rules)

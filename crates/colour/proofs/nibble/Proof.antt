@@ -8,5 +8,7 @@ returns : tie.Need-returns
 unfolding nibble
 returns c = search rules
 
-pub nibble-spec : {M : Type 1} → statement M
-nibble-spec = tie.close (tie.spec (λ c. search rules) returns)
+pub nibble_spec : {M : Type 1} → statement M
+nibble_spec = tie.close (tie.spec
+    (λ c. search rules)
+    returns)

@@ -4,16 +4,16 @@ use borrow.Author.Rules.{rules}
 use Rattle.colour.proofs.nibble_shown.Statement.{statement}
 use Rattle.colour.proofs.nibble_shown.Tie as tie
 
-returns : tie.Need-returns
+returns : tie.Need-returns-in-St
 unfolding nibble_shown
-returns c = rw c.before.enum_told.given.1 c.stretch.ensures
+returns c = rw c.in-St.is c.stretch.ensures
 
-returns-2 : tie.Need-returns-2
+returns-2 : tie.Need-returns-in-Ste
 unfolding nibble_shown
-returns-2 c = rw (c.before.enum-told2.given.1, c.ste-level.ensures.0)
+returns-2 c = rw (c.in-Ste.is, c.ste_level.ensures.0)
 
-pub nibble-shown-spec : {M : Type 1} → statement M
-nibble-shown-spec =
+pub nibble_shown_spec : {M : Type 1} → statement M
+nibble_shown_spec =
     tie.close
     (tie.spec
     (λ c. search rules)

@@ -7,11 +7,15 @@ use borrow.Author.Rules.{rules}
 use Rattle.colour.proofs.palette_word.Statement.{statement}
 use Rattle.colour.proofs.palette_word.Tie as tie
 
-returns-2 : tie.Need-returns-2
+returns-2 : tie.Need-returns-else-register-lt16
 returns-2 c =
-    let a = c.before.args in
-    let h : length a.t1 ≤ a.register = omega arith in
-    sym (get_or-eq_default a.t1 0 h)
+    let a = c.args in
+    let h : length a.palette ≤ a.register = omega arith in
+    sym (get_or-eq_default a.palette 0 h)
 
-pub palette-word-spec : {M : Type 1} → statement M
-palette-word-spec = tie.close (tie.spec (λ c. search rules) (λ c. search rules) (λ c. search rules) returns-2)
+pub palette_word_spec : {M : Type 1} → statement M
+palette_word_spec = tie.close (tie.spec
+    (λ c. search rules)
+    (λ c. search rules)
+    (λ c. search rules)
+    returns-2)

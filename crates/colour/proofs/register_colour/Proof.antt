@@ -4,20 +4,20 @@ use borrow.Author.Rules.{rules}
 use Rattle.colour.proofs.register_colour.Statement.{statement}
 use Rattle.colour.proofs.register_colour.Tie as tie
 
-returns : tie.Need-returns
+returns : tie.Need-returns-in-Low
 unfolding register_colour
-returns c = rw c.before.enum_told.given.1 c.word-colour.ensures
+returns c = rw c.in-Low.is c.word_colour.ensures
 
-returns-2 : tie.Need-returns-2
+returns-2 : tie.Need-returns-in-Medium
 unfolding register_colour
-returns-2 c = rw c.before.enum-told2.given.1 c.word-colour2.ensures
+returns-2 c = rw c.in-Medium.is c.word_colour-in-Medium.ensures
 
-returns-3 : tie.Need-returns-3
+returns-3 : tie.Need-returns-in-High
 unfolding register_colour
-returns-3 c = rw c.before.enum-told3.given.1 c.monochrome.ensures
+returns-3 c = rw c.in-High.is c.monochrome.ensures
 
-pub register-colour-spec : {M : Type 1} → statement M
-register-colour-spec =
+pub register_colour_spec : {M : Type 1} → statement M
+register_colour_spec =
     tie.close
     (tie.spec
     (λ c. search rules)

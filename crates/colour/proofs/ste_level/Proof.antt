@@ -8,5 +8,8 @@ returns : tie.Need-returns
 unfolding ste_level
 returns c = search rules
 
-pub ste-level-spec : {M : Type 1} → statement M
-ste-level-spec = tie.close (tie.spec (λ c. search rules) (λ c. search rules) returns)
+pub ste_level_spec : {M : Type 1} → statement M
+ste_level_spec = tie.close (tie.spec
+    (λ c. search rules)
+    (λ c. search rules)
+    returns)

@@ -9,5 +9,7 @@ returns : tie.Need-returns
 unfolding stretch
 returns c = refl
 
-pub stretch-spec : {M : Type 1} → statement M
-stretch-spec = tie.close (tie.spec (λ c. search rules) returns)
+pub stretch_spec : {M : Type 1} → statement M
+stretch_spec = tie.close (tie.spec
+    (λ c. search rules)
+    returns)

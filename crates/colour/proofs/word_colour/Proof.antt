@@ -8,8 +8,8 @@ returns : tie.Need-returns
 unfolding word_colour
 returns c = cc
 
-pub word-colour-spec : {M : Type 1} → statement M
-word-colour-spec =
+pub word_colour_spec : {M : Type 1} → statement M
+word_colour_spec =
     tie.close
     (tie.spec
     (λ c κs. search rules)

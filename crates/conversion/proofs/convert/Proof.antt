@@ -6,20 +6,23 @@ use borrow.Author.Rules.{rules}
 use Rattle.conversion.proofs.convert.Statement.{statement}
 use Rattle.conversion.proofs.convert.Tie as tie
 
-returns : tie.Need-returns
+returns : tie.Need-returns-then-out-lt-FILE_BYTES
 returns c =
-    let t = c.before.before in
-    let a = t.before.before.before.args in
+    let t = c in
+    let a = t.args in
     rw (
-      c.write-refused.ensures,
-      c.before.refuse.ensures,
-      convert-short a.to a.file.now (length a.out.now) t.if1.true,
+      c.write_refused.ensures,
+      c.refuse.ensures,
+      convert-short a.to a.file.now (length a.out.now) t.if-out-lt-FILE_BYTES.true,
     ) (refl, refl)
 
-pub convert-spec : {M : Type 1} → statement M
-convert-spec =
+pub convert_spec : {M : Type 1} → statement M
+convert_spec =
     tie.close
     (tie.spec
-    (λ c κs. search rules) (λ c κs. search rules)
+    (λ c κs. search rules)
+    (λ c κs. search rules)
     returns
-    (λ c κs. search rules) (λ c. search rules) (λ c. search rules))
+    (λ c κs. search rules)
+    (λ c. search rules)
+    (λ c. search rules))

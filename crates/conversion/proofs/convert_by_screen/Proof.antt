@@ -6,51 +6,59 @@ use borrow.Author.Rules.{rules}
 use Rattle.conversion.proofs.convert_by_screen.Statement.{statement}
 use Rattle.conversion.proofs.convert_by_screen.Tie as tie
 
-returns : tie.Need-returns
+returns : tie.Need-returns-then-refusal-ne0
 returns c =
-    let t = c.before in
-    let r = t.before.before.before.before in
-    let e = r.before.before.before.before in
+    let t = c in
+    let r = t in
+    let e = r in
     let a = e.args in
     rw (
-      c.write-refused.ensures,
-      answer-refused a.to a.file.now (length a.out.now) e.requires r.read.result
-          r.read.ensures.0 t.if1.true,
+      c.write_refused.ensures,
+      answer-refused a.to a.file.now (length a.out.now) e.requires r.read-reading.result
+          r.read-reading.ensures.0 t.if-refusal-ne0.true,
     ) (refl, refl)
 
-returns-2 : tie.Need-returns-2
+returns-2 : tie.Need-returns-in-ToElite
 returns-2 c =
-    let t = c.before.before.before.before.before.before.before.before.before in
-    let r = t.before.before.before.before in
-    let e = r.before.before.before.before in
+    let t = c in
+    let r = t in
+    let e = r in
     let a = e.args in
     let read =
-    answer-accepted a.to a.file.now (length a.out.now) e.requires r.read.result
-    r.read.ensures.0 t.if1.false _ _ refl r.read.ensures.1 in
-    let word = c.before.before.before.before.before in
-    rw (read, word.before.enum_told.given.1, sym word.word_at.ensures)
-    c.before.before.plain-to-elite.ensures
+    answer-accepted a.to a.file.now (length a.out.now) e.requires r.read-reading.result
+    r.read-reading.ensures.0 t.if-refusal-ne0.false _ _ refl r.read-reading.ensures.1 in
+    let word = c in
+    rw (read, word.in-ToElite.is, sym word.word_at.ensures)
+    c.plain_to_elite.ensures
 
-returns-3 : tie.Need-returns-3
+returns-3 : tie.Need-returns-in-ToPlain
 returns-3 c =
-    let t = c.before.before.before.before.before.before.before.before in
-    let r = t.before.before.before.before in
-    let e = r.before.before.before.before in
+    let t = c in
+    let r = t in
+    let e = r in
     let a = e.args in
     let read =
-    answer-accepted a.to a.file.now (length a.out.now) e.requires r.read.result
-    r.read.ensures.0 t.if1.false _ _ refl r.read.ensures.1 in
-    rw (read, c.before.before.before.before.before.enum-told2.given.1)
-    c.before.before.elite-to-plain.ensures
+    answer-accepted a.to a.file.now (length a.out.now) e.requires r.read-reading.result
+    r.read-reading.ensures.0 t.if-refusal-ne0.false _ _ refl r.read-reading.ensures.1 in
+    rw (read, c.in-ToPlain.is)
+    c.elite_to_plain.ensures
 
-pub convert-by-screen-spec : {M : Type 1} → statement M
-convert-by-screen-spec =
+pub convert_by_screen_spec : {M : Type 1} → statement M
+convert_by_screen_spec =
     tie.close
     (tie.spec
-    (λ c. search rules) (λ c κs. search rules) (λ c κs. search rules)
+    (λ c. search rules)
+    (λ c κs. search rules)
+    (λ c κs. search rules)
     returns
-    (λ c. search rules) (λ c κs. search rules) (λ c. search rules) (λ c κs. search rules) (λ c. search rules)
-    (λ c. search rules) (λ c κs. search rules) (λ c. search rules)
+    (λ c. search rules)
+    (λ c κs. search rules)
+    (λ c. search rules)
+    (λ c κs. search rules)
+    (λ c. search rules)
+    (λ c. search rules)
+    (λ c κs. search rules)
+    (λ c. search rules)
     returns-2
     (λ c. search rules)
     returns-3)

@@ -12,30 +12,36 @@ use borrow.Author.Rules.{rules}
 use Rattle.conversion.proofs.write_elite.Statement.{statement}
 use Rattle.conversion.proofs.write_elite.Tie as tie
 
-returns : tie.Need-returns
+returns : tie.Need-returns-then-packed-ne-NO_PACKED_BODY
 unfolding write_elite
 returns c =
-    let a = c.before.before.before.before.before.before.before.before.args in
-    let e = c.before.before.before.before.write.ensures in
+    let a = c.args in
+    let e = c.write-packed.ensures in
     let packed = write_degas Packed a.picture a.screen.now (length a.out.now) in
     let raw = write_degas Elite a.picture a.screen.now (length a.out.now) in
     rw
     (first-stays no_packed_body packed raw
-    (λ n. c.if1.true (ap (λ (r : WriteAnswer). r.refusal.number) e.0 ∙ n))) e
+    (λ n. c.if-packed-ne-NO_PACKED_BODY.true (ap (λ (r : WriteAnswer). r.refusal.number) e.0 ∙ n))) e
 
-returns-2 : tie.Need-returns-2
+returns-2 : tie.Need-returns
 unfolding write_elite
 returns-2 c =
-    let a = c.before.before.before.before.before.before.before.before.before.before.before.before.args in
-    let e = c.before.before.before.before.before.before.before.before.write.ensures in
+    let a = c.args in
+    let e = c.write-packed.ensures in
     let packed = write_degas Packed a.picture a.screen.now (length a.out.now) in
     let raw = write_degas Elite a.picture a.screen.now (length a.out.now) in
     let nine =
-    sym (ap (λ (r : WriteAnswer). r.refusal.number) e.0) ∙ c.before.before.before.before.if1.false in
+    sym (ap (λ (r : WriteAnswer). r.refusal.number) e.0) ∙ c.if-packed-ne-NO_PACKED_BODY.false in
     let kept = e.1 ∙ refused-keeps packed a.out.now (λ z. omega (arith, nine, z)) in
-    rw (other-comes no_packed_body packed raw (λ z. omega arith) nine, sym kept) c.before.before.write2.ensures
+    rw (other-comes no_packed_body packed raw (λ z. omega arith) nine, sym kept) c.write.ensures
 
-pub write-elite-spec : {M : Type 1} → statement M
-write-elite-spec =
+pub write_elite_spec : {M : Type 1} → statement M
+write_elite_spec =
     tie.close
-    (tie.spec (λ c κs. search rules) (λ c. search rules) returns (λ c κs. search rules) (λ c. search rules) returns-2)
+    (tie.spec
+    (λ c κs. search rules)
+    (λ c. search rules)
+    returns
+    (λ c κs. search rules)
+    (λ c. search rules)
+    returns-2)

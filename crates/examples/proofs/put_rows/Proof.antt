@@ -6,14 +6,14 @@ use borrow.Author.Rules.{rules}
 use Rattle.examples.proofs.put_rows.Statement.{statement}
 use Rattle.examples.proofs.put_rows.Tie as tie
 
-abbrev invariant-loop : tie.invariant-loop
+abbrev invariant-loop : tie.invariant-loop-n
 invariant-loop screen₀ first low row n₀ screen n = (n ≤ 800) × (length screen ≡ length screen₀) × (length row ≡ 40)
 
-abbrev decreases-loop : tie.decreases-loop
+abbrev decreases-loop : tie.decreases-loop-n
 decreases-loop screen₀ first low row n₀ screen n = 800 - n
 
-pub put-rows-spec : {M : Type 1} → statement M
-put-rows-spec =
+pub put_rows_spec : {M : Type 1} → statement M
+put_rows_spec =
     tie.close
     (tie.spec
     invariant-loop

@@ -5,7 +5,9 @@ use Rattle.examples.proofs.row_least.Statement.{statement}
 use Rattle.examples.proofs.row_least.Tie as tie
 
 returns : tie.Need-returns
-returns c = rw c.least-len.ensures (least_len-bound c.before.before.args.row.now)
+returns c = rw c.least_len.ensures (least_len-bound c.args.row.now)
 
-pub row-least-spec : {M : Type 1} → statement M
-row-least-spec = tie.close (tie.spec (λ c κs. search rules) returns)
+pub row_least_spec : {M : Type 1} → statement M
+row_least_spec = tie.close (tie.spec
+    (λ c κs. search rules)
+    returns)

@@ -6,14 +6,14 @@ use borrow.Author.Rules.{rules}
 use Rattle.examples.proofs.row_of.Statement.{statement}
 use Rattle.examples.proofs.row_of.Tie as tie
 
-abbrev invariant-loop : tie.invariant-loop
+abbrev invariant-loop : tie.invariant-loop-c
 invariant-loop equal row₀ c₀ row c = (c ≤ 40) × (length row ≡ 40)
 
-abbrev decreases-loop : tie.decreases-loop
+abbrev decreases-loop : tie.decreases-loop-c
 decreases-loop equal row₀ c₀ row c = 40 - c
 
-pub row-of-spec : {M : Type 1} → statement M
-row-of-spec =
+pub row_of_spec : {M : Type 1} → statement M
+row_of_spec =
     tie.close
     (tie.spec
     invariant-loop

@@ -7,18 +7,20 @@ use Rattle.isolation.proofs.read_beside_release.Tie as tie
 
 returns : tie.Need-returns
 returns c =
-    let e = c.before.before in
-    let r = e.before in
-    let a = r.before.before.args in
-    let is = whole a.legend _ r.before.before.well-formed.1.1.0 in (
+    let a = c.args in
+    let is = whole a.legend _ c.well_formed.1.1.0 in (
       λ ne.
-          c.ask2.ensures
-          ∙ rw e.release-entry.ensures
+          c.ask-after.ensures
+          ∙ rw c.release_entry-call.ensures
           (beside-release a.legend is a.screen.now a.question a.other ne a.register)
-          ∙ sym r.ask.ensures,
-      (r.ask.ensures, e.release-entry.ensures, c.ask2.ensures),
+          ∙ sym c.ask-before.ensures,
+      (c.ask-before.ensures, c.release_entry-call.ensures, c.ask-after.ensures),
     )
 
-pub read-beside-release-spec : {M : Type 1} → statement M
-read-beside-release-spec =
-    tie.close (tie.spec (λ c κs. search rules) (λ c κs. search rules) (λ c κs. search rules) returns)
+pub read_beside_release_spec : {M : Type 1} → statement M
+read_beside_release_spec =
+    tie.close (tie.spec
+    (λ c κs. search rules)
+    (λ c κs. search rules)
+    (λ c κs. search rules)
+    returns)

@@ -6,5 +6,7 @@ use Rattle.legend.proofs.call_refused.Tie as tie
 returns : tie.Need-returns
 returns c = rw c.refuse.ensures
 
-pub call-refused-spec : {M : Type 1} → statement M
-call-refused-spec = tie.close (tie.spec (λ c κs. search rules) returns)
+pub call_refused_spec : {M : Type 1} → statement M
+call_refused_spec = tie.close (tie.spec
+    (λ c κs. search rules)
+    returns)

@@ -4,43 +4,48 @@ use Rattle.legend.specs.Entries.{entry_fits}
 use Rattle.legend.proofs.entry_fits.Statement.{statement}
 use Rattle.legend.proofs.entry_fits.Tie as tie
 
-returns : tie.Need-returns
+returns : tie.Need-returns-then-owner-gt-MAX_PARTY
 unfolding entry_fits
-returns c = simp (lt-leb _ _ c.if1.true)
+returns c = simp (lt-leb _ _ c.if-owner-gt-MAX_PARTY.true)
 
-returns-2 : tie.Need-returns-2
+returns-2 : tie.Need-returns-then-confidence-gt-MAX_CONFIDENCE
 unfolding entry_fits
-returns-2 c = simp (le-leb _ _ c.before.if1.false, lt-leb _ _ c.if2.true)
+returns-2 c = simp (le-leb _ _ c.if-owner-gt-MAX_PARTY.false, lt-leb _ _ c.if-confidence-gt-MAX_CONFIDENCE.true)
 
-returns-3 : tie.Need-returns-3
+returns-3 : tie.Need-returns-then-owner-ne-FREE
 unfolding entry_fits
 returns-3 c =
-    let i = c.before in
-    simp (le-leb _ _ i.before.if1.false, le-leb _ _ i.if2.false, ne_eqb _ _ c.if3.true)
+    let i = c in
+    simp (le-leb _ _ i.if-owner-gt-MAX_PARTY.false, le-leb _ _ i.if-confidence-gt-MAX_CONFIDENCE.false, ne_eqb _ _ c.if-owner-ne-FREE.true)
 
-returns-4 : tie.Need-returns-4
+returns-4 : tie.Need-returns-then-class-ne0
 unfolding entry_fits
 returns-4 c =
-    let f = c.before in
-    let i = f.before in
+    let f = c in
+    let i = f in
     simp (
-      le-leb _ _ i.before.if1.false,
-      le-leb _ _ i.if2.false,
-      eq-eqb _ _ f.if3.false,
-      ne_eqb _ _ c.if4.true,
+      le-leb _ _ i.if-owner-gt-MAX_PARTY.false,
+      le-leb _ _ i.if-confidence-gt-MAX_CONFIDENCE.false,
+      eq-eqb _ _ f.if-owner-ne-FREE.false,
+      ne_eqb _ _ c.if-class-ne0.true,
     )
 
-returns-5 : tie.Need-returns-5
+returns-5 : tie.Need-returns
 unfolding entry_fits
 returns-5 c =
-    let f = c.before in
-    let i = f.before in
+    let f = c in
+    let i = f in
     simp (
-      le-leb _ _ i.before.if1.false,
-      le-leb _ _ i.if2.false,
-      eq-eqb _ _ f.if3.false,
-      eq-eqb _ _ c.if4.false,
+      le-leb _ _ i.if-owner-gt-MAX_PARTY.false,
+      le-leb _ _ i.if-confidence-gt-MAX_CONFIDENCE.false,
+      eq-eqb _ _ f.if-owner-ne-FREE.false,
+      eq-eqb _ _ c.if-class-ne0.false,
     )
 
-pub entry-fits-spec : {M : Type 1} → statement M
-entry-fits-spec = tie.close (tie.spec returns returns-2 returns-3 returns-4 returns-5)
+pub entry_fits_spec : {M : Type 1} → statement M
+entry_fits_spec = tie.close (tie.spec
+    returns
+    returns-2
+    returns-3
+    returns-4
+    returns-5)

@@ -9,5 +9,9 @@ returns : tie.Need-returns
 unfolding with_entry
 returns c = refl
 
-pub with-entry-spec : {M : Type 1} → statement M
-with-entry-spec = tie.close (tie.spec (λ c. search rules) (λ c. search rules) (λ c. search rules) returns)
+pub with_entry_spec : {M : Type 1} → statement M
+with_entry_spec = tie.close (tie.spec
+    (λ c. search rules)
+    (λ c. search rules)
+    (λ c. search rules)
+    returns)

@@ -1,5 +1,5 @@
 -- `macpaint::read_rows` meets its contract: a longer area is cut to the plate, and the call ends since that is shorter.
-use Rattle.std.proofs.Common.{◌≡◌, ◌≤◌, length, take, arith}
+use Rattle.std.proofs.Common.{arith}
 use lib.Seq.{length-take-le}
 use Rattle.outcome.proofs.Areas.{area-cut}
 use Rattle.bodies.specs.Unpacking.{UnpackedBody}

@@ -14,51 +14,51 @@ use Rattle.pond.proofs.Entries.{entries-le}
 use Rattle.pond.proofs.pond_counts.Statement.{statement}
 use Rattle.pond.proofs.pond_counts.Tie as tie
 
-abbrev invariant-loop : tie.invariant-loop
+abbrev invariant-loop : tie.invariant-loop-v
 invariant-loop legend party class floor counts sure₀ unsure₀ other₀ v₀ sure unsure other v =
     (v ≤ entries)
     × (sure ≡ sum v (λ v. (entry_counts legend party class floor v (get_or counts v 0)).sure))
     × (unsure ≡ sum v (λ v. (entry_counts legend party class floor v (get_or counts v 0)).unsure))
     × (other ≡ sum v (λ v. (entry_counts legend party class floor v (get_or counts v 0)).other))
 
-abbrev decreases-loop : tie.decreases-loop
+abbrev decreases-loop : tie.decreases-loop-v
 decreases-loop legend party class floor counts sure₀ unsure₀ other₀ v₀ sure unsure other v = entries - v
 
-loop-holds : tie.Need-loop-init invariant-loop decreases-loop
+loop-holds : tie.Need-loop-v-init invariant-loop decreases-loop
 unfolding sum
 loop-holds c = search rules
 
 -- the sums with one register more
-sums-le : (c : tie.After-entry-counts invariant-loop decreases-loop) → let l = c.before.before.loop in
-    let e = c.entry-counts.result in
+sums-le : (c : tie.After-entry_counts-entry invariant-loop decreases-loop) → let l = c.loop-v in
+    let e = c.entry_counts-entry.result in
     (l.sure + e.sure ≤ entries * most_pixels) × (l.unsure + e.unsure ≤ entries * most_pixels)
     × (l.other + e.other ≤ entries * most_pixels)
 unfolding sum
 sums-le c =
-    let l = c.before.before.loop in
-    let o = c.before.before.before in
+    let l = c.loop-v in
+    let o = c in
     let a = o.args in
-    let e = c.entry-counts.ensures in
-    let n = entries-le a.legend a.party a.class a.floor a.t1 most_pixels (suc l.v) o.requires in (
+    let e = c.entry_counts-entry.ensures in
+    let n = entries-le a.legend a.party a.class a.floor a.counts most_pixels (suc l.v) o.requires in (
       omega (arith, l.invariant.1, ap (λ (p : PondCounts). p.sure) e, n.0),
       omega (arith, l.invariant.2, ap (λ (p : PondCounts). p.unsure) e, n.1),
       omega (arith, l.invariant.3, ap (λ (p : PondCounts). p.other) e, n.2),
     )
 
-add-sure : tie.Need-overflow-add-sure invariant-loop decreases-loop
+add-sure : tie.Need-overflow_add-sure invariant-loop decreases-loop
 add-sure c = omega (arith, (sums-le c.before).0)
 
-add-unsure : tie.Need-overflow-add-unsure invariant-loop decreases-loop
+add-unsure : tie.Need-overflow_add-unsure invariant-loop decreases-loop
 add-unsure c = omega (arith, (sums-le c.before.before).1)
 
-add-other : tie.Need-overflow-add-other invariant-loop decreases-loop
+add-other : tie.Need-overflow_add-other invariant-loop decreases-loop
 add-other c = omega (arith, (sums-le c.before.before.before).2)
 
-loop-again : tie.Need-loop-preserved invariant-loop decreases-loop
+loop-again : tie.Need-loop-v-preserved invariant-loop decreases-loop
 unfolding sum
 loop-again c =
-    let l = c.before.before.before.before.before.loop in
-    let e = c.before.before.before.entry-counts.ensures in (
+    let l = c.loop-v in
+    let e = c.entry_counts-entry.ensures in (
       omega arith,
       rw (add-one l.v) (omega (arith, l.invariant.1, ap (λ (p : PondCounts). p.sure) e)),
       rw (add-one l.v) (omega (arith, l.invariant.2, ap (λ (p : PondCounts). p.unsure) e)),
@@ -68,12 +68,12 @@ loop-again c =
 returns : tie.Need-returns invariant-loop decreases-loop
 unfolding pond_from
 returns c =
-    let l = c.before.loop in
+    let l = c.loop-v in
     let e : l.v ≡ entries = omega arith in
     rw (l.invariant.1, l.invariant.2, l.invariant.3, e)
 
-pub pond-counts-spec : {M : Type 1} → statement M
-pond-counts-spec =
+pub pond_counts_spec : {M : Type 1} → statement M
+pond_counts_spec =
     tie.close
     (tie.spec
     invariant-loop

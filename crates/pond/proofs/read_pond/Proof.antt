@@ -1,6 +1,6 @@
 -- `pond::read_pond` meets its contract: the tally is judged first, then the question and the legend.
 use mathlib.Core.Path.{◌≡◌, sym, ◌∙◌}
-use borrow.Author.Tests.{eq-eqb, ne_eqb, not-true, not-false}
+use borrow.Author.Tests.{eq-eqb, ne_eqb}
 use Rattle.tally.proofs.Totals.{after_tally, tally-le}
 use Rattle.pond.specs.Reading.{pond_reading}
 use Rattle.pond.proofs.Reading.{from_counts, pond-determined}
@@ -9,12 +9,12 @@ use Rattle.pond.proofs.read_pond.Statement.{statement}
 use Rattle.pond.proofs.read_pond.Tie as tie
 
 -- the reading by the tally's answer
-by-tally : (d : tie.After-tally) → let a = d.before.before.args in
+by-tally : (d : tie.After-tally-tallied) → let a = d.args in
     pond_reading a.screen.now a.resolution a.rectangle a.party a.class a.floor a.legend
-    ≡ after_tally d.tally.result (from_counts a.party a.class a.floor a.legend)
+    ≡ after_tally d.tally-tallied.result (from_counts a.party a.class a.floor a.legend)
 by-tally d =
-    let a = d.before.before.args in
-    rw d.tally.ensures
+    let a = d.args in
+    rw d.tally-tallied.ensures
     (pond-determined
     a.screen.now
     a.resolution
@@ -24,45 +24,41 @@ by-tally d =
     a.floor
     a.legend)
 
-returns : tie.Need-returns
+returns : tie.Need-returns-then-refusal-ne0
 returns c =
     let i = c.before in
-    rw (by-tally i.before.before.before, ne_eqb _ _ i.if1.true) c.pond-refused.ensures
+    rw (by-tally i.before.before.before, ne_eqb _ _ i.if-refusal-ne0.true) c.pond_refused.ensures
 
-returns-2 : tie.Need-returns-2
+returns-2 : tie.Need-returns-then-not-fits
 returns-2 c =
-    let g = c.before.before in
-    let p = g.before.question-fits in
-    let i = g.before.before in
+    let p = c.question_fits-fits in
+    let i = c.before.before in
     rw (
-      by-tally i.before.before.before,
-      eq-eqb _ _ i.if1.false,
-      sym p.ensures ∙ not-true p.result g.if2.true,
+      by-tally i.before.before.before.before.before,
+      eq-eqb _ _ i.if-refusal-ne0.false,
+      sym p.ensures ∙ c.if-not-fits.true,
     )
-    (c.pond-refused2.ensures ∙ rw c.before.refuse.ensures)
+    (c.pond_refused-then-not-fits.ensures ∙ rw c.refuse.ensures)
 
-pond-counts-requires : tie.Need-pond-counts-requires
+pond-counts-requires : tie.Need-pond_counts-pond-requires
 pond-counts-requires c κs =
-    let t = c.before.before.before.before.before.before in
-    let a = t.before.before.args in
-    rw t.tally.ensures (tally-le a.screen.now a.resolution a.rectangle)
+    let a = c.args in
+    rw c.tally-tallied.ensures (tally-le a.screen.now a.resolution a.rectangle)
 
-returns-3 : tie.Need-returns-3
+returns-3 : tie.Need-returns
 returns-3 c =
-    let n = c.before in
-    let g = n.before.before in
-    let p = g.before.question-fits in
-    let i = g.before.before in
+    let p = c.question_fits-fits in
+    let i = c.before.before in
     rw (
-      by-tally i.before.before.before,
-      eq-eqb _ _ i.if1.false,
-      sym p.ensures ∙ not-false p.result g.if2.false,
-      ← n.pond-counts.ensures,
+      by-tally i.before.before.before.before.before.before,
+      eq-eqb _ _ i.if-refusal-ne0.false,
+      sym p.ensures ∙ c.if-not-fits.false,
+      ← c.pond_counts-pond.ensures,
       c.none.ensures,
     )
 
-pub read-pond-spec : {M : Type 1} → statement M
-read-pond-spec =
+pub read_pond_spec : {M : Type 1} → statement M
+read_pond_spec =
     tie.close
     (tie.spec
     (λ c κs. search rules)

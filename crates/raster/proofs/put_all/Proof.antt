@@ -5,7 +5,6 @@ use Prim.Native.Nat.{ℕ, ◌*◌}
 use native.Mathlib.Omega.{arith}
 use lib.ListN.{take}
 use Rattle.lists.specs.Over.{over}
-use Rattle.raster.specs.Shape.{bytes}
 use Rattle.raster.specs.Joined.{Interleaved}
 use Rattle.raster.proofs.Joined.{interleaved-line, interleaved-joined, one-joined}
 use borrow.Author.Rules.{rules}

@@ -7,16 +7,21 @@ use Rattle.report.proofs.put_reading.Tie as tie
 
 returns : tie.Need-returns
 returns c =
-    let p = c.before.before in
-    let y = p.before.before.before.before in (
-      written_then y.put-numbers.ensures.0 p.put-tally.ensures.0,
-      omega (arith, y.put-numbers.ensures.1, p.put-tally.ensures.1),
+    let p = c in
+    let y = p in (
+      written_then y.put_numbers-end.ensures.0 p.put_tally.ensures.0,
+      omega (arith, y.put_numbers-end.ensures.1, p.put_tally.ensures.1),
     )
 
-pub put-reading-spec : {M : Type 1} → statement M
-put-reading-spec =
+pub put_reading_spec : {M : Type 1} → statement M
+put_reading_spec =
     tie.close
     (tie.spec
-    (λ c κs. search rules) (λ c. search rules) (λ c. search rules) (λ c. search rules) (λ c κs. search rules)
-    (λ c. search rules) (λ c. search rules)
+    (λ c κs. search rules)
+    (λ c. search rules)
+    (λ c. search rules)
+    (λ c. search rules)
+    (λ c κs. search rules)
+    (λ c. search rules)
+    (λ c. search rules)
     returns)

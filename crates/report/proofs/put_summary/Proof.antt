@@ -13,39 +13,46 @@ use borrow.Author.Rules.{rules}
 use Rattle.report.proofs.put_summary.Statement.{statement}
 use Rattle.report.proofs.put_summary.Tie as tie
 
-returns : tie.Need-returns
+returns : tie.Need-returns-then-refusal-ne0
 unfolding summary
 returns c =
-    let p = c.before.before in
-    let i = p.before.before in
-    let j = i.before.before.before.before in
-    let file = j.before.before.before.before.args.file.now in
-    let q = j.read.result in
-    let e = text-refused (read_file kind_degas file screen_bytes) q j.read.ensures.0 i.if1.true in
-    (written_as (summary file) e p.put-refusal.ensures.0, omega (arith, p.put-refusal.ensures.1))
+    let p = c in
+    let i = p in
+    let j = i in
+    let file = j.args.file.now in
+    let q = j.read-reading.result in
+    let e = text-refused (read_file kind_degas file screen_bytes) q j.read-reading.ensures.0 i.if-refusal-ne0.true in
+    (written_as (summary file) e p.put_refusal.ensures.0, omega (arith, p.put_refusal.ensures.1))
 
-returns-2 : tie.Need-returns-2
+returns-2 : tie.Need-returns
 unfolding summary
 returns-2 c =
-    let p = c.before.before in
-    let t = p.before.before in
-    let s = t.before in
-    let i = s.before.before.before in
-    let j = i.before.before.before.before in
-    let q = j.read.result in
-    let file = j.before.before.before.before.args.file.now in
+    let p = c in
+    let t = p in
+    let s = t in
+    let i = s in
+    let j = i in
+    let q = j.read-reading.result in
+    let file = j.args.file.now in
     let e =
     ap₂ (λ (n : ℕ) (l : List ℕ). number_lines q.picture.resolution q.records q.body n ++ tally_line l)
-    t.tail-number.ensures s.screen-counts.ensures
+    t.tail_number-tail.ensures s.screen_counts-counts.ensures
     ∙ text-accepted (read_file kind_degas file screen_bytes) (read_whole file) q _ _ refl
-    j.read.ensures.0 i.if1.false j.read.ensures.1 in
-    (written_as (summary file) e p.put-reading.ensures.0, p.put-reading.ensures.1)
+    j.read-reading.ensures.0 i.if-refusal-ne0.false j.read-reading.ensures.1 in
+    (written_as (summary file) e p.put_reading.ensures.0, p.put_reading.ensures.1)
 
-pub put-summary-spec : {M : Type 1} → statement M
-put-summary-spec =
+pub put_summary_spec : {M : Type 1} → statement M
+put_summary_spec =
     tie.close
     (tie.spec
-    (λ c. search rules) (λ c κs. search rules) (λ c κs. search rules) (λ c. search rules)
+    (λ c. search rules)
+    (λ c κs. search rules)
+    (λ c κs. search rules)
+    (λ c. search rules)
     returns
-    (λ c. search rules) (λ c κs. search rules) (λ c κs. search rules) (λ c κs. search rules) (λ c. search rules)
+    (λ c. search rules)
+    (λ c κs. search rules)
+    (λ c κs. search rules)
+    (λ c κs. search rules)
+    (λ c. search rules)
     returns-2)

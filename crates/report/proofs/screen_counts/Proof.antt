@@ -4,17 +4,22 @@ use borrow.Author.Rules.{rules}
 use Rattle.report.proofs.screen_counts.Statement.{statement}
 use Rattle.report.proofs.screen_counts.Tie as tie
 
-whole-counts-requires : tie.Need-whole-counts-requires
+whole-counts-requires : tie.Need-whole_counts-requires
 whole-counts-requires c κs =
-    (search rules, sym c.before.before.before.from-number.ensures ∙ c.before.r.given.1)
+    (search rules, sym c.from_number.ensures ∙ c.in-Known.is)
 
-returns : tie.Need-returns
+returns : tie.Need-returns-in-Known
 returns c =
-    let f = c.before.before.before.before in
-    rw (sym f.from-number.ensures ∙ c.before.before.r.given.1) c.whole-counts.ensures
+    let f = c in
+    rw (sym f.from_number.ensures ∙ c.in-Known.is) c.whole_counts.ensures
 
-pub screen-counts-spec : {M : Type 1} → statement M
-screen-counts-spec =
+pub screen_counts_spec : {M : Type 1} → statement M
+screen_counts_spec =
     tie.close
-    (tie.spec (λ c κs. search rules) (λ c. search rules) whole-counts-requires (λ c. search rules) returns
-    (λ c. rw (sym c.before.before.from-number.ensures ∙ c.enum_told.given.1)))
+    (tie.spec
+    (λ c κs. search rules)
+    (λ c. search rules)
+    whole-counts-requires
+    (λ c. search rules)
+    returns
+    (λ c. rw (sym c.from_number.ensures ∙ c.in-Unknown.is)))

@@ -8,12 +8,16 @@ use Rattle.report.proofs.whole_counts.Tie as tie
 
 returns : tie.Need-returns
 returns c =
-    let t = c.before in
-    let h = t.before in
-    let start = h.before.before.before in
+    let t = c in
+    let h = t in
+    let start = h in
     let a = start.args in
-    ap (λ (v : TallyAnswer). v.counts) (rw (h.height.ensures, h.before.width.ensures) at t.tally.ensures)
+    ap (λ (v : TallyAnswer). v.counts) (rw (h.height.ensures, h.width.ensures) at t.tally-tallied.ensures)
     ∙ tallied-whole a.screen.now a.resolution a.r start.requires.0 start.requires.1
 
-pub whole-counts-spec : {M : Type 1} → statement M
-whole-counts-spec = tie.close (tie.spec (λ c κs. search rules) (λ c κs. search rules) (λ c κs. search rules) returns)
+pub whole_counts_spec : {M : Type 1} → statement M
+whole_counts_spec = tie.close (tie.spec
+    (λ c κs. search rules)
+    (λ c κs. search rules)
+    (λ c κs. search rules)
+    returns)

@@ -24,28 +24,27 @@ abbrev μ : Measures 3 ps ℕ
 abbrev claims : ℕ → lts.Claims
 claims t = (and 3 ps (falls 3 ps ◌<◌ μ t) read-maps.Pre, read-maps.Post, read-by-buffer.Asked, read-by-buffer.Learnt)
 
-pub +read-maps-spec : {M : Type 1} → statement M
-+read-maps-spec =
+pub +read_maps_spec : {M : Type 1} → statement M
++read_maps_spec =
     close μ (λ t.
     lts.spec (claims t) (and 3 ps (is 3 ps μ t) read-maps.Pre) read-maps.Post
     (λ c. search rules)
     (λ c.
-    sym (length-take-le screen_bytes c.before.before.before.before.before.args.screen.now (omega arith)))
+    sym (length-take-le screen_bytes c.args.screen.now (omega arith)))
     (λ c κs.
-    let e = c.before.before.before.before.before.before in
-    let long = length-take-le screen_bytes e.args.screen.now (omega arith) in (
-      omega (arith, long, e.requires.0, c.before.before.if1.true),
-      (e.requires.1.0, (omega (arith, long), omega arith)),
+    let long = length-take-le screen_bytes c.args.screen.now (omega arith) in (
+      omega (arith, long, c.requires.0, c.if-screen-gt-SCREEN_BYTES.true),
+      (c.requires.1.0, (omega (arith, long), omega arith)),
     ))
     (λ c.
-    let a = c.before.before.before.before.before.before.before.before.before.before.before.args in
-    let again = c.before.before.before.before.read-maps in
-    length_front a.screen.now again.new.1.1.0 screen_bytes again.auto.1.1.0)
+    let a = c.args in
+    let again = c.read_maps in
+    length_front a.screen.now again.new.screen screen_bytes again.auto.screen)
     (λ c. search rules)
     (λ c.
-    let a = c.before.before.before.before.before.before.before.before.before.before.before.args in
-    let again = c.before.before.before.before.read-maps in
-    let same = area-cut (read_maps a.file.now) (λ r. r.screen) a.screen.now again.new.1.1.0 screen_bytes
-    again.auto.1.1.0 again.ensures.1.0 in
+    let a = c.args in
+    let again = c.read_maps in
+    let same = area-cut (read_maps a.file.now) (λ r. r.screen) a.screen.now again.new.screen screen_bytes
+    again.auto.screen again.ensures.1.0 in
     (again.ensures.0, (same, again.ensures.1.1)))
     (λ c κs. search rules) (λ c. search rules) (λ c. search rules) (λ c. search rules))

@@ -7,10 +7,10 @@ use Rattle.spectrum.proofs.long_at.Tie as tie
 
 returns : tie.Need-returns
 unfolding long_at
-returns c = (omega (arith, c.before.word_at.ensures, c.word-at2.ensures), omega arith)
+returns c = (omega (arith, c.word_at-high.ensures, c.word_at-low.ensures), omega arith)
 
-pub long-at-spec : {M : Type 1} → statement M
-long-at-spec =
+pub long_at_spec : {M : Type 1} → statement M
+long_at_spec =
     tie.close
     (tie.spec
     (λ c κs. search rules)

@@ -17,10 +17,10 @@ by_difference from end h = go (ltb (from + 1) end) refl
     go true e = lt-ltb 1 (end - from) (omega (arith, ltb-true (from + 1) end e))
     go false e = le-ltb 1 (end - from) (omega (arith, ltb-false (from + 1) end e))
 
-pub more-than-one-spec : {M : Type 1} → statement M
-more-than-one-spec =
+pub more_than_one_spec : {M : Type 1} → statement M
+more_than_one_spec =
     tie.close
     (tie.spec
-    (λ c. sym (le-ltb (c.before.args.from + 1) c.before.args.end (omega arith)))
+    (λ c. sym (le-ltb (c.args.from + 1) c.args.end (omega arith)))
     (λ c. search rules)
-    (λ c. by_difference c.before.args.from c.before.args.end (omega arith)))
+    (λ c. by_difference c.args.from c.args.end (omega arith)))

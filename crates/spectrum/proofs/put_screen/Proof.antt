@@ -7,13 +7,13 @@ use Rattle.spectrum.proofs.put_screen.Tie as tie
 
 returns : tie.Need-returns
 returns c =
-    let t = c.before.before.before.before.before.before in
-    let a = t.before.before.before.before.args in
-    screen-put a.planes.now a.screen.now t.put-run.new.1.1.0 c.before.before.put-planes.new.0
-    (omega arith) (omega arith) (t.put-run.ensures.1 (omega arith)) c.before.before.put-planes.ensures
+    let t = c in
+    let a = t.args in
+    screen-put a.planes.now a.screen.now t.put_run.new.out c.put_planes.new.area
+    (omega arith) (omega arith) (t.put_run.ensures.1 (omega arith)) c.put_planes.ensures
 
-pub put-screen-spec : {M : Type 1} → statement M
-put-screen-spec =
+pub put_screen_spec : {M : Type 1} → statement M
+put_screen_spec =
     tie.close
     (tie.spec
     (λ c κs. search rules)

@@ -7,43 +7,43 @@ use borrow.Author.Rules.{rules}
 use Rattle.spectrum.proofs.read.Statement.{statement}
 use Rattle.spectrum.proofs.read.Tie as tie
 
-returns : tie.Need-returns
+returns : tie.Need-returns-then-screen-lt-SCREEN_BYTES
 returns c =
-    let a = c.before.before.before.before.before.args in
+    let a = c.args in
     rw (screen-short a.file.now a.kind (length a.screen.now) (length a.palettes.now) (omega arith))
     (c.refuse.ensures, (refl, refl))
 
-returns-2 : tie.Need-returns-2
+returns-2 : tie.Need-returns-then-palettes-lt-PALETTE_WORDS
 returns-2 c =
-    let a = c.before.before.before.before.before.before.args in
+    let a = c.args in
     rw (palettes-short a.file.now a.kind (length a.screen.now) (length a.palettes.now) (omega arith))
-    (c.refuse2.ensures, (refl, refl))
+    (c.refuse-then-palettes-lt-PALETTE_WORDS.ensures, (refl, refl))
 
-returns-3 : tie.Need-returns-3
+returns-3 : tie.Need-returns-then-kind-eq-KIND_SPU
 returns-3 c =
-    let called = c.before.before.before.before in
-    let a = called.before.before.before.before.before.before.before.before.before.args in
+    let called = c in
+    let a = called.args in
     rw
     (kind-spu a.file.now a.kind (length a.screen.now) (length a.palettes.now) (omega arith)
     (omega arith) (omega arith))
-    called.read-spu.ensures
+    called.read_spu.ensures
 
-returns-4 : tie.Need-returns-4
+returns-4 : tie.Need-returns-then-kind-eq-KIND_SPC
 returns-4 c =
-    let called = c.before.before.before.before in
-    let a = called.before.before.before.before.before.before.before.before.before.before.args in
+    let called = c in
+    let a = called.args in
     rw
     (kind-spc a.file.now a.kind (length a.screen.now) (length a.palettes.now) (omega arith)
     (omega arith) (omega arith))
-    called.read-spc.ensures
+    called.read_spc.ensures
 
-returns-5 : tie.Need-returns-5
+returns-5 : tie.Need-returns
 returns-5 c =
-    let a = c.before.before.before.before.before.before.before.before.args in
+    let a = c.args in
     rw
     (kind-other a.file.now a.kind (length a.screen.now) (length a.palettes.now) (omega arith)
-    (omega arith) c.before.before.if3.false c.before.if4.false)
-    (c.refuse3.ensures, (refl, refl))
+    (omega arith) c.if-kind-eq-KIND_SPU.false c.if-kind-eq-KIND_SPC.false)
+    (c.refuse-2.ensures, (refl, refl))
 
 pub read_spec : {M : Type 1} → statement M
 read_spec =

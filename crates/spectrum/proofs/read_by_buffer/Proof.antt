@@ -18,42 +18,42 @@ use borrow.Author.Rules.{rules}
 use Rattle.spectrum.proofs.read_by_buffer.Statement.{statement}
 use Rattle.spectrum.proofs.read_by_buffer.Tie as tie
 
-returns : tie.Need-returns
+returns : tie.Need-returns-in_default
 returns c =
-    let t = c.before.before.before.before in
-    let e = t.before.before.before.before.before.before in
+    let t = c in
+    let e = t in
     let file = e.args.file.now in
-    let why = c.before.enum_told.given.0.0 in
+    let why = c.in_default.field-0 in
     let called = data-called file e.args.end _ e.requires.0.0 (length-replicate {A = ℕ} plane_bytes 0) in
     let is = ended-refused (unpacked_data file).ends why
-    (sym (t.unpack-map.ensures.0 ∙ ap (λ (f : Filling). ended f.ends) called) ∙ c.before.enum_told.given.1) in
+    (sym (t.unpack_map-ended.ensures.0 ∙ ap (λ (f : Filling). ended f.ends) called) ∙ c.in_default.is) in
     rw (data-refused file why is)
-    (c.refusal-of.ensures ∙ rw c.before.enum_told.given.1, (refl, refl))
+    (c.refusal_of.ensures ∙ rw c.in_default.is, (refl, refl))
 
-put-maps-requires : tie.Need-put-maps-requires
+put-maps-requires : tie.Need-put_maps-requires
 put-maps-requires c κs =
-    let t = c.before.before.before.before.before.before.before in
-    let e = t.before.before.before.before.before.before in
+    let t = c in
+    let e = t in
     let file = e.args.file.now in
-    let last = c.before.before.before.before.ended.given.0.0 in
+    let last = c.in-At.last in
     let zeros = length-replicate {A = ℕ} plane_bytes 0 in
     let called = data-called file e.args.end _ e.requires.0.0 zeros in
     let is = ended_at (unpacked_data file).ends last
-    (sym (t.unpack-map.ensures.0 ∙ ap (λ (f : Filling). ended f.ends) called)
-    ∙ c.before.before.before.before.ended.given.1) in
+    (sym (t.unpack_map-ended.ensures.0 ∙ ap (λ (f : Filling). ended f.ends) called)
+    ∙ c.in-At.is) in
     let size = map-all (before_colours file) header_bytes plane_bytes last is in
     let planes =
-    t.unpack-map.ensures.1
+    t.unpack_map-ended.ensures.1
     ∙ ap (λ (f : Filling). over f.made (replicate plane_bytes 0)) called
     ∙ over-whole (unpacked_data file).made (replicate plane_bytes 0) (omega (arith, zeros, size)) in
     ((e.requires.0.0, is), ((planes, omega (arith, ap length planes, size)), (omega arith, omega arith)))
 
-pub read-by-buffer-spec : {M : Type 1} → statement M
-read-by-buffer-spec =
+pub read_by_buffer_spec : {M : Type 1} → statement M
+read_by_buffer_spec =
     tie.close
     (tie.spec
     (λ c.
-    let a = c.before.before.before.before.args in sym (length-take-le a.end a.file.now (omega arith)))
+    let a = c.args in sym (length-take-le a.end a.file.now (omega arith)))
     (λ c. search rules)
     (λ c κs. search rules)
     (λ c. search rules)

@@ -14,30 +14,30 @@ use borrow.Author.Rules.{rules}
 use Rattle.spectrum.proofs.read_spu.Statement.{statement}
 use Rattle.spectrum.proofs.read_spu.Tie as tie
 
-returns : tie.Need-returns
+returns : tie.Need-returns-then-file-ne-SPU_BYTES
 returns c =
-    let a = c.before.before.before.before.before.args in
-    rw (spu-wrong a.file.now c.before.if1.true) (c.refuse.ensures, (refl, refl))
+    let a = c.args in
+    rw (spu-wrong a.file.now c.if-file-ne-SPU_BYTES.true) (c.refuse.ensures, (refl, refl))
 
-returns-2 : tie.Need-returns-2
+returns-2 : tie.Need-returns
 returns-2 c =
-    let t = c.before.before.before.before.before.before.before.before in
-    let a = t.before.before.before.before.before.before.args in
+    let t = c in
+    let a = t.args in
     let size : length a.file.now ≡ spu_bytes = omega arith in
     let tail = tail-part a.file.now screen_bytes in
-    let words = c.before.before.before.get-words.ensures in
+    let words = c.get_words.ensures in
     rw (spu-right a.file.now size) (
       c.none.ensures,
       (
-        t.put-part.ensures.1 (omega arith) (omega arith),
+        t.put_part.ensures.1 (omega arith) (omega arith),
         words ∙ ap (λ (l : List ℕ). over l a.palettes.now)
             (ap (λ (l : List ℕ). take (length a.palettes.now) (words_at (length l / 2) l 0)) tail
             ∙ spu-words a.file.now (length a.palettes.now) size (omega arith)),
       ),
     )
 
-pub read-spu-spec : {M : Type 1} → statement M
-read-spu-spec =
+pub read_spu_spec : {M : Type 1} → statement M
+read_spu_spec =
     tie.close
     (tie.spec
     (λ c κs. search rules)

@@ -10,5 +10,9 @@ returns : tie.Need-returns
 unfolding bit
 returns c = (refl, omega arith)
 
-pub bit-spec : {M : Type 1} → statement M
-bit-spec = tie.close (tie.spec (λ c. search rules) (λ c. search rules) (λ c. search rules) returns)
+pub bit_spec : {M : Type 1} → statement M
+bit_spec = tie.close (tie.spec
+    (λ c. search rules)
+    (λ c. search rules)
+    (λ c. search rules)
+    returns)

@@ -11,32 +11,32 @@ use Rattle.spectrum_colour_map.proofs.judge_map.Statement.{statement}
 use Rattle.spectrum_colour_map.proofs.judge_map.Tie as tie
 
 -- where the last palette ends
-end-here : (e : tie.After-all) → let a = e.before.before.before.before.args in
-    judge_palettes palette_count a.file.now a.at ≡ accepted e.all.given.0.0
-end-here e = ended_at _ _ (sym e.before.before.judge-palettes.ensures ∙ e.all.given.1)
+end-here : (e : tie.In-At) → let a = e.args in
+    judge_palettes palette_count a.file.now a.at ≡ accepted e.in-At.end
+end-here e = ended_at _ _ (sym e.judge_palettes-all.ensures ∙ e.in-At.is)
 
-returns : tie.Need-returns
+returns : tie.Need-returns-in_default
 returns c =
-    let a = c.before.before.before.before.args in
+    let a = c.args in
     let is = ended-refused (judge_palettes palette_count a.file.now a.at) _
-    (sym c.before.before.judge-palettes.ensures ∙ c.enum_told.given.1) in
-    c.enum_told.given.1 ∙ rw (map-refused a.file.now a.at _ is)
+    (sym c.judge_palettes-all.ensures ∙ c.in_default.is) in
+    c.in_default.is ∙ rw (map-refused a.file.now a.at _ is)
 
-returns-2 : tie.Need-returns-2
+returns-2 : tie.Need-returns-then-end-file
 returns-2 c =
-    let a = c.before.before.before.before.before.before.before.args in
+    let a = c.args in
     rw (
-      bytes_left a.file.now a.at _ (end-here c.before.before.before) (omega arith),
+      bytes_left a.file.now a.at _ (end-here c.before.before) (omega arith),
       c.refuse.ensures,
     )
 
-returns-3 : tie.Need-returns-3
+returns-3 : tie.Need-returns
 returns-3 c =
-    let a = c.before.before.before.before.before.before.args in
-    rw (map-accepted a.file.now a.at _ (end-here c.before.before) (omega arith))
+    let a = c.args in
+    rw (map-accepted a.file.now a.at _ (end-here c.before) (omega arith))
 
-pub judge-map-spec : {M : Type 1} → statement M
-judge-map-spec =
+pub judge_map_spec : {M : Type 1} → statement M
+judge_map_spec =
     tie.close
     (tie.spec
     (λ c κs. search rules)

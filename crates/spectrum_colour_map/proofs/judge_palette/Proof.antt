@@ -13,83 +13,83 @@ use Rattle.spectrum_colour_map.proofs.judge_palette.Statement.{statement}
 use Rattle.spectrum_colour_map.proofs.judge_palette.Tie as tie
 
 -- past the first test the vector is there
-module _ (e : tie.Else1) where
-  has-vector : let a = e.before.before.before.args in a.at + 2 ≤ length a.file.now
-  has-vector = ltb-false _ _ (sym e.before.lacks.ensures ∙ e.if1.false)
+module _ (e : tie.Else-lacks) where
+  has-vector : let a = e.args in a.at + 2 ≤ length a.file.now
+  has-vector = ltb-false _ _ (sym e.lacks.ensures ∙ e.if-lacks.false)
 
 -- past the second its bit 15 is not set
-module _ (e : tie.Else2) where
-  right : let a = e.before.before.before.before.before.before.args in
+module _ (e : tie.Else-bit-eq1) where
+  right : let a = e.args in
       bit (word_at a.file.now a.at) 15 ≡ 1 → ⊥
   right h =
-      e.if2.false
-      (e.before.bit.ensures.0 ∙ ap (λ (v : ℕ). bit v 15) e.before.before.word-inside.ensures ∙ h)
+      e.if-bit-eq1.false
+      (e.bit.ensures.0 ∙ ap (λ (v : ℕ). bit v 15) e.word_inside-vector.ensures ∙ h)
 
 -- the count of ones gives the palette's end
-module _ (e : tie.After-lacks2) where
-  end_is : let a = e.before.before.before.before.before.before.before.before.args in
-      a.at + (2 + e.before.named.result * 2) ≡ palette_end a.file.now a.at
+module _ (e : tie.After-lacks-2) where
+  end_is : let a = e.args in
+      a.at + (2 + e.named.result * 2) ≡ palette_end a.file.now a.at
   unfolding palette_end
   end_is =
       omega (
         arith,
-        e.before.named.ensures.0 ∙ ap named e.before.before.before.before.word-inside.ensures,
+        e.named.ensures.0 ∙ ap named e.word_inside-vector.ensures,
       )
 
-returns : tie.Need-returns
+returns : tie.Need-returns-then-lacks
 returns c =
-    let a = c.before.before.before.before.args in
+    let a = c.args in
     rw (
       vector-cut a.file.now a.at
-          (ltb-true _ _ (sym c.before.before.lacks.ensures ∙ c.before.if1.true)),
-      c.refuse-at.ensures,
+          (ltb-true _ _ (sym c.lacks.ensures ∙ c.if-lacks.true)),
+      c.refuse_at.ensures,
     )
 
-returns-2 : tie.Need-returns-2
+returns-2 : tie.Need-returns-then-bit-eq1
 returns-2 c =
-    let a = c.before.before.before.before.before.before.before.args in
-    let set = c.before.before.bit.ensures.0 in
-    let v = c.before.before.before.word-inside.ensures in
+    let a = c.args in
+    let set = c.bit.ensures.0 in
+    let v = c.word_inside-vector.ensures in
     rw (
       vector-wrong a.file.now a.at (has-vector c.before.before.before.before)
-          (sym (ap (λ (v : ℕ). bit v 15) v) ∙ sym set ∙ c.before.if2.true),
+          (sym (ap (λ (v : ℕ). bit v 15) v) ∙ sym set ∙ c.if-bit-eq1.true),
       c.refuse.ensures,
     )
 
-returns-3 : tie.Need-returns-3
+returns-3 : tie.Need-returns-then-lacks-2
 returns-3 c =
     let l = c.before.before in
     let e = l.before.before in
-    let a = l.before.before.before.before.before.before.before.before.args in
-    let cut : length a.file.now < a.at + (2 + l.before.named.result * 2) =
-    ltb-true _ _ (sym l.lacks2.ensures ∙ c.before.if3.true) in
+    let a = l.args in
+    let cut : length a.file.now < a.at + (2 + l.named.result * 2) =
+    ltb-true _ _ (sym l.lacks-2.ensures ∙ c.if-lacks-2.true) in
     rw (
       words-cut a.file.now a.at (has-vector e.before.before.before) (right e) (omega (arith, end_is l)),
-      c.refuse-at2.ensures,
+      c.refuse_at-then-lacks-2.ensures,
     )
 
 -- past the third the words are there
-module _ (e : tie.Else3) where
-  has_words : let a = e.before.before.before.before.before.before.before.before.before.args in
-      a.at + (2 + e.before.before.named.result * 2) ≤ length a.file.now
-  has_words = ltb-false _ _ (sym e.before.lacks2.ensures ∙ e.if3.false)
+module _ (e : tie.Else-lacks-2) where
+  has_words : let a = e.args in
+      a.at + (2 + e.named.result * 2) ≤ length a.file.now
+  has_words = ltb-false _ _ (sym e.lacks-2.ensures ∙ e.if-lacks-2.false)
 
-add-t10 : tie.Need-overflow-add-t10
+add-t10 : tie.Need-overflow_add-result
 add-t10 c = omega (arith, has_words c)
 
-returns-4 : tie.Need-returns-4
+returns-4 : tie.Need-returns
 returns-4 c =
     let l = c.before in
     let e = l.before.before in
-    let a = l.before.before.before.before.before.before.before.before.args in
+    let a = l.args in
     rw (
       palette-whole a.file.now a.at (has-vector e.before.before.before) (right e)
           (omega (arith, has_words c, end_is l)),
       end_is l,
     )
 
-pub judge-palette-spec : {M : Type 1} → statement M
-judge-palette-spec =
+pub judge_palette_spec : {M : Type 1} → statement M
+judge_palette_spec =
     tie.close
     (tie.spec
     (λ c κs. search rules)

@@ -8,36 +8,36 @@ use borrow.Author.Rules.{rules}
 use Rattle.spectrum_colour_map.proofs.judge_palettes.Statement.{statement}
 use Rattle.spectrum_colour_map.proofs.judge_palettes.Tie as tie
 
-abbrev invariant-loop : tie.invariant-loop
+abbrev invariant-loop : tie.invariant-loop-left
 invariant-loop file at n from₀ left₀ from left = judge_palettes n file at ≡ judge_palettes left file from
 
-abbrev decreases-loop : tie.decreases-loop
+abbrev decreases-loop : tie.decreases-loop-left
 decreases-loop file at n from₀ left₀ from left = left
 
-returns : tie.Need-returns invariant-loop decreases-loop
+returns : tie.Need-returns-in_default invariant-loop decreases-loop
 returns c =
-    let l = c.before.before.before.before.loop in
-    let a = c.before.before.before.before.before.before.args in
+    let l = c.loop-left in
+    let a = c.args in
     let is = ended-refused (judge_palette a.file.now l.from) _
-    (sym c.before.before.judge-palette.ensures ∙ c.enum_told.given.1) in
-    c.enum_told.given.1 ∙ rw (l.invariant, judge-one a.file.now l.left l.from (omega arith), is)
+    (sym c.judge_palette-one.ensures ∙ c.in_default.is) in
+    c.in_default.is ∙ rw (l.invariant, judge-one a.file.now l.left l.from (omega arith), is)
 
-loop-again : tie.Need-loop-preserved invariant-loop decreases-loop
+loop-again : tie.Need-loop-left-preserved invariant-loop decreases-loop
 loop-again c =
-    let l = c.before.before.before.before.before.loop in
-    let a = c.before.before.before.before.before.before.before.args in
+    let l = c.loop-left in
+    let a = c.args in
     let is = ended_at (judge_palette a.file.now l.from) _
-    (sym c.before.before.before.judge-palette.ensures ∙ c.before.one.given.1) in
+    (sym c.judge_palette-one.ensures ∙ c.in-At.is) in
     l.invariant ∙ judge-one a.file.now l.left l.from (omega arith) ∙ rw is
 
-returns-2 : tie.Need-returns-2 invariant-loop decreases-loop
+returns-2 : tie.Need-returns invariant-loop decreases-loop
 returns-2 c =
-    let l = c.before.loop in
-    let a = c.before.before.before.args in
+    let l = c.loop-left in
+    let a = c.args in
     rw (l.invariant, judge-none a.file.now l.left l.from (omega arith))
 
-pub judge-palettes-spec : {M : Type 1} → statement M
-judge-palettes-spec =
+pub judge_palettes_spec : {M : Type 1} → statement M
+judge_palettes_spec =
     tie.close
     (tie.spec
     invariant-loop

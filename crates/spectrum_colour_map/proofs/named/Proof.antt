@@ -5,7 +5,7 @@ use Rattle.spectrum_colour_map.proofs.Vector.{ones-named}
 use Rattle.spectrum_colour_map.proofs.named.Statement.{statement}
 use Rattle.spectrum_colour_map.proofs.named.Tie as tie
 
-cast-result : tie.Need-overflow-cast-result
+cast-result : tie.Need-overflow_cast-result
 cast-result c = omega (arith, ones-le 16 c.args.vector c.ranges.vector.fits)
 
 returns : tie.Need-returns
@@ -14,5 +14,7 @@ returns c =
     let fits = c.ranges.vector.fits in
     (ones-named 16 v fits, ones-le 16 v fits)
 
-pub named-spec : {M : Type 1} → statement M
-named-spec = tie.close (tie.spec cast-result returns)
+pub named_spec : {M : Type 1} → statement M
+named_spec = tie.close (tie.spec
+    cast-result
+    returns)

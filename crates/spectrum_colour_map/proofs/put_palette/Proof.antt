@@ -16,26 +16,26 @@ module _ (c : tie.Start) where
       let a = c.args in
       omega (arith, named-inside a.file.now a.at (word_at a.file.now a.at) 0 refl (omega arith))
 
-add-result : tie.Need-overflow-add-result
+add-result : tie.Need-overflow_add-result
 add-result c =
-    let start = c.before.before.before.before.before.before.before.before.before.before in
+    let start = c.before.before.before.before.before.before.before.before.before in
     omega (arith, has-vector start)
 
-returns : tie.Need-returns
+returns : tie.Need-returns-then-word_inside-eq0
 returns c =
-    let e = c.before.before.before.before.before in
+    let e = c.before.before.before.before in
     let start = e.before.before.before.before.before in
     let a = start.args in
-    let none : word_at a.file.now a.at ≡ 0 = sym e.before.word-inside.ensures ∙ e.if1.true in
+    let none : word_at a.file.now a.at ≡ 0 = sym e.word_inside.ensures ∙ e.if-word_inside-eq0.true in
     let kept = palette-kept a.file.now a.at none a.last.now start.requires.1.0 in
     record {
       ends = end_kept a.file.now a.at none;
       made = sym kept;
-      all = rw kept c.before.before.put-words.ensures;
+      all = rw kept c.put_words.ensures;
     }
 
-pub put-palette-spec : {M : Type 1} → statement M
-put-palette-spec =
+pub put_palette_spec : {M : Type 1} → statement M
+put_palette_spec =
     tie.close
     (tie.spec
     (λ c κs. has-vector c.before.before.before)

@@ -15,55 +15,55 @@ use borrow.Author.Rules.{rules}
 use Rattle.spectrum_colour_map.proofs.put_palettes.Statement.{statement}
 use Rattle.spectrum_colour_map.proofs.put_palettes.Tie as tie
 
-abbrev invariant-loop : tie.invariant-loop
+abbrev invariant-loop : tie.invariant-loop-left
 invariant-loop file at n out₀ last₀ from₀ to₀ left₀ out last from to left =
     (length last ≡ 16)
     × ((end : ℕ) × (judge_palettes left file from ≡ accepted end))
     × PartlyWritten (palettes n file at no_palette) (palettes left file from last) out₀ out to
 
-abbrev decreases-loop : tie.decreases-loop
+abbrev decreases-loop : tie.decreases-loop-left
 decreases-loop file at n out₀ last₀ from₀ to₀ left₀ out last from to left = left
 
-loop-holds : tie.Need-loop-init invariant-loop decreases-loop
+loop-holds : tie.Need-loop-left-init invariant-loop decreases-loop
 loop-holds c =
-    let a = c.before.before.args in
-    (refl, c.before.before.requires.0, writing_start (palettes a.n a.file.now a.at no_palette) a.out.now)
+    let a = c.args in
+    (refl, c.requires.0, writing_start (palettes a.n a.file.now a.at no_palette) a.out.now)
 
 -- all palettes fit the output
-module _ (e : tie.At-loop invariant-loop decreases-loop) where
-  all_fit : let a = e.before.before.before.args in
+module _ (e : tie.At-loop-left invariant-loop decreases-loop) where
+  all_fit : let a = e.args in
       length (palettes a.n a.file.now a.at no_palette) ≤ length a.out.now
   all_fit =
-      let a = e.before.before.before.args in
+      let a = e.args in
       omega (arith, length-palettes a.file.now a.n a.at no_palette)
 
-put-palette-requires : tie.Need-put-palette-requires invariant-loop decreases-loop
+put-palette-requires : tie.Need-put_palette-from-requires invariant-loop decreases-loop
 put-palette-requires c κs =
     let e = c.before.before.before in
-    let l = e.loop in
-    let a = e.before.before.before.args in
+    let l = e.loop-left in
+    let a = e.args in
     let first = first-whole a.file.now l.left l.from l.invariant.1.0 (omega arith) l.invariant.1.1 in (
       first.whole.has,
       (l.invariant.0, palette-fits a.file.now l.last l.left l.from (all_fit e) (omega arith) l.invariant.2),
     )
 
-add-to : tie.Need-overflow-add-to invariant-loop decreases-loop
+add-to : tie.Need-overflow_add-to invariant-loop decreases-loop
 add-to c =
     let e = c.before.before.before.before.before.before.before in
-    let l = e.loop in
-    let a = e.before.before.before.args in
+    let l = e.loop-left in
+    let a = e.args in
     omega (
       arith,
       palette-room a.file.now l.last l.left l.from (all_fit e) (omega arith) l.invariant.2,
     )
 
-loop-again : tie.Need-loop-preserved invariant-loop decreases-loop
+loop-again : tie.Need-loop-left-preserved invariant-loop decreases-loop
 loop-again c =
     let e = c.before.before.before.before.before.before.before in
-    let l = e.loop in
-    let a = e.before.before.before.args in
+    let l = e.loop-left in
+    let a = e.args in
     let first = first-whole a.file.now l.left l.from l.invariant.1.0 (omega arith) l.invariant.1.1 in
-    let put = c.before.before.before.put-palette.ensures in (
+    let put = c.put_palette-from.ensures in (
       ap length put.made ∙ length-palette a.file.now l.from l.last,
       (l.invariant.1.0, rw put.ends first.rest),
       palettes-turn a.file.now l.last l.left l.from (all_fit e) (omega arith) l.invariant.2 _ _ _
@@ -72,14 +72,14 @@ loop-again c =
 
 returns : tie.Need-returns invariant-loop decreases-loop
 returns c =
-    let l = c.before.loop in
-    let a = c.before.before.before.before.args in
+    let l = c.loop-left in
+    let a = c.args in
     let whole : List ℕ = palettes a.n a.file.now a.at no_palette in
     let none = palettes-none a.file.now l.left l.from l.last (omega arith) in
     (writing-end (subst (λ (r : List ℕ). PartlyWritten whole r a.out.now l.out l.to) none l.invariant.2)).all
 
-pub put-palettes-spec : {M : Type 1} → statement M
-put-palettes-spec =
+pub put_palettes_spec : {M : Type 1} → statement M
+put_palettes_spec =
     tie.close
     (tie.spec
     invariant-loop

@@ -8,8 +8,8 @@ returns : tie.Need-returns
 unfolding word_at
 returns c = c.word_of.ensures
 
-pub word-inside-spec : {M : Type 1} → statement M
-word-inside-spec =
+pub word_inside_spec : {M : Type 1} → statement M
+word_inside_spec =
     tie.close
     (tie.spec
     (λ c. search rules)

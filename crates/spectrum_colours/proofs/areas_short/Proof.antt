@@ -6,15 +6,17 @@ use Rattle.resolution.specs.Shapes.{screen_bytes}
 use Rattle.spectrum_colours.proofs.areas_short.Statement.{statement}
 use Rattle.spectrum_colours.proofs.areas_short.Tie as tie
 
-returns : tie.Need-returns
+returns : tie.Need-returns-then-screen_len-lt-SCREEN_BYTES
 returns c =
-    let h : c.before.args.screen-len < screen_bytes = omega arith in
+    let h : c.args.screen_len < screen_bytes = omega arith in
     rw (lt-ltb _ _ h)
 
-returns-2 : tie.Need-returns-2
+returns-2 : tie.Need-returns
 returns-2 c =
-    let h : screen_bytes ≤ c.before.args.screen-len = omega arith in
+    let h : screen_bytes ≤ c.args.screen_len = omega arith in
     rw (le-ltb _ _ h)
 
-pub areas-short-spec : {M : Type 1} → statement M
-areas-short-spec = tie.close (tie.spec returns returns-2)
+pub areas_short_spec : {M : Type 1} → statement M
+areas_short_spec = tie.close (tie.spec
+    returns
+    returns-2)

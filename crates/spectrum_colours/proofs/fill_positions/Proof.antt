@@ -17,27 +17,27 @@ use Rattle.spectrum_colours.proofs.fill_positions.Tie as tie
 abbrev positions_of : List ℕ → ℕ → ℕ
 positions_of registers x = position_of x (get_or registers x 0)
 
-abbrev invariant-loop : tie.invariant-loop
+abbrev invariant-loop : tie.invariant-loop-x
 invariant-loop positions₀ registers x₀ positions x =
     (x ≤ columns) × (length positions ≡ columns) × (length positions₀ ≡ columns)
     × (positions ≡ over (take x (tabulate columns (positions_of registers))) positions₀)
 
-abbrev decreases-loop : tie.decreases-loop
+abbrev decreases-loop : tie.decreases-loop-x
 decreases-loop positions₀ registers x₀ positions x = columns - x
 
-loop-holds : tie.Need-loop-init invariant-loop decreases-loop
+loop-holds : tie.Need-loop-x-init invariant-loop decreases-loop
 loop-holds c = search rules
 
-cast-positions : tie.Need-overflow-cast-positions invariant-loop decreases-loop
+cast-positions : tie.Need-overflow_cast-positions invariant-loop decreases-loop
 cast-positions c =
-    let x = c.before.before.before.loop.x in
-    let a = c.before.before.before.before in
+    let x = c.loop-x.x in
+    let a = c in
     omega (arith, c.position_at.ensures, position-below x (get_or a.args.registers.now x 0) (a.requires.1 x))
 
-loop-again : tie.Need-loop-preserved invariant-loop decreases-loop
+loop-again : tie.Need-loop-x-preserved invariant-loop decreases-loop
 loop-again c =
-    let l = c.before.before.before.loop in
-    let a = c.before.before.before.before.args in (
+    let l = c.loop-x in
+    let a = c.args in (
       search rules,
       search rules,
       search rules,
@@ -51,14 +51,14 @@ loop-again c =
 
 returns : tie.Need-returns invariant-loop decreases-loop
 returns c =
-    let l = c.before.loop in
-    let a = c.before.before.args in
+    let l = c.loop-x in
+    let a = c.args in
     tabulate-done columns (positions_of a.registers.now) a.positions.now l.positions l.x (omega arith)
     (omega arith)
     l.invariant.3
 
-pub fill-positions-spec : {M : Type 1} → statement M
-fill-positions-spec =
+pub fill_positions_spec : {M : Type 1} → statement M
+fill_positions_spec =
     tie.close
     (tie.spec
     invariant-loop

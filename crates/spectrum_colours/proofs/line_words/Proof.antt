@@ -11,62 +11,62 @@ use Rattle.spectrum_colours.proofs.Colours.{areas-whole, palette-lines}
 use Rattle.spectrum_colours.proofs.line_words.Statement.{statement}
 use Rattle.spectrum_colours.proofs.line_words.Tie as tie
 
-returns : tie.Need-returns
+returns : tie.Need-returns-then-areas_short
 unfolding line_of_words
 returns c =
-    let s = c.before in
-    rw (sym s.before.areas-short.ensures ∙ s.if1.true) (c.refuse.ensures, refl)
+    let s = c in
+    rw (sym s.areas_short.ensures ∙ s.if-areas_short.true) (c.refuse.ensures, refl)
 
-returns-2 : tie.Need-returns-2
+returns-2 : tie.Need-returns-then-without_palette
 unfolding line_of_words
 returns-2 c =
-    let y = c.before in
-    let s = y.before.before in
+    let y = c in
+    let s = y in
     rw (
-      sym s.before.areas-short.ensures ∙ s.if1.false,
-      sym y.before.without-palette.ensures ∙ y.if2.true,
+      sym s.areas_short.ensures ∙ s.if-areas_short.false,
+      sym y.without_palette.ensures ∙ y.if-without_palette.true,
     )
-    (c.refuse2.ensures, refl)
+    (c.refuse-then-without_palette.ensures, refl)
 
-returns-3 : tie.Need-returns-3
+returns-3 : tie.Need-returns-then-out-lt-COLUMNS
 unfolding line_of_words
 returns-3 c =
-    let y = c.before.before in
-    let s = y.before.before in
-    let a = s.before.before.before.before.before.args in
+    let y = c in
+    let s = y in
+    let a = s.args in
     let room : length a.out.now < columns = omega arith in
     rw (
-      sym s.before.areas-short.ensures ∙ s.if1.false,
-      sym y.before.without-palette.ensures ∙ y.if2.false,
+      sym s.areas_short.ensures ∙ s.if-areas_short.false,
+      sym y.without_palette.ensures ∙ y.if-without_palette.false,
       lt-ltb _ _ room,
     )
-    (c.refuse3.ensures, refl)
+    (c.refuse-then-out-lt-COLUMNS.ensures, refl)
 
-put-line-requires : tie.Need-put-line-requires
+put-line-requires : tie.Need-put_line-requires
 put-line-requires c κs =
-    let y = c.before.before in
-    let s = y.before.before in
-    let areas = areas-whole _ _ (sym s.before.areas-short.ensures ∙ s.if1.false) in
-    let line = palette-lines _ (sym y.before.without-palette.ensures ∙ y.if2.false) in
+    let y = c in
+    let s = y in
+    let areas = areas-whole _ _ (sym s.areas_short.ensures ∙ s.if-areas_short.false) in
+    let line = palette-lines _ (sym y.without_palette.ensures ∙ y.if-without_palette.false) in
     (areas.0, areas.1, line.0, line.1, omega arith)
 
-returns-4 : tie.Need-returns-4
+returns-4 : tie.Need-returns
 unfolding line_of_words
 returns-4 c =
-    let p = c.before.before.before in
-    let y = p.before.before.before in
-    let s = y.before.before in
-    let a = s.before.before.before.before.before.args in
+    let p = c in
+    let y = p in
+    let s = y in
+    let a = s.args in
     let room : columns ≤ length a.out.now = omega arith in
     rw (
-      sym s.before.areas-short.ensures ∙ s.if1.false,
-      sym y.before.without-palette.ensures ∙ y.if2.false,
+      sym s.areas_short.ensures ∙ s.if-areas_short.false,
+      sym y.without_palette.ensures ∙ y.if-without_palette.false,
       le-ltb _ _ room,
     )
-    (c.none.ensures, p.put-line.ensures)
+    (c.none.ensures, p.put_line.ensures)
 
-pub line-words-spec : {M : Type 1} → statement M
-line-words-spec =
+pub line_words_spec : {M : Type 1} → statement M
+line_words_spec =
     tie.close
     (tie.spec
     (λ c κs. search rules)

@@ -10,5 +10,9 @@ returns : tie.Need-returns
 unfolding pixel_bit
 returns c = (refl, omega arith)
 
-pub pixel-bit-spec : {M : Type 1} → statement M
-pixel-bit-spec = tie.close (tie.spec (λ c. search rules) (λ c. search rules) (λ c. search rules) returns)
+pub pixel_bit_spec : {M : Type 1} → statement M
+pixel_bit_spec = tie.close (tie.spec
+    (λ c. search rules)
+    (λ c. search rules)
+    (λ c. search rules)
+    returns)

@@ -7,24 +7,24 @@ use Rattle.spectrum_colours.proofs.pixel_register.Tie as tie
 
 returns : tie.Need-returns
 returns c =
-    let third = c.before.before in
-    let second = third.before.before in
-    let first = second.before.before in
-    let a = first.before.before.before.args in
+    let third = c in
+    let second = third in
+    let first = second in
+    let a = first.args in
     rw (
-      c.pixel-bit4.ensures.0,
-      c.before.word-at4.ensures,
-      third.pixel-bit3.ensures.0,
-      third.before.word-at3.ensures,
-      second.pixel-bit2.ensures.0,
-      second.before.word-at2.ensures,
-      first.pixel-bit.ensures.0,
-      first.before.word_at.ensures,
+      c.pixel_bit-fourth.ensures.0,
+      c.word_at-4.ensures,
+      third.pixel_bit-third.ensures.0,
+      third.word_at-3.ensures,
+      second.pixel_bit-second.ensures.0,
+      second.word_at-2.ensures,
+      first.pixel_bit-first.ensures.0,
+      first.word_at.ensures,
     )
     (low-register a.screen.now a.column a.line _ refl)
 
-pub pixel-register-spec : {M : Type 1} → statement M
-pixel-register-spec =
+pub pixel_register_spec : {M : Type 1} → statement M
+pixel_register_spec =
     tie.close
     (tie.spec
     (λ c. search rules)

@@ -11,56 +11,56 @@ use Rattle.spectrum_colours.proofs.Colours.{areas-whole, palette-lines}
 use Rattle.spectrum_colours.proofs.pixel_word.Statement.{statement}
 use Rattle.spectrum_colours.proofs.pixel_word.Tie as tie
 
-returns : tie.Need-returns
+returns : tie.Need-returns-then-areas_short
 unfolding pixel_word
 returns c =
-    let s = c.before.before in
-    rw (sym s.areas-short.ensures ∙ c.before.if1.true) c.word-refused.ensures
+    let s = c in
+    rw (sym s.areas_short.ensures ∙ c.if-areas_short.true) c.word_refused.ensures
 
-returns-2 : tie.Need-returns-2
+returns-2 : tie.Need-returns-then-column-ge-COLUMNS
 unfolding pixel_word
 returns-2 c =
-    let s = c.before.before in
-    let column : columns ≤ s.before.before.before.before.args.column = omega arith in
-    rw (sym s.before.areas-short.ensures ∙ s.if1.false, le-leb _ _ column) c.word-refused2.ensures
+    let s = c in
+    let column : columns ≤ s.args.column = omega arith in
+    rw (sym s.areas_short.ensures ∙ s.if-areas_short.false, le-leb _ _ column) c.word_refused-then-column-ge-COLUMNS.ensures
 
-returns-3 : tie.Need-returns-3
+returns-3 : tie.Need-returns-then-without_palette
 unfolding pixel_word
 returns-3 c =
-    let y = c.before in
-    let s = y.before.before.before in
-    let column : s.before.before.before.before.args.column < columns = omega arith in
+    let y = c in
+    let s = y in
+    let column : s.args.column < columns = omega arith in
     rw (
-      sym s.before.areas-short.ensures ∙ s.if1.false,
+      sym s.areas_short.ensures ∙ s.if-areas_short.false,
       lt-leb _ _ column,
-      sym y.before.without-palette.ensures ∙ y.if3.true,
+      sym y.without_palette.ensures ∙ y.if-without_palette.true,
     )
-    c.word-refused3.ensures
+    c.word_refused-then-without_palette.ensures
 
-shown-word-requires : tie.Need-shown-word-requires
+shown-word-requires : tie.Need-shown_word-requires
 shown-word-requires c κs =
-    let s = c.before.before.before in
-    let a = s.before.before.before.before.args in
+    let s = c in
+    let a = s.args in
     let column : a.column < columns = omega arith in
-    let line = palette-lines _ (sym c.before.without-palette.ensures ∙ c.if3.false) in
-    let areas = areas-whole (length a.screen.now) _ (sym s.before.areas-short.ensures ∙ s.if1.false) in
+    let line = palette-lines _ (sym c.without_palette.ensures ∙ c.if-without_palette.false) in
+    let areas = areas-whole (length a.screen.now) _ (sym s.areas_short.ensures ∙ s.if-areas_short.false) in
     (column, line.0, line.1, areas.1)
 
-returns-4 : tie.Need-returns-4
+returns-4 : tie.Need-returns
 unfolding pixel_word
 returns-4 c =
-    let y = c.before.before in
-    let s = y.before.before.before in
-    let column : s.before.before.before.before.args.column < columns = omega arith in
+    let y = c in
+    let s = y in
+    let column : s.args.column < columns = omega arith in
     rw (
-      sym s.before.areas-short.ensures ∙ s.if1.false,
+      sym s.areas_short.ensures ∙ s.if-areas_short.false,
       lt-leb _ _ column,
-      sym y.before.without-palette.ensures ∙ y.if3.false,
+      sym y.without_palette.ensures ∙ y.if-without_palette.false,
     )
-    (c.word-done.ensures ∙ rw c.before.shown-word.ensures)
+    (c.word_done.ensures ∙ rw c.shown_word.ensures)
 
-pub pixel-word-spec : {M : Type 1} → statement M
-pixel-word-spec =
+pub pixel_word_spec : {M : Type 1} → statement M
+pixel_word_spec =
     tie.close
     (tie.spec
     (λ c κs. search rules)

@@ -17,34 +17,34 @@ use Rattle.spectrum_colours.proofs.put_words.Tie as tie
 abbrev words_at : List ℕ → ℕ → List ℕ → ℕ → ℕ
 words_at palettes first positions x = get_or palettes (first + get_or positions x 0) 0
 
-abbrev invariant-loop : tie.invariant-loop
+abbrev invariant-loop : tie.invariant-loop-x
 invariant-loop palettes first positions out₀ x₀ out x =
     (x ≤ columns) × (length out ≡ length out₀)
     × (out ≡ over (take x (tabulate columns (words_at palettes first positions))) out₀)
 
-abbrev decreases-loop : tie.decreases-loop
+abbrev decreases-loop : tie.decreases-loop-x
 decreases-loop palettes first positions out₀ x₀ out x = columns - x
 
-loop-holds : tie.Need-loop-init invariant-loop decreases-loop
+loop-holds : tie.Need-loop-x-init invariant-loop decreases-loop
 loop-holds c = search rules
 
-cast-out : tie.Need-overflow-cast-out invariant-loop decreases-loop
-cast-out c = omega (arith, c.before.before.before.requires.3 c.before.before.loop.x)
+cast-out : tie.Need-overflow_cast-out invariant-loop decreases-loop
+cast-out c = omega (arith, c.requires.3 c.loop-x.x)
 
-add-out : tie.Need-overflow-add-out invariant-loop decreases-loop
-add-out c = omega (arith, c.before.before.before.requires.3 c.before.before.loop.x)
+add-out : tie.Need-overflow_add-out invariant-loop decreases-loop
+add-out c = omega (arith, c.requires.3 c.loop-x.x)
 
-shared-slice-read-out : tie.Need-shared-slice-read-out invariant-loop decreases-loop
+shared-slice-read-out : tie.Need-bounds-palettes-first invariant-loop decreases-loop
 shared-slice-read-out c =
-    omega (arith, c.before.before.before.before.requires.3 c.before.before.before.loop.x)
+    omega (arith, c.requires.3 c.loop-x.x)
 
-mul-out : tie.Need-overflow-mul-out invariant-loop decreases-loop
-mul-out c = omega (arith, c.before.before.before.requires.3 c.before.before.loop.x)
+mul-out : tie.Need-offset_bounds-palettes-first invariant-loop decreases-loop
+mul-out c = omega (arith, c.requires.3 c.loop-x.x)
 
-loop-again : tie.Need-loop-preserved invariant-loop decreases-loop
+loop-again : tie.Need-loop-x-preserved invariant-loop decreases-loop
 loop-again c =
-    let l = c.before.before.before.loop in
-    let a = c.before.before.before.before.args in (
+    let l = c.loop-x in
+    let a = c.args in (
       search rules,
       search rules,
       tabulate-turn columns (words_at a.palettes.now a.first a.positions.now) a.out.now l.out l.x _
@@ -56,13 +56,13 @@ loop-again c =
 
 returns : tie.Need-returns invariant-loop decreases-loop
 returns c =
-    let l = c.before.loop in
-    let a = c.before.before.args in
+    let l = c.loop-x in
+    let a = c.args in
     let f : ℕ → ℕ = words_at a.palettes.now a.first a.positions.now in
     over_done (tabulate columns f) a.out.now l.out l.x (omega (arith, length-tabulate columns f)) l.invariant.2
 
-pub put-words-spec : {M : Type 1} → statement M
-put-words-spec =
+pub put_words_spec : {M : Type 1} → statement M
+put_words_spec =
     tie.close
     (tie.spec
     invariant-loop

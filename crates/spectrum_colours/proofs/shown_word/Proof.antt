@@ -6,19 +6,19 @@ use Rattle.spectrum_colours.proofs.Colours.{word-within}
 use Rattle.spectrum_colours.proofs.shown_word.Statement.{statement}
 use Rattle.spectrum_colours.proofs.shown_word.Tie as tie
 
-shared-slice-read-result : tie.Need-shared-slice-read-result
+shared-slice-read-result : tie.Need-bounds-palettes-line
 shared-slice-read-result c =
-    let s = c.before.before.before.before.before in
+    let s = c in
     let a = s.args in
-    rw (c.before.position_at.ensures, c.before.before.pixel-register.ensures)
+    rw (c.position_at-position.ensures, c.pixel_register-register.ensures)
     (omega (arith, word-within a.screen.now a.column a.line s.requires.1 s.requires.2))
 
 returns : tie.Need-returns
 unfolding shown_word
-returns c = rw (c.before.position_at.ensures, c.before.before.pixel-register.ensures)
+returns c = rw (c.position_at-position.ensures, c.pixel_register-register.ensures)
 
-pub shown-word-spec : {M : Type 1} → statement M
-shown-word-spec =
+pub shown_word_spec : {M : Type 1} → statement M
+shown_word_spec =
     tie.close
     (tie.spec
     (λ c κs. search rules)

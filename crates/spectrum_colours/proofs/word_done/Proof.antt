@@ -6,5 +6,7 @@ use Rattle.spectrum_colours.proofs.word_done.Tie as tie
 returns : tie.Need-returns
 returns c = rw c.none.ensures
 
-pub word-done-spec : {M : Type 1} → statement M
-word-done-spec = tie.close (tie.spec (λ c κs. search rules) returns)
+pub word_done_spec : {M : Type 1} → statement M
+word_done_spec = tie.close (tie.spec
+    (λ c κs. search rules)
+    returns)

@@ -6,5 +6,7 @@ use Rattle.spectrum_colours.proofs.word_refused.Tie as tie
 returns : tie.Need-returns
 returns c = rw c.refuse.ensures
 
-pub word-refused-spec : {M : Type 1} → statement M
-word-refused-spec = tie.close (tie.spec (λ c κs. search rules) returns)
+pub word_refused_spec : {M : Type 1} → statement M
+word_refused_spec = tie.close (tie.spec
+    (λ c κs. search rules)
+    returns)

@@ -6,14 +6,14 @@ use Rattle.spectrum_data_map.proofs.Records.{takes-literal, takes-repeat}
 use Rattle.spectrum_data_map.proofs.taken_by.Statement.{statement}
 use Rattle.spectrum_data_map.proofs.taken_by.Tie as tie
 
-returns : tie.Need-returns
-returns c = sym (takes-literal c.before.args.x (omega arith))
+returns : tie.Need-returns-then-x-lt-LEAST_REPEAT
+returns c = sym (takes-literal c.args.x (omega arith))
 
-returns-2 : tie.Need-returns-2
-returns-2 c = sym (takes-repeat c.before.args.x (omega arith))
+returns-2 : tie.Need-returns
+returns-2 c = sym (takes-repeat c.args.x (omega arith))
 
-pub taken-by-spec : {M : Type 1} → statement M
-taken-by-spec =
+pub taken_by_spec : {M : Type 1} → statement M
+taken_by_spec =
     tie.close
     (tie.spec
     (λ c. search rules)

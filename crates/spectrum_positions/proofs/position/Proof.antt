@@ -9,30 +9,30 @@ use Rattle.spectrum_positions.proofs.Positions.{within-accepted, outside-refused
 use Rattle.spectrum_positions.proofs.position.Statement.{statement}
 use Rattle.spectrum_positions.proofs.position.Tie as tie
 
-returns : tie.Need-returns
+returns : tie.Need-returns-then-column-ge-COLUMNS
 returns c =
-    let a = c.before.before.before.args in
+    let a = c.args in
     let x : columns ≤ a.column = omega arith in
     rw (outside-refused a.column a.register (inl x))
-    (c.position-refused.ensures ∙ rw c.before.refuse.ensures)
+    (c.position_refused.ensures ∙ rw c.refuse.ensures)
 
-returns-2 : tie.Need-returns-2
+returns-2 : tie.Need-returns-then-register-ge-REGISTERS
 returns-2 c =
-    let a = c.before.before.before.before.args in
+    let a = c.args in
     let r : registers ≤ a.register = omega arith in
     rw (outside-refused a.column a.register (inr r))
-    (c.position-refused2.ensures ∙ rw c.before.refuse2.ensures)
+    (c.position_refused-then-register-ge-REGISTERS.ensures ∙ rw c.refuse-then-register-ge-REGISTERS.ensures)
 
-returns-3 : tie.Need-returns-3
+returns-3 : tie.Need-returns
 returns-3 c =
-    let a = c.before.before.before.before.args in
+    let a = c.args in
     let x : a.column < columns = omega arith in
     let r : a.register < registers = omega arith in
     rw (within-accepted a.column a.register x r)
-    (c.position-done.ensures ∙ rw c.before.table-entry.ensures)
+    (c.position_done.ensures ∙ rw c.table_entry.ensures)
 
-pub position-spec : {M : Type 1} → statement M
-position-spec =
+pub position_spec : {M : Type 1} → statement M
+position_spec =
     tie.close
     (tie.spec
     (λ c κs. search rules)

@@ -6,23 +6,23 @@ use Rattle.spectrum_positions.proofs.Positions.{first-palette, second-palette, t
 use Rattle.spectrum_positions.proofs.position_at.Statement.{statement}
 use Rattle.spectrum_positions.proofs.position_at.Tie as tie
 
-returns : tie.Need-returns
+returns : tie.Need-returns-then-column-second
 returns c =
-    let a = c.before.before.args in
+    let a = c.args in
     sym (first-palette a.register a.column (omega arith))
 
-returns-2 : tie.Need-returns-2
+returns-2 : tie.Need-returns-then-column-second-2
 returns-2 c =
-    let a = c.before.before.before.args in
+    let a = c.args in
     sym (second-palette a.register a.column (omega arith) (omega arith))
 
-returns-3 : tie.Need-returns-3
+returns-3 : tie.Need-returns
 returns-3 c =
-    let a = c.before.before.before.args in
+    let a = c.args in
     sym (third-palette a.register a.column (omega arith))
 
-pub position-at-spec : {M : Type 1} → statement M
-position-at-spec =
+pub position_at_spec : {M : Type 1} → statement M
+position_at_spec =
     tie.close
     (tie.spec
     (λ c κs. search rules)

@@ -6,5 +6,7 @@ use Rattle.spectrum_positions.proofs.position_done.Tie as tie
 returns : tie.Need-returns
 returns c = rw c.none.ensures
 
-pub position-done-spec : {M : Type 1} → statement M
-position-done-spec = tie.close (tie.spec (λ c κs. search rules) returns)
+pub position_done_spec : {M : Type 1} → statement M
+position_done_spec = tie.close (tie.spec
+    (λ c κs. search rules)
+    returns)

@@ -11,5 +11,6 @@ returns : tie.Need-returns
 unfolding position_table flatten column_positions tabulate position_of second_from
 returns c = refl
 
-pub position-table-spec : {M : Type 1} → statement M
-position-table-spec = tie.close (tie.spec returns)
+pub position_table_spec : {M : Type 1} → statement M
+position_table_spec = tie.close (tie.spec
+    returns)

@@ -7,10 +7,10 @@ use Rattle.spectrum_positions.proofs.table_entry.Tie as tie
 returns : tie.Need-returns
 returns c =
     let s = c.before in
-    rw c.position-table.ensures (table-position s.args.column s.args.register s.requires.0 s.requires.1)
+    rw c.position_table-table.ensures (table-position s.args.column s.args.register s.requires.0 s.requires.1)
 
-pub table-entry-spec : {M : Type 1} → statement M
-table-entry-spec =
+pub table_entry_spec : {M : Type 1} → statement M
+table_entry_spec =
     tie.close
     (tie.spec
     (λ c κs. search rules)

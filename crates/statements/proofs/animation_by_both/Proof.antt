@@ -8,11 +8,14 @@ use Rattle.statements.proofs.animation_by_both.Tie as tie
 
 returns : tie.Need-returns
 returns c =
-    let known = c.before.before in
-    let file = known.before.args.file.now in
-    let bytes : Bytes file = λ n. (known.shared-slice-known.given n).fits in
-    rw (c.before.animation.ensures, c.animation2.ensures)
+    let known = c in
+    let file = known.args.file.now in
+    let bytes : Bytes file = λ n. (known.shared_slice_known-1.given n).fits in
+    rw (c.animation-list_1989.ensures, c.animation-list_2008.ensures)
     (accepts-both file, (shows-both file bytes, (refuses-as-read file, refl)))
 
-pub animation-by-both-spec : {M : Type 1} → statement M
-animation-by-both-spec = tie.close (tie.spec (λ c κs. search rules) (λ c κs. search rules) returns)
+pub animation_by_both_spec : {M : Type 1} → statement M
+animation_by_both_spec = tie.close (tie.spec
+    (λ c κs. search rules)
+    (λ c κs. search rules)
+    returns)

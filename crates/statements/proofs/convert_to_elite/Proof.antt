@@ -10,10 +10,10 @@ use Rattle.statements.proofs.convert_to_elite.Tie as tie
 
 returns : tie.Need-returns
 returns c =
-    let made = c.before.before in
-    let known = made.before.before.before in
-    let a = known.before.args in
-    let bytes : Bytes a.file.now = λ n. (known.shared-slice-known.given n).fits in
+    let made = c in
+    let known = made in
+    let a = known.args in
+    let bytes : Bytes a.file.now = λ n. (known.shared_slice_known-1.given n).fits in
     rw (made.convert.ensures.0, made.convert.ensures.1) (
       λ room. elite-exactly a.file.now a.out.now room bytes,
       (
@@ -25,5 +25,8 @@ returns c =
       ),
     )
 
-pub convert-to-elite-spec : {M : Type 1} → statement M
-convert-to-elite-spec = tie.close (tie.spec (λ c κs. search rules) (λ c. search rules) returns)
+pub convert_to_elite_spec : {M : Type 1} → statement M
+convert_to_elite_spec = tie.close (tie.spec
+    (λ c κs. search rules)
+    (λ c. search rules)
+    returns)

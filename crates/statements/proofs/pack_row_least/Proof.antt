@@ -10,11 +10,11 @@ use Rattle.statements.proofs.pack_row_least.Tie as tie
 
 returns : tie.Need-returns
 returns c =
-    let p = c.before.before in
-    let a = p.before.before.before.before.args in
+    let p = c in
+    let a = p.args in
     let row = a.row.now in
     let out = a.out.now in
-    rw (p.pack-row.ensures.0, p.pack-row.ensures.1) (
+    rw (p.pack_row.ensures.0, p.pack_row.ensures.1) (
       packs-exactly row out,
       (
         λ fits. packs-least row out fits,
@@ -25,5 +25,8 @@ returns c =
       ),
     )
 
-pub pack-row-least-spec : {M : Type 1} → statement M
-pack-row-least-spec = tie.close (tie.spec (λ c κs. search rules) (λ c. search rules) returns)
+pub pack_row_least_spec : {M : Type 1} → statement M
+pack_row_least_spec = tie.close (tie.spec
+    (λ c κs. search rules)
+    (λ c. search rules)
+    returns)

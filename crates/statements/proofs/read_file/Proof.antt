@@ -10,10 +10,10 @@ use Rattle.statements.proofs.read_file.Tie as tie
 
 returns : tie.Need-returns
 returns c =
-    let read = c.before.before in
-    let known = read.before.before.before in
-    let a = known.before.args in
-    let bytes : Bytes a.file.now = λ n. (known.shared-slice-known.given n).fits in
+    let read = c in
+    let known = read in
+    let a = known.args in
+    let bytes : Bytes a.file.now = λ n. (known.shared_slice_known-1.given n).fits in
     rw (read.read.ensures.0, read.read.ensures.1) (
       λ room. acceptance a.kind a.file.now (length a.area.now) room bytes,
       (
@@ -28,5 +28,8 @@ returns c =
       ),
     )
 
-pub read-file-spec : {M : Type 1} → statement M
-read-file-spec = tie.close (tie.spec (λ c κs. search rules) (λ c. search rules) returns)
+pub read_file_spec : {M : Type 1} → statement M
+read_file_spec = tie.close (tie.spec
+    (λ c κs. search rules)
+    (λ c. search rules)
+    returns)

@@ -8,10 +8,10 @@ use Rattle.statements.proofs.read_plate.Tie as tie
 
 returns : tie.Need-returns
 returns c =
-    let read = c.before.before in
-    let known = read.before.before.before in
-    let a = known.before.args in
-    let bytes : Bytes a.file.now = λ n. (known.shared-slice-known.given n).fits in
+    let read = c in
+    let known = read in
+    let a = known.args in
+    let bytes : Bytes a.file.now = λ n. (known.shared_slice_known-1.given n).fits in
     rw (read.read.ensures.0, read.read.ensures.1) (
       λ room. reads-exactly a.file.now a.plate.now room bytes,
       (
@@ -23,5 +23,8 @@ returns c =
       ),
     )
 
-pub read-plate-spec : {M : Type 1} → statement M
-read-plate-spec = tie.close (tie.spec (λ c κs. search rules) (λ c. search rules) returns)
+pub read_plate_spec : {M : Type 1} → statement M
+read_plate_spec = tie.close (tie.spec
+    (λ c κs. search rules)
+    (λ c. search rules)
+    returns)

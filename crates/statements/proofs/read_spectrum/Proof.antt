@@ -10,13 +10,13 @@ use Rattle.statements.proofs.read_spectrum.Tie as tie
 
 returns : tie.Need-returns
 returns c =
-    let read = c.before.before.before.before in
-    let known = read.before.before.before.before.before in
-    let a = known.before.args in
+    let read = c in
+    let known = read in
+    let a = known.args in
     let file = a.file.now in
     let screen = a.screen.now in
     let palettes = a.palettes.now in
-    let bytes : Bytes file = λ n. (known.shared-slice-known.given n).fits in
+    let bytes : Bytes file = λ n. (known.shared_slice_known-1.given n).fits in
     rw (read.read.ensures.0, read.read.ensures.1.0, read.read.ensures.1.1) (
       reads-exactly a.kind file screen palettes bytes,
       (
@@ -40,6 +40,10 @@ returns c =
       ),
     )
 
-pub read-spectrum-spec : {M : Type 1} → statement M
-read-spectrum-spec =
-    tie.close (tie.spec (λ c κs. search rules) (λ c. search rules) (λ c. search rules) returns)
+pub read_spectrum_spec : {M : Type 1} → statement M
+read_spectrum_spec =
+    tie.close (tie.spec
+    (λ c κs. search rules)
+    (λ c. search rules)
+    (λ c. search rules)
+    returns)

@@ -12,13 +12,13 @@ use Rattle.statements.proofs.unpack_row_exactly.Tie as tie
 
 returns : tie.Need-returns
 returns c =
-    let p = c.before.before in
-    let known = p.before.before.before in
-    let a = known.before.args in
+    let p = c in
+    let known = p in
+    let a = known.args in
     let packed = a.packed.now in
     let out = a.out.now in
-    let bytes : Bytes packed = λ n. (known.shared-slice-known.given n).fits in
-    rw (p.unpack-row.ensures.0, p.unpack-row.ensures.1) (
+    let bytes : Bytes packed = λ n. (known.shared_slice_known-1.given n).fits in
+    rw (p.unpack_row.ensures.0, p.unpack_row.ensures.1) (
       unpacks-exactly packed a.width out bytes,
       (
         λ used records row fits. unpacks packed a.width out bytes used records row fits,
@@ -29,5 +29,8 @@ returns c =
       ),
     )
 
-pub unpack-row-exactly-spec : {M : Type 1} → statement M
-unpack-row-exactly-spec = tie.close (tie.spec (λ c κs. search rules) (λ c. search rules) returns)
+pub unpack_row_exactly_spec : {M : Type 1} → statement M
+unpack_row_exactly_spec = tie.close (tie.spec
+    (λ c κs. search rules)
+    (λ c. search rules)
+    returns)

@@ -15,63 +15,63 @@ use borrow.Author.Rules.{rules}
 use Rattle.statements.proofs.write_and_read.Statement.{statement}
 use Rattle.statements.proofs.write_and_read.Tie as tie
 
-returns : tie.Need-returns
+returns : tie.Need-returns-then-refusal-ne0
 returns c =
-    let w = c.before.before.before.before.before.before in
-    let known = w.before.before.before.before in
-    let start = known.before in
+    let w = c in
+    let known = w in
+    let start = known in
     let a = start.args in
-    promised a.form a.picture a.screen.now a.out.now w.write.new.1.1.1.0 a.area.now
+    promised a.form a.picture a.screen.now a.out.now w.write-written.new.out a.area.now
     a.area.now
-    (record { written = w.write.result; read = c.read-refused.result })
+    (record { written = w.write-written.result; read = c.read_refused-read.result })
     (record {
-      write = record { answer = w.write.ensures.0; later = w.write.ensures.1 };
-      read = λ ok. absurd (c.before.if1.true ok);
-      unread = λ h. (c.read-refused.ensures, refl);
+      write = record { answer = w.write-written.ensures.0; later = w.write-written.ensures.1 };
+      read = λ ok. absurd (c.if-refusal-ne0.true ok);
+      unread = λ h. (c.read_refused-read.ensures, refl);
     })
-    (whole a.picture _ start.well-formed.1.0)
-    (λ n. (known.shared-slice-known.given n).fits)
+    (whole a.picture _ start.well_formed.1.0)
+    (λ n. (known.shared_slice_known-1.given n).fits)
 
-slice-reshare-prefix-read : tie.Need-slice-reshare-prefix-read
+slice-reshare-prefix-read : tie.Need-slice_bounds-read-end
 slice-reshare-prefix-read c =
-    let w = c.before.before.before.before.before.before in
-    let a = w.before.before.before.before.before.args in
-    rw (w.write.ensures.0, w.write.ensures.1)
+    let w = c in
+    let a = w.args in
+    rw (w.write-written.ensures.0, w.write-written.ensures.1)
     (length-within (write_file a.form a.picture a.screen.now (length a.out.now)) a.out.now)
 
-slice-aggregate-read : tie.Need-slice-aggregate-read
+slice-aggregate-read : tie.Need-slice_bounds-read-end-2
 slice-aggregate-read c =
-    let w = c.before.before.before.before.before.before.before.write in
-    sym (length-take-le w.result.length w.new.1.1.1.0 (slice-reshare-prefix-read c.before))
+    let w = c.write-written in
+    sym (length-take-le w.result.length w.new.out (slice-reshare-prefix-read c))
 
-returns-2 : tie.Need-returns-2
+returns-2 : tie.Need-returns
 returns-2 c =
-    let r = c.before.before in
-    let k = r.before.before.before in
-    let w = k.before.before.before.before.before.before in
-    let known = w.before.before.before.before in
-    let start = known.before in
+    let r = c in
+    let k = r in
+    let w = k in
+    let known = w in
+    let start = known in
     let a = start.args in
-    promised a.form a.picture a.screen.now a.out.now w.write.new.1.1.1.0 a.area.now
-    r.read.new.1.1.0
-    (record { written = w.write.result; read = r.read.result })
+    promised a.form a.picture a.screen.now a.out.now w.write-written.new.out a.area.now
+    r.read-read.new.area
+    (record { written = w.write-written.result; read = r.read-read.result })
     (record {
-      write = record { answer = w.write.ensures.0; later = w.write.ensures.1 };
+      write = record { answer = w.write-written.ensures.0; later = w.write-written.ensures.1 };
       read =
           λ ok.
-          let file = take w.write.result.length w.write.new.1.1.1.0 in
-          let kind = ap (λ (n : ℕ). read_file n file (length a.area.now)) k.kind-of.ensures in
+          let file = take w.write-written.result.length w.write-written.new.out in
+          let kind = ap (λ (n : ℕ). read_file n file (length a.area.now)) k.kind_of.ensures in
           record {
-            answer = r.read.ensures.0 ∙ ap read_answer kind;
-            later = r.read.ensures.1 ∙ ap (λ (o : Outcome Reading). read_area o a.area.now) kind;
+            answer = r.read-read.ensures.0 ∙ ap read_answer kind;
+            later = r.read-read.ensures.1 ∙ ap (λ (o : Outcome Reading). read_area o a.area.now) kind;
           };
       unread = λ h. absurd (h (omega arith));
     })
-    (whole a.picture _ start.well-formed.1.0)
-    (λ n. (known.shared-slice-known.given n).fits)
+    (whole a.picture _ start.well_formed.1.0)
+    (λ n. (known.shared_slice_known-1.given n).fits)
 
-pub write-and-read-spec : {M : Type 1} → statement M
-write-and-read-spec =
+pub write_and_read_spec : {M : Type 1} → statement M
+write_and_read_spec =
     tie.close
     (tie.spec
     (λ c κs. search rules)

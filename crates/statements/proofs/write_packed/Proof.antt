@@ -11,11 +11,11 @@ use Rattle.statements.proofs.write_packed.Tie as tie
 
 returns : tie.Need-returns
 returns c =
-    let write = c.before.before in
-    let known = write.before.before.before in
-    let a = known.before.args in
-    let picture = whole a.picture _ known.before.well-formed.0 in
-    let bytes : Bytes a.screen.now = λ n. (known.shared-slice-known.given n).fits in
+    let write = c in
+    let known = write in
+    let a = known.args in
+    let picture = whole a.picture _ known.well_formed.0 in
+    let bytes : Bytes a.screen.now = λ n. (known.shared_slice_known-1.given n).fits in
     rw (write.write.ensures.0, write.write.ensures.1) (
       λ r stated. refuses-exactly r a.picture a.screen.now a.out.now stated picture bytes,
       (
@@ -33,5 +33,8 @@ returns c =
       ),
     )
 
-pub write-packed-spec : {M : Type 1} → statement M
-write-packed-spec = tie.close (tie.spec (λ c κs. search rules) (λ c. search rules) returns)
+pub write_packed_spec : {M : Type 1} → statement M
+write_packed_spec = tie.close (tie.spec
+    (λ c κs. search rules)
+    (λ c. search rules)
+    returns)

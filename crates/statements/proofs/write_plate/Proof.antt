@@ -9,10 +9,10 @@ use Rattle.statements.proofs.write_plate.Tie as tie
 
 returns : tie.Need-returns
 returns c =
-    let write = c.before.before in
-    let known = write.before.before.before in
-    let a = known.before.args in
-    let bytes : Bytes a.plate.now = λ n. (known.shared-slice-known.given n).fits in
+    let write = c in
+    let known = write in
+    let a = known.args in
+    let bytes : Bytes a.plate.now = λ n. (known.shared_slice_known-1.given n).fits in
     rw (write.write.ensures.0, write.write.ensures.1) (
       λ stated. plate-refuses-exactly a.plate.now a.out.now stated bytes,
       (
@@ -27,5 +27,8 @@ returns c =
       ),
     )
 
-pub write-plate-spec : {M : Type 1} → statement M
-write-plate-spec = tie.close (tie.spec (λ c κs. search rules) (λ c. search rules) returns)
+pub write_plate_spec : {M : Type 1} → statement M
+write_plate_spec = tie.close (tie.spec
+    (λ c κs. search rules)
+    (λ c. search rules)
+    returns)

@@ -6,14 +6,14 @@ use Rattle.tally.proofs.block_at.Tie as tie
 returns : tie.Need-returns
 returns c =
     rw (
-      c.before.before.before.plane-block.ensures,
-      c.before.before.plane-block2.ensures,
-      c.before.plane-block3.ensures,
-      c.plane-block4.ensures,
+      c.plane_block.ensures,
+      c.plane_block-2.ensures,
+      c.plane_block-3.ensures,
+      c.plane_block-4.ensures,
     )
 
-pub block-at-spec : {M : Type 1} → statement M
-block-at-spec =
+pub block_at_spec : {M : Type 1} → statement M
+block_at_spec =
     tie.close
     (tie.spec
     (λ c κs. search rules)

@@ -17,14 +17,14 @@ use Rattle.tally.proofs.count_column.Tie as tie
 abbrev blocks : List ℕ → ℕ → ℕ → ℕ → ℕ → ℕ → ℕ → ℕ → ℕ
 blocks s at step m t planes j = part_register (block_at s (at + j * step) planes) m t
 
-abbrev invariant-loop : tie.invariant-loop
+abbrev invariant-loop : tie.invariant-loop-j
 invariant-loop counts₀ screen at planes step n m t j₀ counts j =
     (j ≤ n) × (counts ≡ counted_lines counts₀ (blocks screen at step m t planes) m j)
 
-abbrev decreases-loop : tie.decreases-loop
+abbrev decreases-loop : tie.decreases-loop-j
 decreases-loop counts₀ screen at planes step n m t j₀ counts j = n - j
 
-count-one-requires : tie.Need-count-one-requires invariant-loop decreases-loop
+count-one-requires : tie.Need-count_one-requires invariant-loop decreases-loop
 count-one-requires c κs =
     let q = c.before.before.before in
     let p = q.requires in
@@ -33,14 +33,14 @@ count-one-requires c κs =
       (λ j h. omega (arith, e, p.1.0 j h), p.1.1),
     )
 
-returns : tie.Need-returns invariant-loop decreases-loop
+returns : tie.Need-returns-then-planes-eq1 invariant-loop decreases-loop
 returns c =
-    let a = c.before.before.before.before.args in
+    let a = c.args in
     let g = blocks a.screen.now a.at a.step a.m a.t in
     let e : 1 ≡ a.planes = omega arith in
-    c.count-one.ensures ∙ ap (λ (p : ℕ). counted_lines a.counts.now (g p) a.m a.n) e
+    c.count_one.ensures ∙ ap (λ (p : ℕ). counted_lines a.counts.now (g p) a.m a.n) e
 
-loop-holds : tie.Need-loop-init invariant-loop decreases-loop
+loop-holds : tie.Need-loop-j-init invariant-loop decreases-loop
 loop-holds c =
     let q = c.before.before in
     let a = q.args in
@@ -49,13 +49,13 @@ loop-holds c =
     (omega arith, counted_lines-none a.counts.now g a.m p.0.0.all)
 
 -- block j lies within the screen
-within : (c : tie.In-loop invariant-loop decreases-loop) → let a = c.before.before.before.before.args in
-    a.at + c.before.loop.j * a.step + a.planes * 8 ≤ screen_bytes
-within c = c.before.before.before.before.requires.1.0 c.before.loop.j (omega arith)
+within : (c : tie.In-loop-j invariant-loop decreases-loop) → let a = c.args in
+    a.at + c.loop-j.j * a.step + a.planes * 8 ≤ screen_bytes
+within c = c.requires.1.0 c.loop-j.j (omega arith)
 
-count-part-requires : tie.Need-count-part-requires invariant-loop decreases-loop
+count-part-requires : tie.Need-count_part-requires invariant-loop decreases-loop
 count-part-requires c κs =
-    let l = c.before.before.loop in
+    let l = c.loop-j in
     let o = c.before.before.before.before.before in
     let a = o.args in
     let p = o.requires in
@@ -76,23 +76,23 @@ count-part-requires c κs =
       (p.0.4.1 (λ e. omega arith), within c.before, p.1.1),
     )
 
-loop-again : tie.Need-loop-preserved invariant-loop decreases-loop
+loop-again : tie.Need-loop-j-preserved invariant-loop decreases-loop
 loop-again c =
-    let l = c.before.before.before.loop in
-    let a = c.before.before.before.before.before.before.args in
+    let l = c.loop-j in
+    let a = c.args in
     let g = blocks a.screen.now a.at a.step a.m a.t a.planes in
-    let next = counted_lines-turn a.counts.now l.counts _ g a.m l.j l.invariant.1 c.count-part.ensures in
+    let next = counted_lines-turn a.counts.now l.counts _ g a.m l.j l.invariant.1 c.count_part.ensures in
     (omega arith, next)
 
-returns-2 : tie.Need-returns-2 invariant-loop decreases-loop
+returns-2 : tie.Need-returns invariant-loop decreases-loop
 returns-2 c =
-    let l = c.before.loop in
-    let a = c.before.before.before.before.args in
+    let l = c.loop-j in
+    let a = c.args in
     let e : l.j ≡ a.n = omega arith in
     l.invariant.1 ∙ rw e
 
-pub count-column-spec : {M : Type 1} → statement M
-count-column-spec =
+pub count_column_spec : {M : Type 1} → statement M
+count_column_spec =
     tie.close
     (tie.spec
     invariant-loop

@@ -35,12 +35,12 @@ zeros : (v : ℕ) → get_or (replicate 16 0) v 0 ≤ 0
 unfolding tabulate
 zeros = tabulate-le 16 (λ v. 0) 0 (λ v. omega arith)
 
-abbrev invariant-loop : tie.invariant-loop
+abbrev invariant-loop : tie.invariant-loop-i
 invariant-loop screen start planes step n left columns sums₀ i₀ sums i =
     (i ≤ columns)
     × (sums ≡ counted_lines (replicate 16 0) (pixels screen start planes step left) i n)
 
-abbrev decreases-loop : tie.decreases-loop
+abbrev decreases-loop : tie.decreases-loop-i
 decreases-loop screen start planes step n left columns sums₀ i₀ sums i = columns - i
 
 -- what a block adds to an offset
@@ -50,23 +50,23 @@ across-le x planes h k =
     let b : planes * 8 ≤ 32 = omega arith in
     mul-le-mul a b
 
-loop-holds : tie.Need-loop-init invariant-loop decreases-loop
+loop-holds : tie.Need-loop-i-init invariant-loop decreases-loop
 loop-holds c =
-    let a = c.before.args in
+    let a = c.args in
     let f = pixels a.screen.now a.start a.planes a.step a.left in
     (omega arith, counted_lines-empty (replicate 16 0) f a.n refl)
 
 -- the block of column i begins within the screen, or soon after it
-near : (c : tie.After-lesser invariant-loop decreases-loop) → let a = c.before.before.before.before.args in
-    (a.left + c.before.before.loop.i) / 64 * (a.planes * 8) ≤ 320
+near : (c : tie.After-lesser-m invariant-loop decreases-loop) → let a = c.args in
+    (a.left + c.loop-i.i) / 64 * (a.planes * 8) ≤ 320
 near c =
-    let l = c.before.before.loop in
-    let a = c.before.before.before.before.args in
+    let l = c.loop-i in
+    let a = c.args in
     across-le (a.left + l.i) a.planes (omega arith) (omega arith)
 
-count-column-requires : tie.Need-count-column-requires invariant-loop decreases-loop
+count-column-requires : tie.Need-count_column-requires invariant-loop decreases-loop
 count-column-requires c κs =
-    let l = c.before.before.before.loop in
+    let l = c.loop-i in
     let i = l.invariant in
     let o = c.before.before.before.before.before in
     let a = o.args in
@@ -80,7 +80,7 @@ count-column-requires c κs =
               (omega (arith, few, counted_lines-le (replicate 16 0) f l.i a.n 0 zeros v));
           all = ap length i.1 ∙ length-counted_lines (replicate 16 0) f l.i a.n;
         },
-        c.before.lesser.ensures.2 (omega arith) (omega arith),
+        c.lesser-m.ensures.2 (omega arith) (omega arith),
         omega arith,
         p.0.0,
         p.0.3,
@@ -88,31 +88,31 @@ count-column-requires c κs =
       (λ j h. p.1.0 j (a.left + l.i) h (omega arith), p.1.1),
     )
 
-loop-again : tie.Need-loop-preserved invariant-loop decreases-loop
+loop-again : tie.Need-loop-i-preserved invariant-loop decreases-loop
 loop-again c =
     let r = c.before.before in
-    let l = r.before.before.loop in
+    let l = r.loop-i in
     let i = l.invariant in
-    let a = r.before.before.before.before.args in
+    let a = r.args in
     let s = a.screen.now in
-    let m : ℕ = r.lesser.result in
+    let m : ℕ = r.lesser-m.result in
     let x : ℕ = a.left + l.i in
     let f = pixels s a.start a.planes a.step a.left in
     let at : ℕ = a.start + x / 64 * (a.planes * 8) in
     let g : ℕ → ℕ → ℕ = λ j. part_register (block_at s (at + j * a.step) a.planes) m (64 - x % 64 - m) in (
       omega arith,
-      counted_lines-join (replicate 16 0) l.sums _ f g l.i m a.n i.1 c.count-column.ensures
+      counted_lines-join (replicate 16 0) l.sums _ f g l.i m a.n i.1 c.count_column.ensures
           (λ j k h e. pixel s a.start a.planes a.step a.left l.i m j k (omega arith) e),
     )
 
 returns : tie.Need-returns invariant-loop decreases-loop
 returns c =
-    let l = c.before.loop in
-    let e : l.i ≡ c.before.before.before.args.columns = omega arith in
+    let l = c.loop-i in
+    let e : l.i ≡ c.args.columns = omega arith in
     l.invariant.1 ∙ rw e
 
-pub count-columns-spec : {M : Type 1} → statement M
-count-columns-spec =
+pub count_columns_spec : {M : Type 1} → statement M
+count_columns_spec =
     tie.close
     (tie.spec
     invariant-loop
@@ -129,6 +129,6 @@ count-columns-spec =
     (λ c. search rules)
     count-column-requires
     (λ c. search rules)
-    (λ c. omega (arith, c.before.before.lesser.ensures.2 (omega arith) (omega arith)))
+    (λ c. omega (arith, c.lesser-m.ensures.2 (omega arith) (omega arith)))
     loop-again
     returns)

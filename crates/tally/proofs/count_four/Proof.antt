@@ -15,17 +15,17 @@ returns c =
     let q = s.before in
     let b = q.before in
     let k = b.before in
-    let a = k.before.args in
+    let a = k.args in
     let block = block_at a.screen.now a.at 4 in
-    c.count-sets.ensures
-    ∙ counted-block block (block-digits a.screen.now (λ i. (k.shared-slice-known.given i).fits) a.at 4)
+    c.count_sets.ensures
+    ∙ counted-block block (block-digits a.screen.now (λ i. (k.shared_slice_known-1.given i).fits) a.at 4)
     16 (omega arith) (below-16 block) a.counts.now _
-    q.part-pixels.result a.m a.t (omega arith) q.part-pixels.ensures
-    (s.register-sets.ensures
-    ∙ ap (λ (i : Block). tabulate 16 (λ v. register_set i q.part-pixels.result v)) b.block_at.ensures)
+    q.part_pixels.result a.m a.t (omega arith) q.part_pixels.ensures
+    (s.register_sets-sets.ensures
+    ∙ ap (λ (i : Block). tabulate 16 (λ v. register_set i q.part_pixels.result v)) b.block_at.ensures)
 
-pub count-four-spec : {M : Type 1} → statement M
-count-four-spec =
+pub count_four_spec : {M : Type 1} → statement M
+count_four_spec =
     tie.close
     (tie.spec
     (λ c κs. search rules)

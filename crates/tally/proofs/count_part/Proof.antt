@@ -13,26 +13,30 @@ use Rattle.tally.proofs.count_part.Tie as tie
 abbrev counted-in : List ℕ → List ℕ → ℕ → ℕ → ℕ → ℕ → List ℕ
 counted-in c s at m t planes = counted c (part_register (block_at s at planes) m t) m
 
-returns : tie.Need-returns
+returns : tie.Need-returns-then-planes-eq2
 returns c =
-    let a = c.before.before.before.before.args in
+    let a = c.args in
     let e : 2 ≡ a.planes = omega arith in
-    c.count-two.ensures ∙ ap (counted-in a.counts.now a.screen.now a.at a.m a.t) e
+    c.count_two.ensures ∙ ap (counted-in a.counts.now a.screen.now a.at a.m a.t) e
 
 -- not two planes
-four : (c : tie.Else1) → c.before.before.args.planes ≡ 4
-four c = c.before.before.requires.1.0 (λ e. omega arith)
+four : (c : tie.Else-planes-eq2) → c.args.planes ≡ 4
+four c = c.requires.1.0 (λ e. omega arith)
 
-count-four-requires : tie.Need-count-four-requires
+count-four-requires : tie.Need-count_four-requires
 count-four-requires c κs =
     let q = c.before.before.before in
     (q.requires.0.0, q.requires.0.1, q.requires.0.2, omega (arith, four c.before), q.requires.1.2)
 
-returns-2 : tie.Need-returns-2
+returns-2 : tie.Need-returns
 returns-2 c =
-    let a = c.before.before.before.before.args in
-    c.count-four.ensures
+    let a = c.args in
+    c.count_four.ensures
     ∙ ap (counted-in a.counts.now a.screen.now a.at a.m a.t) (sym (four c.before.before))
 
-pub count-part-spec : {M : Type 1} → statement M
-count-part-spec = tie.close (tie.spec (λ c κs. search rules) returns count-four-requires returns-2)
+pub count_part_spec : {M : Type 1} → statement M
+count_part_spec = tie.close (tie.spec
+    (λ c κs. search rules)
+    returns
+    count-four-requires
+    returns-2)

@@ -8,26 +8,26 @@ use Rattle.tally.proofs.Blocks.{lines-counted, lines-within, run-counted, run-wi
 use Rattle.tally.proofs.count_rectangle.Statement.{statement}
 use Rattle.tally.proofs.count_rectangle.Tie as tie
 
-mul-start : tie.Need-overflow-mul-start
+mul-start : tie.Need-overflow_mul-start
 mul-start c =
     let q = c.before.before.before.before.before in
     let t = q.args.rectangle in
     let w = lines-within q.args.r t.left t.columns t.top t.lines q.requires.1 q.requires.2 in
-    rw c.before.before.line-bytes.ensures (omega (arith, w.3))
+    rw c.line_bytes-size.ensures (omega (arith, w.3))
 
-mul-count-columns : tie.Need-overflow-mul-count-columns
+mul-count-columns : tie.Need-overflow_mul-planes
 mul-count-columns c =
-    let p = c.before.before.before.before.before.planes in
-    omega (arith, p.ensures, planes-le c.before.before.before.before.before.before.before.args.r)
+    let p = c.planes-planes in
+    omega (arith, p.ensures, planes-le c.args.r)
 
-mul-count-columns-2 : tie.Need-overflow-mul-count-columns-2
+mul-count-columns-2 : tie.Need-overflow_mul-rectangle
 mul-count-columns-2 c =
     let q = c.before.before.before.before.before.before.before.before in
     let t = q.args.rectangle in
-    rw c.before.before.before.before.width.ensures
+    rw c.width-width.ensures
     (omega (arith, (run-within q.args.r t.top t.lines q.requires.2).0))
 
-count-columns-requires : tie.Need-count-columns-requires
+count-columns-requires : tie.Need-count_columns-requires
 count-columns-requires c κs =
     let w = c.before.before.before.before in
     let q = w.before.before.before.before in
@@ -35,45 +35,45 @@ count-columns-requires c κs =
     let t = q.args.rectangle in
     let l = lines-within r t.left t.columns t.top t.lines q.requires.1 q.requires.2 in
     let run = run-within r t.top t.lines q.requires.2 in
-    rw (w.width.ensures, w.before.line-bytes.ensures, w.before.before.planes.ensures) (
+    rw (w.width-width.ensures, w.line_bytes-size.ensures, w.planes-planes.ensures) (
       (run.0, run.1, omega arith, run.2, planes-le r, l.3),
       (run.3, q.requires.0),
     )
 
-returns : tie.Need-returns
+returns : tie.Need-returns-then-rectangle-width
 returns c =
     let w = c.before.before.before.before.before in
     let k = w.before.before.before in
-    let a = k.before.args in
+    let a = k.args in
     let t = a.rectangle in
-    let all : t.columns ≡ width_of a.r = omega (arith, w.width.ensures) in
+    let all : t.columns ≡ width_of a.r = omega (arith, w.width-width.ensures) in
     let left : t.left ≡ 0 = omega arith in
-    rw (w.width.ensures, w.before.line-bytes.ensures, w.before.before.planes.ensures)
-    at c.count-columns.ensures
-    ∙ run-counted a.screen.now a.r t (λ i. (k.shared-slice-known.given i).fits) left all
+    rw (w.width-width.ensures, w.line_bytes-size.ensures, w.planes-planes.ensures)
+    at c.count_columns.ensures
+    ∙ run-counted a.screen.now a.r t (λ i. (k.shared_slice_known-1.given i).fits) left all
 
-count-columns-requires-2 : tie.Need-count-columns-requires-2
+count-columns-requires-2 : tie.Need-count_columns-requires-2
 count-columns-requires-2 c κs =
     let w = c.before.before.before in
     let q = w.before.before.before.before in
     let r = q.args.r in
     let t = q.args.rectangle in
     let l = lines-within r t.left t.columns t.top t.lines q.requires.1 q.requires.2 in
-    rw (w.before.line-bytes.ensures, w.before.before.planes.ensures) (
+    rw (w.line_bytes-size.ensures, w.planes-planes.ensures) (
       (l.0, l.1, omega (arith, width-le r), l.2, planes-le r, l.3),
       (l.4, q.requires.0),
     )
 
-returns-2 : tie.Need-returns-2
+returns-2 : tie.Need-returns
 returns-2 c =
     let w = c.before.before.before.before in
     let k = w.before.before.before in
-    let a = k.before.args in
-    rw (w.before.line-bytes.ensures, w.before.before.planes.ensures) at c.count-columns2.ensures
-    ∙ lines-counted a.screen.now a.r a.rectangle (λ i. (k.shared-slice-known.given i).fits)
+    let a = k.args in
+    rw (w.line_bytes-size.ensures, w.planes-planes.ensures) at c.count_columns-2.ensures
+    ∙ lines-counted a.screen.now a.r a.rectangle (λ i. (k.shared_slice_known-1.given i).fits)
 
-pub count-rectangle-spec : {M : Type 1} → statement M
-count-rectangle-spec =
+pub count_rectangle_spec : {M : Type 1} → statement M
+count_rectangle_spec =
     tie.close
     (tie.spec
     (λ c κs. search rules)

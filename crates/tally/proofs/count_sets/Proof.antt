@@ -61,26 +61,26 @@ module _ (c s : List ℕ) (all : length c ≡ 16) (few : length s ≤ 16) where
         tabulate-turn (length s) (grown c s) c out v x h (omega arith) is
         (e ∙ ap (λ (y : ℕ). y + ones (get_or s v 0)) as_before)
 
-abbrev invariant-loop : tie.invariant-loop
+abbrev invariant-loop : tie.invariant-loop-v
 invariant-loop counts₀ sets v₀ counts v =
     (v ≤ length sets) × (length counts ≡ 16)
     × (counts ≡ over (take v (tabulate (length sets) (grown counts₀ sets))) counts₀)
 
-abbrev decreases-loop : tie.decreases-loop
+abbrev decreases-loop : tie.decreases-loop-v
 decreases-loop counts₀ sets v₀ counts v = length sets - v
 
 more-requires : tie.Need-more-requires invariant-loop decreases-loop
 more-requires c κs =
-    let l = c.before.before.before.loop in
+    let l = c.loop-v in
     let o = c.before.before.before.before.before in
     let a = o.args in
     let p = o.requires in
     rw (as_before a.counts.now a.sets.now p.0.all p.1 l.counts l.v (omega arith) l.invariant.2)
     (p.0.each l.v)
 
-loop-again : tie.Need-loop-preserved invariant-loop decreases-loop
+loop-again : tie.Need-loop-v-preserved invariant-loop decreases-loop
 loop-again c =
-    let l = c.before.before.before.before.loop in
+    let l = c.loop-v in
     let o = c.before.before.before.before.before.before in
     let a = o.args in (
       omega arith,
@@ -91,14 +91,14 @@ loop-again c =
 
 returns : tie.Need-returns invariant-loop decreases-loop
 returns c =
-    let l = c.before.loop in
+    let l = c.loop-v in
     let o = c.before.before.before in
     let a = o.args in
     let e : l.v ≡ length a.sets.now = omega arith in
     done a.counts.now a.sets.now o.requires.0.all o.requires.1 l.counts (rw e at l.invariant.2)
 
-pub count-sets-spec : {M : Type 1} → statement M
-count-sets-spec =
+pub count_sets_spec : {M : Type 1} → statement M
+count_sets_spec =
     tie.close
     (tie.spec
     invariant-loop

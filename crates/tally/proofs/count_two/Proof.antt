@@ -15,17 +15,17 @@ returns c =
     let q = c.before.before.before in
     let p = q.before in
     let k = p.before.before in
-    let a = k.before.args in
+    let a = k.args in
     let s = a.screen.now in
-    c.count-sets.ensures
-    ∙ counted-block (block_at s a.at 2) (block-digits s (λ i. (k.shared-slice-known.given i).fits) a.at 2)
+    c.count_sets.ensures
+    ∙ counted-block (block_at s a.at 2) (block-digits s (λ i. (k.shared_slice_known-1.given i).fits) a.at 2)
     4 (omega arith) (below-4 s a.at) a.counts.now _
-    q.part-pixels.result a.m a.t (omega arith) q.part-pixels.ensures
-    (ap (λ (i : Block). tabulate 4 (λ v. register_set i q.part-pixels.result v))
-    (two-planes s a.at _ _ p.before.plane-block.ensures p.plane-block2.ensures))
+    q.part_pixels.result a.m a.t (omega arith) q.part_pixels.ensures
+    (ap (λ (i : Block). tabulate 4 (λ v. register_set i q.part_pixels.result v))
+    (two-planes s a.at _ _ p.plane_block-p0.ensures p.plane_block-p1.ensures))
 
-pub count-two-spec : {M : Type 1} → statement M
-count-two-spec =
+pub count_two_spec : {M : Type 1} → statement M
+count_two_spec =
     tie.close
     (tie.spec
     (λ c κs. search rules)

@@ -5,8 +5,10 @@ use lib.Count.{ones-le}
 use Rattle.tally.proofs.more.Statement.{statement}
 use Rattle.tally.proofs.more.Tie as tie
 
-add-result : tie.Need-overflow-add-result
+add-result : tie.Need-overflow_add-result
 add-result c = omega (arith, ones-le 64 c.args.x (omega arith))
 
-pub more-spec : {M : Type 1} → statement M
-more-spec = tie.close (tie.spec add-result (λ c. search rules))
+pub more_spec : {M : Type 1} → statement M
+more_spec = tie.close (tie.spec
+    add-result
+    (λ c. search rules))

@@ -20,24 +20,24 @@ within at n k step e h j l =
     let p : j * k ≡ j * step = ap (λ (i : ℕ). j * i) e in
     omega (arith, p, h j l)
 
-ones-apart-requires : tie.Need-ones-apart-requires
+ones-apart-requires : tie.Need-ones_apart-requires
 ones-apart-requires c κs =
     let q = c.before.before in
     let a = q.args in
     let e : 8 ≡ a.step = omega arith in
     ((q.requires.0.0, q.requires.0.1, q.requires.0.2), (within a.at a.n 8 a.step e q.requires.1.0, q.requires.1.1))
 
-returns : tie.Need-returns
+returns : tie.Need-returns-then-step-eq-PLANE_BYTES
 returns c =
-    let a = c.before.before.before.args in
+    let a = c.args in
     let e : 8 ≡ a.step = omega arith in
-    c.ones-apart.ensures ∙ ap (counted-at a.screen.now a.at a.n a.m a.t) e
+    c.ones_apart.ensures ∙ ap (counted-at a.screen.now a.at a.n a.m a.t) e
 
 -- the other step
-below : (c : tie.Else1) → 80 ≡ c.before.before.args.step
-below c = sym (c.before.before.requires.0.3 (λ e. omega arith))
+below : (c : tie.Else-step-eq-PLANE_BYTES) → 80 ≡ c.args.step
+below c = sym (c.requires.0.3 (λ e. omega arith))
 
-ones-apart-requires-2 : tie.Need-ones-apart-requires-2
+ones-apart-requires-2 : tie.Need-ones_apart-requires-2
 ones-apart-requires-2 c κs =
     let q = c.before.before in
     let a = q.args in (
@@ -45,10 +45,14 @@ ones-apart-requires-2 c κs =
       (within a.at a.n 80 a.step (below c) q.requires.1.0, q.requires.1.1),
     )
 
-returns-2 : tie.Need-returns-2
+returns-2 : tie.Need-returns
 returns-2 c =
-    let a = c.before.before.before.args in
-    c.ones-apart2.ensures ∙ ap (counted-at a.screen.now a.at a.n a.m a.t) (below c.before)
+    let a = c.args in
+    c.ones_apart-2.ensures ∙ ap (counted-at a.screen.now a.at a.n a.m a.t) (below c.before)
 
-pub ones-in-spec : {M : Type 1} → statement M
-ones-in-spec = tie.close (tie.spec ones-apart-requires returns ones-apart-requires-2 returns-2)
+pub ones_in_spec : {M : Type 1} → statement M
+ones_in_spec = tie.close (tie.spec
+    ones-apart-requires
+    returns
+    ones-apart-requires-2
+    returns-2)

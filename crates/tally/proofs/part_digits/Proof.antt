@@ -22,5 +22,9 @@ digits m t h =
 returns : tie.Need-returns
 returns c = digits c.args.m c.args.t (omega arith)
 
-pub part-digits-spec : {M : Type 1} → statement M
-part-digits-spec = tie.close (tie.spec (λ c. search rules) (λ c. search rules) (λ c. search rules) returns)
+pub part_digits_spec : {M : Type 1} → statement M
+part_digits_spec = tie.close (tie.spec
+    (λ c. search rules)
+    (λ c. search rules)
+    (λ c. search rules)
+    returns)

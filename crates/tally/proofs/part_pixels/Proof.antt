@@ -6,7 +6,10 @@ use Rattle.tally.proofs.part_pixels.Statement.{statement}
 use Rattle.tally.proofs.part_pixels.Tie as tie
 
 returns : tie.Need-returns
-returns c = c.reversed.ensures ∙ ap reversed c.before.part-digits.ensures
+returns c = c.reversed.ensures ∙ ap reversed c.part_digits.ensures
 
-pub part-pixels-spec : {M : Type 1} → statement M
-part-pixels-spec = tie.close (tie.spec (λ c κs. search rules) (λ c κs. search rules) returns)
+pub part_pixels_spec : {M : Type 1} → statement M
+part_pixels_spec = tie.close (tie.spec
+    (λ c κs. search rules)
+    (λ c κs. search rules)
+    returns)

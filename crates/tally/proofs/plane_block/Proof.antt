@@ -10,17 +10,17 @@ returns : tie.Need-returns
 unfolding plane_block
 returns c =
     let k = c.before.before.before.before in
-    let a = k.before.args in
-    let lt = word_at-lt a.s.now (λ i. (k.shared-slice-known.given i).fits) in
+    let a = k.args in
+    let lt = word_at-lt a.s.now (λ i. (k.shared_slice_known-1.given i).fits) in
     rw (
-      c.before.before.before.swapped-word.ensures.0,
-      c.before.before.swapped-word2.ensures.0,
-      c.before.swapped-word3.ensures.0,
-      c.swapped-word4.ensures.0,
+      c.swapped_word.ensures.0,
+      c.swapped_word-2.ensures.0,
+      c.swapped_word-3.ensures.0,
+      c.swapped_word-4.ensures.0,
     ) (reversed-words _ _ _ _ (lt _) (lt _) (lt _) (lt _))
 
-pub plane-block-spec : {M : Type 1} → statement M
-plane-block-spec =
+pub plane_block_spec : {M : Type 1} → statement M
+plane_block_spec =
     tie.close
     (tie.spec
     (λ c. search rules)

@@ -9,5 +9,6 @@ returns : tie.Need-returns
 unfolding tabulate register_set
 returns c = refl
 
-pub register-sets-spec : {M : Type 1} → statement M
-register-sets-spec = tie.close (tie.spec returns)
+pub register_sets_spec : {M : Type 1} → statement M
+register_sets_spec = tie.close (tie.spec
+    returns)

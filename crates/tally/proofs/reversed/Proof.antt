@@ -11,18 +11,18 @@ unfolding reversed
 returns c =
     let b4 = c.before.before.before.before in
     rw (
-      b4.before.before.before.byte_of.ensures.0,
-      b4.before.before.byte-of2.ensures.0,
-      b4.before.byte-of3.ensures.0,
-      b4.byte-of4.ensures.0,
-      c.before.before.before.byte-of5.ensures.0,
-      c.before.before.byte-of6.ensures.0,
-      c.before.byte-of7.ensures.0,
-      c.byte-of8.ensures.0,
-    ) (from_bytes-words (byte_of b4.before.before.before.before.args.x))
+      b4.byte_of.ensures.0,
+      b4.byte_of-2.ensures.0,
+      b4.byte_of-3.ensures.0,
+      b4.byte_of-4.ensures.0,
+      c.byte_of-5.ensures.0,
+      c.byte_of-6.ensures.0,
+      c.byte_of-7.ensures.0,
+      c.byte_of-8.ensures.0,
+    ) (from_bytes-words (byte_of b4.args.x))
 
-pub reversed-spec : {M : Type 1} → statement M
-reversed-spec =
+pub reversed_spec : {M : Type 1} → statement M
+reversed_spec =
     tie.close
     (tie.spec
     (λ c κs. search rules)

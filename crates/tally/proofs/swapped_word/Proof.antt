@@ -8,8 +8,8 @@ returns : tie.Need-returns
 unfolding word_at
 returns c = search rules
 
-pub swapped-word-spec : {M : Type 1} → statement M
-swapped-word-spec =
+pub swapped_word_spec : {M : Type 1} → statement M
+swapped_word_spec =
     tie.close
     (tie.spec
     (λ c. search rules)

@@ -10,13 +10,11 @@ use Rattle.unpack.proofs.put_row_bytes.Tie as tie
 returns : tie.Need-returns-in-Literal
 returns c =
     let a = c.args in
-    
     c.put_part.ensures ∙ put-literal a.file.now a.out.now a.at a.r c.in-Literal.n c.in-Literal.is
 
 returns-2 : tie.Need-returns-in-Repeat
 returns-2 c =
     let a = c.args in
-    
     c.put_repeat.ensures ∙ put-repeat a.file.now a.out.now a.at a.r c.in-Repeat.n c.in-Repeat.is
 
 pub put_row_bytes_spec : {M : Type 1} → statement M

@@ -10,7 +10,6 @@ use Rattle.unpack.proofs.put_short.Tie as tie
 returns : tie.Need-returns-in-Literal
 returns c =
     let a = c.args in
-    
     front-literal a.file.now a.out.now _ a.at a.r c.in-Literal.field-0 c.in-Literal.is
     c.requires.0.0 (omega arith)
     c.copy_eight.ensures
@@ -18,7 +17,6 @@ returns c =
 returns-2 : tie.Need-returns-in-Repeat
 returns-2 c =
     let a = c.args in
-    
     front-repeat a.file.now a.out.now _ a.at a.r c.in-Repeat.n c.in-Repeat.is c.put_blocks.ensures
 
 pub put_short_spec : {M : Type 1} → statement M

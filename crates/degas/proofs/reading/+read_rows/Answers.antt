@@ -1,6 +1,6 @@
 -- `degas::reading::read_rows` meets its contract: a longer area is cut to the screen, and the call ends since that is
 -- shorter.
-use Rattle.std.proofs.Common.{◌≡◌, ◌≤◌, length, take, arith}
+use Rattle.std.proofs.Common.{arith}
 use lib.Seq.{length-take-le}
 use Rattle.outcome.proofs.Areas.{area-cut}
 use Rattle.resolution.specs.Shapes.{screen_bytes}

@@ -9,16 +9,21 @@ use Rattle.report.proofs.text.put_item.Tie as tie
 returns : tie.Need-returns
 unfolding item
 returns c =
-    let p = c.before.before in
-    let y = p.before.before.before.before in
-    let a = y.before.before.before.before.args in
-    let label = written-copied a.label.now a.out.now _ _ y.copy.ensures.0 y.copy.ensures.1 in
-    (written_then label p.put-decimal.ensures.0, omega (arith, y.copy.ensures.0, p.put-decimal.ensures.1))
+    let p = c in
+    let y = p in
+    let a = y.args in
+    let label = written-copied a.label.now a.out.now _ _ y.copy-end.ensures.0 y.copy-end.ensures.1 in
+    (written_then label p.put_decimal.ensures.0, omega (arith, y.copy-end.ensures.0, p.put_decimal.ensures.1))
 
-pub put-item-spec : {M : Type 1} → statement M
-put-item-spec =
+pub put_item_spec : {M : Type 1} → statement M
+put_item_spec =
     tie.close
     (tie.spec
-    (λ c κs. search rules) (λ c. search rules) (λ c. search rules) (λ c. search rules) (λ c κs. search rules)
-    (λ c. search rules) (λ c. search rules)
+    (λ c κs. search rules)
+    (λ c. search rules)
+    (λ c. search rules)
+    (λ c. search rules)
+    (λ c κs. search rules)
+    (λ c. search rules)
+    (λ c. search rules)
     returns)
