@@ -21,6 +21,7 @@ fn plain_picture(file: &[u8], r: Resolution) -> Picture
 }
 
 // The picture of a file with the tail at an offset.
+#[inline(always)]
 fn elite_picture(file: &[u8], r: Resolution, at: u32) -> Picture
     ensures { result ≡ elite_picture file.now r at }
 {
@@ -99,6 +100,7 @@ fn read_rows(file: &[u8], r: Resolution, area: &mut [u8]) -> ReadAnswer
 }
 
 // A packed file.
+#[inline(never)]
 fn read_packed(file: &[u8], r: Resolution, area: &mut [u8]) -> ReadAnswer
     requires { screen_bytes ≤ length area.old }
     ensures answer { result ≡ read_answer (read_packed file.now r) }

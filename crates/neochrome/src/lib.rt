@@ -71,6 +71,7 @@ fn read_opened(file: &[u8], r: Resolution, area: &mut [u8]) -> ReadAnswer
 }
 
 // Reads a file into the first 32,000 bytes of an area. All is judged before the first byte is written.
+#[inline(never)]
 pub fn read(file: &[u8], area: &mut [u8]) -> ReadAnswer
     ensures answer { result ≡ read_answer (read_neochrome file.now (length area.old)) }
     ensures area { area.new
