@@ -82,6 +82,7 @@ fn elite_to_plain(picture: Picture, screen: &[u8], out: &mut [u8]) -> WriteAnswe
 }
 
 // Converts a file by a screen of its own, over the front of the output. All is judged before the first byte is written.
+#[inline(never)]
 fn convert_by_screen(to: Conversion, file: &[u8], out: &mut [u8]) -> WriteAnswer
     requires { file_bytes ≤ length out.old }
     ensures answer { result ≡ write_answer (convert to file.now (length out.old)) }

@@ -57,6 +57,7 @@ fn read_raw(file: &[u8], r: Resolution, area: &mut [u8]) -> ReadAnswer
 
 // The body of a packed file that is not too long, and then exactly 32 bytes. The rows are unpacked into a buffer of the
 // reader's own.
+#[inline(never)]
 fn read_by_buffer(file: &[u8], r: Resolution, area: &mut [u8]) -> ReadAnswer
     requires file_len_bound { length file.now ≤ packed_most }
     requires screen_bytes_in_bounds { screen_bytes ≤ length area.old }

@@ -334,6 +334,7 @@ fn put_image(file: &[u8], end: usize, made: &[u8], area: &mut [u8]) -> ImgAnswer
 
 // Reads the lines of a file whose header is judged, by way of buffers. All is judged before the first byte of the area
 // is written.
+#[inline(never)]
 fn read_by_buffer(file: &[u8], area: &mut [u8]) -> ImgAnswer
     requires file_value { (header_refusal file.now).number ≡ 0 }
     requires area_bytes_in_bounds { area_bytes ≤ length area.old }

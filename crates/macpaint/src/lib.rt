@@ -76,6 +76,7 @@ fn header_refusal(file: &[u8]) -> Refusal
 }
 
 // Reads the body; no byte may follow it. The rows are unpacked into a buffer of the reader's own.
+#[inline(never)]
 fn read_by_buffer(file: &[u8], plate: &mut [u8]) -> BodyAnswer
     requires { plate_bytes ≤ length plate.old }
     ensures answer { result

@@ -136,6 +136,7 @@ fn put_maps(
 
 // Reads the two maps, where the data map ends at an offset, by way of a buffer. Both are judged before the first byte
 // or word of an area is written.
+#[inline(never)]
 fn read_by_buffer(file: &[u8], end: usize, screen: &mut [u8], palettes: &mut [u16]) -> Refusal
     requires end_value { (end ≡ colour_start file.now) × (end ≤ length file.now) }
     requires screen_bytes_in_bounds { (screen_bytes ≤ length screen.old) × (palette_words ≤ length palettes.old) }

@@ -193,6 +193,7 @@ fn put_screen(made: &[u8], area: &mut [u8])
 
 // The runs of a file whose sections have their lengths, expanded into bytes of the reader's own and then put into the
 // area.
+#[inline(never)]
 fn read_by_buffer(file: &[u8], area: &mut [u8]) -> ReadAnswer
     requires file_len { length file.now ≡ control_start file.now + body_length file.now }
     requires screen_bytes_in_bounds { screen_bytes ≤ length area.old }

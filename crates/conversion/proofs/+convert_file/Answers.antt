@@ -1,5 +1,5 @@
 -- `conversion::convert_file` meets its contract: a longer output is cut, and the call ends since that is shorter.
-use Rattle.std.proofs.Common.{◌≡◌, ◌≤◌, length, take, arith}
+use Rattle.std.proofs.Common.{arith}
 use lib.Seq.{length-take-le}
 use Rattle.picture.specs.Writing.{file_bytes}
 use Rattle.conversion.proofs.Converting.{convert-cut}

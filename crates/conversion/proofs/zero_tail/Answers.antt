@@ -1,5 +1,5 @@
 -- `conversion::zero_tail` meets its contract: the first i bytes are judged.
-use Rattle.std.proofs.Common.{◌≡◌, ◌≤◌, ◌∙◌, arith, rules}
+use Rattle.std.proofs.Common.{◌∙◌, arith, rules}
 use borrow.Author.Tests.{eq-eqb, ne_eqb}
 use Rattle.lists.proofs.All.{all_below-start, all_below-fails, all_below-passes}
 use Rattle.conversion.proofs.zero_tail.Goals as goal
