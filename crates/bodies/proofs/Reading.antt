@@ -1,15 +1,16 @@
 -- Laws of reading a body that stands in a file between a header and what follows it: what each test that the code makes
 -- comes to.
 use mathlib.Core.Path.{◌≡◌, refl, sym, ap, ◌∙◌}
-use mathlib.Core.List.{List}
+use mathlib.Core.List.{List, ◌++◌}
 use Prim.Native.Nat.{ℕ, ◌+◌, ◌-◌, ◌≤◌, ◌<◌}
 use native.Mathlib.Omega.{arith}
-use lib.ListN.{length}
+use lib.ListN.{length, take, drop}
 use borrow.Author.Tests.{lt-ltb, le-ltb, le-leb, eq-eqb, ne_eqb}
 use Rattle.lists.specs.Over.{over}
 use Rattle.lists.proofs.Cond.{cond-eqb}
 use Rattle.outcome.specs.Outcome.{Outcome, accepted, refused, refusal, refuse, bind, Judged}
 use Rattle.outcome.specs.Refusal.{area_too_short, wrong_tail}
+use Rattle.outcome.proofs.Areas.{area-cut as any-area-cut}
 use Rattle.outcome.proofs.Outcome.{judged-bind}
 use Rattle.raster.specs.declared.Raster.{Raster}
 use Rattle.raster.specs.Shape.{bytes}
@@ -117,3 +118,9 @@ module _ (file : List ℕ) (at after : ℕ) (r : Raster) {a : BodyAnswer}
           known.same ∙ sym (ap unpacked_answer ends),
           put ∙ sym (ap (λ (o : Outcome UnpackedBody). body_area o area) ends),
         )
+
+-- ---- a reading into the first n bytes alone, with the later bytes behind them, is one into the whole area
+
+pub area-cut : (o : Outcome UnpackedBody) (area part : List ℕ) (n : ℕ) → length part ≡ length (take n area)
+    → part ≡ body_area o (take n area) → part ++ drop n area ≡ body_area o area
+area-cut o = any-area-cut o (λ (u : UnpackedBody). u.image)

@@ -34,7 +34,7 @@ image_of r list = tabulate (bytes r) (λ o. get_or (get_or list (row_at r o) [])
 unfoldable pub with_row : List ℕ → Raster → ℕ → List ℕ → List ℕ
 with_row s r n row = stores (row_bytes r) (row_offset r n) (λ c. get_or row c 0) s
 
--- the area with the first n rows of a list put into it; all of them make the image (proofs/PutRows.antt, `put_all_lem`)
+-- the area with the first n rows of a list put into it; all of them make the image (proofs/PutRows.antt, `put_all`)
 unfoldable pub put_rows : Raster → ℕ → List (List ℕ) → List ℕ → List ℕ
 put_rows r zero list s = s
 put_rows r (suc n) list s = with_row (put_rows r n list s) r n (get_or list n [])

@@ -1,9 +1,8 @@
 -- `macpaint::read_rows` meets its contract: a longer area is cut to the plate, and the call ends since that is shorter.
 use Rattle.std.proofs.Common.{arith}
 use lib.Seq.{length-take-le}
-use Rattle.outcome.proofs.Areas.{area-cut}
-use Rattle.bodies.specs.Unpacking.{UnpackedBody}
 use Rattle.bodies.specs.Reading.{read_body}
+use Rattle.bodies.proofs.Reading.{area-cut}
 use Rattle.macpaint.specs.Layout.{header_length, after_body}
 use Rattle.macpaint.specs.Plate.{plate_raster, plate_bytes}
 use Rattle.macpaint.proofs.+read_rows.Goals as goal
@@ -18,5 +17,5 @@ returns-then-plate-gt-PLATE_BYTES-clause-plate t c =
     let a = c.args in
     let again = c.read_rows in
     let body = read_body a.file.now header_length after_body plate_raster in
-    area-cut body (λ (u : UnpackedBody). u.image) a.plate.now again.new.plate plate_bytes again.auto.plate
+    area-cut body a.plate.now again.new.plate plate_bytes again.auto.plate
     again.ensures.plate

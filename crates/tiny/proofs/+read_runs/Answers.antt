@@ -1,9 +1,8 @@
 -- `tiny::read_runs` meets its contract: a longer area is cut to the screen, and the call ends since that is shorter.
 use Rattle.std.proofs.Common.{arith}
 use lib.Seq.{length-take-le}
-use Rattle.outcome.proofs.Areas.{area-cut}
+use Rattle.picture.proofs.Reading.{area-cut}
 use Rattle.resolution.specs.Shapes.{screen_bytes}
-use Rattle.picture.specs.Reading.{Reading}
 use Rattle.tiny.specs.Reading.{expanded, read_runs}
 use Rattle.tiny.proofs.+read_runs.Goals as goal
 
@@ -19,5 +18,5 @@ returns-then-area-gt-SCREEN_BYTES-clause-area t c =
     let a = c.args in
     let again = c.read_runs in
     let read = read_runs a.file.now (expanded a.file.now) in
-    area-cut read (λ (q : Reading). q.screen) a.area.now again.new.area screen_bytes again.auto.area
+    area-cut read a.area.now again.new.area screen_bytes again.auto.area
     again.ensures.area

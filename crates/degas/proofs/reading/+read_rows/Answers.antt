@@ -2,9 +2,8 @@
 -- shorter.
 use Rattle.std.proofs.Common.{arith}
 use lib.Seq.{length-take-le}
-use Rattle.outcome.proofs.Areas.{area-cut}
+use Rattle.picture.proofs.Reading.{area-cut}
 use Rattle.resolution.specs.Shapes.{screen_bytes}
-use Rattle.picture.specs.Reading.{Reading}
 use Rattle.degas.specs.Reading.{read_packed}
 use Rattle.degas.proofs.reading.+read_rows.Goals as goal
 
@@ -19,5 +18,5 @@ pub returns-then-area-gt-SCREEN_BYTES-clause-area : goal.returns-then-area-gt-SC
 returns-then-area-gt-SCREEN_BYTES-clause-area t c =
     let a = c.args in
     let again = c.read_rows in
-    area-cut (read_packed a.file.now a.r) (λ (q : Reading). q.screen) a.area.now again.new.area screen_bytes
+    area-cut (read_packed a.file.now a.r) a.area.now again.new.area screen_bytes
     again.auto.area again.ensures.area
