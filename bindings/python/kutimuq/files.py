@@ -326,8 +326,8 @@ READ_LIMIT = 1 + max(traits.longest for traits in KINDS.values())
 # But a scan may have any number of literals of no bytes, and an SPC file that is longer may have lengths that give just
 # its length: these are read whole, or not at all if no floppy holds so much.
 MIB = 1 << 20
-WHOLE_READ_LIMIT = 4 * MIB
-TOO_LONG = f"longer than {WHOLE_READ_LIMIT // MIB} MiB: not judged"
+IMG_READ_LIMIT = 4 * MIB
+IMG_TOO_LONG = f"longer than {IMG_READ_LIMIT // MIB} MiB: not judged"
 
 
 def _is_read_whole(data: bytes) -> bool:
@@ -419,9 +419,9 @@ def take_from(file, limit: int | None = None) -> bytes:
     data = front_of(file, READ_LIMIT)
     if len(data) < READ_LIMIT or not _is_read_whole(data):
         return data
-    data += front_of(file, WHOLE_READ_LIMIT + 1 - READ_LIMIT)
-    if len(data) > WHOLE_READ_LIMIT:
-        raise OSError(EFBIG, TOO_LONG)
+    data += front_of(file, IMG_READ_LIMIT + 1 - READ_LIMIT)
+    if len(data) > IMG_READ_LIMIT:
+        raise OSError(EFBIG, IMG_TOO_LONG)
     return data
 
 

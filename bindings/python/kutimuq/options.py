@@ -258,7 +258,7 @@ def parse_last(text: str) -> int:
 KIND = Option(
     ("--kind",),
     "KIND",
-    "degas, neo, tiny, mac, img, spu or spc; default: found by content, then by extension",
+    "degas, neo, tiny, mac or img, or spu or spc; default: found by content, then by extension",
     choice(list(KIND_NAMES)),
 )
 QUIET = Option(("-q", "--quiet"), None, "do not say which kind was found")

@@ -277,19 +277,19 @@ class LongFiles(Case):
         self.path = Path(folder.name, "LONG.IMG")
 
     def test_literals_of_no_bytes_make_a_scan_of_any_length(self):
-        for length in (files.READ_LIMIT - 1, files.READ_LIMIT, files.READ_LIMIT + 1, files.WHOLE_READ_LIMIT):
+        for length in (files.READ_LIMIT - 1, files.READ_LIMIT, files.READ_LIMIT + 1, files.IMG_READ_LIMIT):
             empty = literal() * ((length - len(GOOD)) // 2)
             self.path.write_bytes(file_of(empty, LINES, BLACK_LINE))
             self.assertEqual(kutimuq.open_img(self.path), Img(BITMAP, 20, 4))
             self.path.write_bytes(file_of(empty, LINES, BLACK_LINE, b"\0"))
-            if self.path.stat().st_size <= files.WHOLE_READ_LIMIT:
+            if self.path.stat().st_size <= files.IMG_READ_LIMIT:
                 self.assertRefused(8, len(GOOD) + len(empty), kutimuq.open_img, self.path)
 
     def test_what_no_floppy_holds(self):
-        self.path.write_bytes(file_of(literal() * (files.WHOLE_READ_LIMIT // 2)))
+        self.path.write_bytes(file_of(literal() * (files.IMG_READ_LIMIT // 2)))
         self.assertRaisesRegex(OSError, "longer than 4 MiB: not judged", kutimuq.open_img, self.path)
         done = command("check", self.path)
-        self.assertEqual(done.stdout.decode(), f"{self.path}: not read: {files.TOO_LONG}\n0 accepted, 0 refused\n")
+        self.assertEqual(done.stdout.decode(), f"{self.path}: not read: {files.IMG_TOO_LONG}\n0 accepted, 0 refused\n")
         self.assertEqual((done.stderr, done.returncode), (b"kutimuq: 1 not read\n", 2))
 
     def test_a_long_file_with_another_header_is_not_read_whole(self):
@@ -378,9 +378,9 @@ class Commands(Folder):
     def test_help_and_man_page(self):
         self.assertIn(b"GEM IMG scans", self.output("--help"))
         for name in ("check", "summary", "png", "pbm"):
-            self.assertIn(b"degas, neo, tiny, mac, img, spu or spc", self.output(name, "--help"))
+            self.assertIn(b"degas, neo, tiny, mac or img", self.output(name, "--help"))
         page = (PYTHON / "man" / "kutimuq.1").read_text()
-        for said in ("degas, neo, tiny, mac, img, spu or spc", "GEM IMG", ".img", f"21 {OUTSIDE}", f"22 {WRONG_RUN}"):
+        for said in ("degas, neo, tiny, mac or img", "GEM IMG", ".img", f"21 {OUTSIDE}", f"22 {WRONG_RUN}"):
             self.assertIn(said, page)
 
 

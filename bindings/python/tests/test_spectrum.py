@@ -519,13 +519,13 @@ class LongFiles(Case):
         self.assertLess(files.SPC_LONGEST, files.READ_LIMIT)
 
     def test_lengths_that_give_a_long_file(self):
-        for length in (files.READ_LIMIT, files.READ_LIMIT + 1, files.WHOLE_READ_LIMIT):
+        for length in (files.READ_LIMIT, files.READ_LIMIT + 1, files.IMG_READ_LIMIT):
             self.path.write_bytes(spc(ZEROS + bytes(length - HEADER - len(ZEROS)), b""))
             self.assertEqual(self.path.stat().st_size, length)
             self.assertRefused(13, 0, kutimuq.open_spectrum, self.path)
             with open(self.path, "ab") as file:
                 file.write(b"\0")
-            if length < files.WHOLE_READ_LIMIT:
+            if length < files.IMG_READ_LIMIT:
                 self.assertRefused(3, 0, kutimuq.open_spectrum, self.path)
         self.assertRaisesRegex(OSError, "longer than 4 MiB: not judged", kutimuq.open_spectrum, self.path)
 
@@ -680,7 +680,7 @@ class Commands(Folder):
         self.assertEqual(done.stderr.decode(), f"kutimuq: {self.folder}/A.SPS: {said}")
 
     def test_help_and_man_page(self):
-        kinds = "degas, neo, tiny, mac, img, spu or spc"
+        kinds = "degas, neo, tiny, mac or img, or spu or spc"
         self.assertIn(b"Spectrum 512 pictures", self.output("--help"))
         for name in ("check", "summary", "png", "colours", "palette", "pixel"):
             self.assertIn(kinds.encode(), self.output(name, "--help"))
