@@ -109,7 +109,7 @@ fn convert_file(to: Conversion, file: &[u8], out: &mut [u8]) -> WriteAnswer
     ensures output { out.new
         ≡ write_output (convert to file.now (length out.old)) out.old }
 {
-    // The call of itself keeps convert_by_screen's screen out of the caller's stack frame.
+    // convert_by_screen is not inlined: its screen stays out of the caller's stack frame.
     if FILE_BYTES < out.len() {
         return convert_file(to, file, &mut out[..FILE_BYTES]);
     }

@@ -92,7 +92,7 @@ fn read_rows(file: &[u8], r: Resolution, area: &mut [u8]) -> ReadAnswer
     ensures answer { result ≡ read_answer (read_packed file.now r) }
     ensures area { area.new ≡ read_area (read_packed file.now r) area.old }
 {
-    // The call of itself keeps read_by_buffer's buffer out of the caller's stack frame.
+    // read_by_buffer is not inlined: its buffer stays out of the caller's stack frame.
     if SCREEN_BYTES < area.len() {
         return read_rows(file, r, &mut area[..SCREEN_BYTES]);
     }

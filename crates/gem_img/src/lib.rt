@@ -357,7 +357,7 @@ fn read_lines(file: &[u8], area: &mut [u8]) -> ImgAnswer
     ensures answer { result ≡ img_answer (read_lines file.now) }
     ensures area { area.new ≡ img_area (read_lines file.now) area.old }
 {
-    // The call of itself keeps read_by_buffer's buffers out of the caller's stack frame.
+    // read_by_buffer is not inlined: its buffers stay out of the caller's stack frame.
     if AREA_BYTES < area.len() {
         return read_lines(file, &mut area[..AREA_BYTES]);
     }

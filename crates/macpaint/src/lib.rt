@@ -103,7 +103,7 @@ fn read_rows(file: &[u8], plate: &mut [u8]) -> BodyAnswer
     ensures plate { plate.new
         ≡ body_area (read_body file.now header_length after_body plate_raster) plate.old }
 {
-    // The call of itself keeps read_by_buffer's buffer out of the caller's stack frame.
+    // read_by_buffer is not inlined: its buffer stays out of the caller's stack frame.
     if PLATE_BYTES < plate.len() {
         return read_rows(file, &mut plate[..PLATE_BYTES]);
     }

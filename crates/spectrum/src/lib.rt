@@ -162,7 +162,7 @@ fn read_maps(file: &[u8], end: usize, screen: &mut [u8], palettes: &mut [u16]) -
     ensures palettes { palettes.new
         ≡ palette_area (read_maps file.now) palettes.old }
 {
-    // The call of itself keeps read_by_buffer's buffer out of the caller's stack frame.
+    // read_by_buffer is not inlined: its buffer stays out of the caller's stack frame.
     if SCREEN_BYTES < screen.len() {
         return read_maps(file, end, &mut screen[..SCREEN_BYTES], palettes);
     }

@@ -226,7 +226,7 @@ fn read_runs(file: &[u8], area: &mut [u8]) -> ReadAnswer
     ensures area { area.new
         ≡ read_area (read_runs file.now (expanded file.now)) area.old }
 {
-    // The call of itself keeps read_by_buffer's bytes out of the caller's stack frame.
+    // read_by_buffer is not inlined: its bytes stay out of the caller's stack frame.
     if SCREEN_BYTES < area.len() {
         return read_runs(file, &mut area[..SCREEN_BYTES]);
     }
