@@ -12,7 +12,7 @@ use lib.Arith.{digits_mod}
 use borrow.Author.Tests.{le-leb, lt-leb}
 use Rattle.lists.specs.Bytes.{Bytes}
 use Rattle.lists.specs.Tabulate.{tabulate}
-use Rattle.lists.proofs.Tabulate.{length-tabulate, get_d_tabulate, tabulate-ext, tabulate-le}
+use Rattle.lists.proofs.Tabulate.{length-tabulate, get_or-tabulate, tabulate-ext, tabulate-le}
 use Rattle.outcome.specs.Outcome.{accepted, refuse}
 use Rattle.outcome.specs.Refusal.{no_packed_body}
 use Rattle.packbits.specs.Row.{width_out_of_range}
@@ -108,7 +108,7 @@ alternating-row : (r : Raster) (n : ℕ) → n < rows r → plane_row (alternati
 unfolding plane_row alternating
 alternating-row r n h =
     tabulate-ext (row_bytes r) _ (λ c. c % 2)
-    (λ c k. get_d_tabulate (bytes r) (λ o. o % 2) (row_offset r n c) 0 (row_within r n c h k) ∙ row_offset-parity r n c)
+    (λ c k. get_or-tabulate (bytes r) (λ o. o % 2) (row_offset r n c) 0 (row_within r n c h k) ∙ row_offset-parity r n c)
 
 alternating-separate : (r : Raster) (n : ℕ) → n < length (plane_rows (alternating r) r)
     → Separate (get_or (plane_rows (alternating r) r) n [])

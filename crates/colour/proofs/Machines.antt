@@ -5,7 +5,7 @@ use native.Mathlib.Omega.{arith}
 use Prim.Native.Nat.{ℕ, ◌*◌, ◌/◌, ◌%◌, ◌≤◌, ◌<◌}
 use lib.ListN.{get_or}
 use Rattle.lists.specs.Tabulate.{tabulate}
-use Rattle.lists.proofs.Tabulate.{get_d_tabulate}
+use Rattle.lists.proofs.Tabulate.{get_or-tabulate}
 use Rattle.colour.specs.declared.ChosenMachine.TheVariants.{Known}
 use Rattle.colour.specs.declared.Machine.{Machine}
 use Rattle.colour.specs.declared.Machine.TheVariants.{St, Ste}
@@ -27,7 +27,7 @@ levels-rule = refl
 -- and cited at one of them
 pub stretch-rule : (v : ℕ) → v < 8 → stretch v ≡ 255 * v / 7
 unfolding stretch
-stretch-rule v h = ap (λ (l : List ℕ). get_or l v 0) levels-rule ∙ get_d_tabulate 8 (λ v. 255 * v / 7) v 0 h
+stretch-rule v h = ap (λ (l : List ℕ). get_or l v 0) levels-rule ∙ get_or-tabulate 8 (λ v. 255 * v / 7) v 0 h
 
 -- what a nibble shows on an ST, without the list
 pub st-rule : (n : ℕ) → nibble_shown St n ≡ 255 * (n % 8) / 7

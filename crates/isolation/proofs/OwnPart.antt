@@ -9,7 +9,7 @@ use lib.ListN.{length, get_or, set, length-set}
 use lib.Seq.{get_or-set_same, get_or-set_other, set-get_or, ext_get_or}
 use borrow.Author.Tests.{eq-eqb, ne_eqb, eqb-true, eqb-false}
 use Rattle.lists.specs.Tabulate.{tabulate}
-use Rattle.lists.proofs.Tabulate.{length-tabulate, get_d_tabulate}
+use Rattle.lists.proofs.Tabulate.{length-tabulate, get_or-tabulate}
 use Rattle.legend.specs.declared.Legend.{Legend}
 use Rattle.legend.specs.Entries.{entries, free, owns, owner_of, class_of, confidence_of, new_legend, with_entry, WholeLegend}
 
@@ -33,7 +33,7 @@ get_or-masked : (party : ℕ) (owners xs : List ℕ) (v : ℕ) → v < entries
     → get_or (masked party owners xs) v 0 ≡ cond (eqb (get_or owners v 0) party) (get_or xs v 0) 0
 unfolding masked
 get_or-masked party owners xs v h =
-    get_d_tabulate entries (λ v. cond (eqb (get_or owners v 0) party) (get_or xs v 0) 0) v 0 h
+    get_or-tabulate entries (λ v. cond (eqb (get_or owners v 0) party) (get_or xs v 0) 0) v 0 h
 
 -- an entry is written: what the party sees of it is the new element where the new owner is the party, else 0
 masked-set : (party : ℕ) (owners xs : List ℕ) (v owner x : ℕ) → v < entries → length owners ≡ entries

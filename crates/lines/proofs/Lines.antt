@@ -16,7 +16,7 @@ use Rattle.lists.proofs.All.{all_below-each, each-all_below}
 use Rattle.lists.proofs.Digits.{from_bits-ext, bit-from_bits, from_bits-bits, sum-digits, sum-digit}
 use Rattle.lists.proofs.Over.{length_over, get_or-over-in, length-over_at, get_or-over_at-before, get_or-over_at-in, over_at-ext}
 use Rattle.lists.proofs.Sum.{sum-ext}
-use Rattle.lists.proofs.Tabulate.{length-tabulate, get_d_tabulate, tabulate-ext, tabulate-take}
+use Rattle.lists.proofs.Tabulate.{length-tabulate, get_or-tabulate, tabulate-ext, tabulate-take}
 use Rattle.words.specs.Word.{word_at, word_bytes}
 use Rattle.words.proofs.Word.{word_at-lt, word_bytes-word_at}
 use Rattle.outcome.specs.Outcome.{Outcome, accepted}
@@ -96,7 +96,7 @@ module _ (s : List ℕ) (r : Resolution) (y : ℕ) (line : List ℕ) (long : scr
       ap (λ (o : ℕ). get_or (over_at (y * n) t s) o 0) (word-offset r y g p h)
       ∙ get_or-over_at-in (y * n) t s (line-room s r y line long hy) i 0
       (omega (arith, length-tabulate n (line_byte r line)))
-      ∙ get_d_tabulate n (line_byte r line) i 0 l
+      ∙ get_or-tabulate n (line_byte r line) i 0 l
       ∙ ap₂ (λ (a b : ℕ). get_or (word_bytes (word_of line a b)) (i % 2) 0) e f
       ∙ ap (λ (m : ℕ). get_or (word_bytes (word_of line g p)) m 0) (digits_mod (g * P + p) hh)
 

@@ -11,7 +11,7 @@ use Rattle.lists.specs.Bytes.{Bytes}
 use Rattle.lists.specs.Sum.{sum}
 use Rattle.lists.proofs.Digits.{sum_lt}
 use Rattle.lists.proofs.Sum.{sum-ext}
-use Rattle.lists.proofs.Tabulate.{length-tabulate, get_d_tabulate}
+use Rattle.lists.proofs.Tabulate.{length-tabulate, get_or-tabulate}
 use Rattle.words.specs.Word.{word_at}
 use Rattle.raster.specs.Offsets.{word_offset}
 use Rattle.resolution.specs.declared.Resolution.{Resolution}
@@ -80,4 +80,4 @@ length-scan_line s r y = length-tabulate (width_of r) (λ x. register s r x y)
 pub get_or-scan_line : (s : List ℕ) (r : Resolution) (x y : ℕ) → x < width_of r
     → get_or (scan_line s r y) x 0 ≡ register s r x y
 unfolding scan_line
-get_or-scan_line s r x y h = get_d_tabulate (width_of r) (λ x. register s r x y) x 0 h
+get_or-scan_line s r x y h = get_or-tabulate (width_of r) (λ x. register s r x y) x 0 h

@@ -21,7 +21,7 @@ use Rattle.lists.proofs.All.{all_below-each, each-all_below}
 use Rattle.lists.proofs.Flatten.{length-flatten, flatten-turn}
 use Rattle.lists.proofs.Over.{length_over, get_or-over-in}
 use Rattle.lists.proofs.Parts.{tail-part}
-use Rattle.lists.proofs.Tabulate.{length-tabulate, get_d_tabulate, map-tabulate}
+use Rattle.lists.proofs.Tabulate.{length-tabulate, get_or-tabulate, map-tabulate}
 use Rattle.lists.proofs.Wide.{wide-tabulate, get_or-flatten}
 use Rattle.outcome.specs.Outcome.{accepted}
 use Rattle.outcome.specs.Refusal.{area_too_short, out_of_range}
@@ -74,7 +74,7 @@ lines-turn s r y n d o t h e is part =
     (length-first_lines s r y (omega arith) ∙ sym e)
     (part
     ∙ ap (λ (j : ℕ). over (scan_line s r j) (take (length o - n) (drop n o)))
-    (sym (get_d_tabulate (height_of r) (λ y. y) y 0 h)))
+    (sym (get_or-tabulate (height_of r) (λ y. y) y 0 h)))
 
 -- ---- the loop of screen in
 
@@ -123,7 +123,7 @@ get_or-screen_registers s r x y hx hy =
     let inside : y < length lines = omega (arith, length-tabulate h (scan_line s r)) in
     ap (λ (l : List (List ℕ)). get_or (flatten l) (y * width_of r + x) 0) (map-tabulate (scan_line s r) h (λ y. y))
     ∙ (get_or-flatten (width_of r) lines wide y x inside hx).1
-    ∙ ap (λ (l : List ℕ). get_or l x 0) (get_d_tabulate h (scan_line s r) y [] hy)
+    ∙ ap (λ (l : List ℕ). get_or l x 0) (get_or-tabulate h (scan_line s r) y [] hy)
     ∙ get_or-scan_line s r x y hx
 
 length-screen_registers : (s : List ℕ) (r : Resolution) → length (screen_registers s r) ≡ pixels_of r

@@ -15,7 +15,7 @@ use borrow.Author.Tests.{le-leb, lt-leb}
 use Rattle.lists.specs.Digits.{from_bits}
 use Rattle.lists.specs.Tabulate.{tabulate}
 use Rattle.lists.proofs.Digits.{from_bits-ext, from_bits-bits, digit-above, digit-below}
-use Rattle.lists.proofs.Tabulate.{get_d_tabulate}
+use Rattle.lists.proofs.Tabulate.{get_or-tabulate}
 use Rattle.lines.specs.Blocks.{exchange, fours, twos, ones, turn}
 use Rattle.lines.specs.Columns.{byte_of}
 
@@ -157,9 +157,9 @@ module _ (s mask x : ℕ) where
 module _ (s mask : ℕ) (sound : tabulate 64 (fault s mask) ≡ tabulate 64 (λ n. 0)) where
   no-fault : (n : ℕ) → n < 64 → fault s mask n ≡ 0
   no-fault n h =
-      sym (get_d_tabulate 64 (fault s mask) n 0 h)
+      sym (get_or-tabulate 64 (fault s mask) n 0 h)
       ∙ ap (λ (l : List ℕ). get_or l n 0) sound
-      ∙ get_d_tabulate 64 (λ (k : ℕ). 0) n 0 h
+      ∙ get_or-tabulate 64 (λ (k : ℕ). 0) n 0 h
 
   source-lt : (n : ℕ) → n < 64 → source s mask n < 64
   source-lt n h = omega (arith, no-fault n h)
@@ -192,7 +192,7 @@ origins = refl
 
 origin-mirrored : (n : ℕ) → n < 64 → origin n ≡ mirrored n
 origin-mirrored n h =
-    sym (get_d_tabulate 64 origin n 0 h) ∙ ap (λ (l : List ℕ). get_or l n 0) origins ∙ get_d_tabulate 64 mirrored n 0 h
+    sym (get_or-tabulate 64 origin n 0 h) ∙ ap (λ (l : List ℕ). get_or l n 0) origins ∙ get_or-tabulate 64 mirrored n 0 h
 
 bit-turn : (x n : ℕ) → n < 64 → bit (turn x) n ≡ bit x (mirrored n)
 unfolding turn

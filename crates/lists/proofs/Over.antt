@@ -10,7 +10,7 @@ use lib.Seq.{drop-drop, take-add, take_all, take_at, drop_at, length-take-le, ge
 use lib.Seq.{ext_get_or, paste, paste-suc, drop-append-add}
 use Rattle.lists.specs.Over.{over, over_at}
 use Rattle.lists.specs.Tabulate.{tabulate}
-use Rattle.lists.proofs.Tabulate.{length-tabulate, get_d_tabulate, tabulate-ext, tabulate-take}
+use Rattle.lists.proofs.Tabulate.{length-tabulate, get_or-tabulate, tabulate-ext, tabulate-take}
 
 module _ {A : Type 0} where
   -- ---- over the front
@@ -72,7 +72,7 @@ module _ {A : Type 0} where
       → set out (at + k) v ≡ over_at at (take (k + 1) (tabulate n f)) d
   over_at-tabulate-turn at n f d out k v hn hd is e =
       over_at-turn at (tabulate n f) d out k v v (omega (arith, length-tabulate n f)) hd is
-      (e ∙ sym (get_d_tabulate n f k v hn))
+      (e ∙ sym (get_or-tabulate n f k v hn))
 
   pub over_at-tabulate-done : (at n : ℕ) (f : ℕ → A) (d out : List A) (k : ℕ) → n ≤ k
       → out ≡ over_at at (take k (tabulate n f)) d → out ≡ over_at at (tabulate n f) d
@@ -161,7 +161,7 @@ module _ {A : Type 0} where
       → set out k v ≡ over (take (k + 1) (tabulate n f)) d
   tabulate-turn n f d out k v hn hd is e =
       over-turn (tabulate n f) d out k v v (omega (arith, length-tabulate n f)) hd is
-      (e ∙ sym (get_d_tabulate n f k v hn))
+      (e ∙ sym (get_or-tabulate n f k v hn))
 
   pub tabulate-done : (n : ℕ) (f : ℕ → A) (d out : List A) (k : ℕ) → n ≤ k → length d ≤ n
       → out ≡ over (take k (tabulate n f)) d → out ≡ tabulate n f
@@ -190,7 +190,7 @@ module _ {A : Type 0} where
       let z : A = f 0 in
       let t : tabulate m w ≡ take m (drop k s) =
       tabulate-ext m w (λ i. get_or (drop k s) i z)
-      (λ i b. e i b ∙ sym (get_d_tabulate n f (k + i) z (omega arith)) ∙ sym (get_or-drop k s i z))
+      (λ i b. e i b ∙ sym (get_or-tabulate n f (k + i) z (omega arith)) ∙ sym (get_or-drop k s i z))
       ∙ tabulate-take m (drop k s) z (omega (arith, length-drop k s))
       in
       over-piece s d out (tabulate m w) k (omega arith) is (t ∙ ap (λ (j : ℕ). take j (drop k s)) (sym p))
@@ -221,7 +221,7 @@ over_at-ext at n f d e room len before mid past =
         let q : o ≡ at + j = omega arith in
         ap (λ (m : ℕ). get_or e m 0) q
         ∙ mid j (omega arith)
-        ∙ sym (get_d_tabulate n f j 0 (omega arith))
+        ∙ sym (get_or-tabulate n f j 0 (omega arith))
         ∙ sym (get_or-over_at-in at t d fit j 0 (omega (arith, size)))
         ∙ ap (λ (m : ℕ). get_or (over_at at t d) m 0) (sym q)
     go o (no h) (no k) = past o (omega arith) ∙ sym (get_or-over_at-past at t d fit o 0 (omega (arith, size)))

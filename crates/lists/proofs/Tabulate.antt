@@ -13,11 +13,11 @@ module _ {A : Type 0} where
   length-tabulate zero f = refl
   length-tabulate (suc n) f = ap suc (length-tabulate n (λ k. f (suc k)))
 
-  pub get_d_tabulate : (n : ℕ) (f : ℕ → A) (k : ℕ) (d : A) → k < n → get_or (tabulate n f) k d ≡ f k
+  pub get_or-tabulate : (n : ℕ) (f : ℕ → A) (k : ℕ) (d : A) → k < n → get_or (tabulate n f) k d ≡ f k
   unfolding tabulate
-  get_d_tabulate zero f k d h = absurd (not-suc-le-zero h)
-  get_d_tabulate (suc n) f zero d h = refl
-  get_d_tabulate (suc n) f (suc k) d h = get_d_tabulate n (λ k. f (suc k)) k d (le_of_suc-le-suc h)
+  get_or-tabulate zero f k d h = absurd (not-suc-le-zero h)
+  get_or-tabulate (suc n) f zero d h = refl
+  get_or-tabulate (suc n) f (suc k) d h = get_or-tabulate n (λ k. f (suc k)) k d (le_of_suc-le-suc h)
 
   -- rules that agree below n make the same list
   pub tabulate-ext : (n : ℕ) (f g : ℕ → A) → ((k : ℕ) → k < n → f k ≡ g k) → tabulate n f ≡ tabulate n g

@@ -6,7 +6,7 @@ use Prim.Native.Nat.{ℕ, ◌+◌, ◌*◌, ◌<◌}
 use native.Mathlib.Omega.{arith}
 use lib.ListN.{length, get_or, replicate, get_or-replicate}
 use Rattle.lists.specs.Tabulate.{tabulate}
-use Rattle.lists.proofs.Tabulate.{length-tabulate, get_d_tabulate, tabulate-ext, tabulate-get_or}
+use Rattle.lists.proofs.Tabulate.{length-tabulate, get_or-tabulate, tabulate-ext, tabulate-get_or}
 use Rattle.words.specs.Word.{words_at, words_bytes}
 use Rattle.words.proofs.Word.{length-words_bytes, words_back}
 use Rattle.picture.specs.declared.Picture.{Picture}
@@ -29,8 +29,8 @@ module _ (file : List ℕ) (number palette : ℕ) where
       table : (i : ℕ) → i < 4 → length (get_or (tail_at file at) i (record { words = [] })).words ≡ 4
       table i h =
           ap (λ (t : Table). length t.words)
-          (get_d_tabulate 4 (λ i. record { words = get_or (tables_at file at) i [] }) i (record { words = [] }) h)
-          ∙ ap length (get_d_tabulate 4 (λ i. words_at 4 file (at + i * 8)) i [] h)
+          (get_or-tabulate 4 (λ i. record { words = get_or (tables_at file at) i [] }) i (record { words = [] }) h)
+          ∙ ap length (get_or-tabulate 4 (λ i. words_at 4 file (at + i * 8)) i [] h)
           ∙ length-tabulate 4 _
 
   pub whole-without-tail : WholePicture (without_tail number (words_at 16 file palette))
@@ -40,7 +40,7 @@ module _ (file : List ℕ) (number palette : ℕ) where
       table : (i : ℕ) → i < 4 → length (get_or (held zero_tables) i (record { words = [] })).words ≡ 4
       table i h =
           ap (λ (t : Table). length t.words)
-          (get_d_tabulate 4 (λ i. record { words = get_or zero_tables i [] }) i (record { words = [] }) h)
+          (get_or-tabulate 4 (λ i. record { words = get_or zero_tables i [] }) i (record { words = [] }) h)
           ∙ ap length (get_or-replicate 4 i (replicate 4 0) [] h)
 
 -- ---- the bytes of a whole one
@@ -64,7 +64,7 @@ module _ (p : Picture) (whole : WholePicture p) where
   unfolding tables_of
   four-words i h =
       let l : i < 4 = omega (arith, length-tables) in
-      ap length (get_d_tabulate 4 (λ i. (table i).words) i [] l) ∙ whole.words i l
+      ap length (get_or-tabulate 4 (λ i. (table i).words) i [] l) ∙ whole.words i l
 
   pub length-tail : length (tail_bytes p.tail) ≡ 32
   length-tail = omega (arith, length-tables_bytes (tables_of p.tail) four-words, length-tables)
@@ -75,7 +75,7 @@ module _ (p : Picture) (whole : WholePicture p) where
   table_at before at i l h =
       ap (λ (s : List ℕ). words_at 4 (before ++ s) (at + i * 8)) (sym (append-nil (tail_bytes p.tail)))
       ∙ table-back before (tables_of p.tail) [] at i four-words l (omega (arith, length-tables))
-      ∙ get_d_tabulate 4 (λ i. (table i).words) i [] h
+      ∙ get_or-tabulate 4 (λ i. (table i).words) i [] h
 
   -- the tail, where it is a file's end
   pub tail-back : (before : List ℕ) (at : ℕ) → length before ≡ at → tail_at (before ++ tail_bytes p.tail) at ≡ p.tail
@@ -84,6 +84,6 @@ module _ (p : Picture) (whole : WholePicture p) where
       tabulate-ext 4 _ table
       (λ i h.
       ap {B = Table} (λ (ws : List ℕ). record { words = ws })
-      (get_d_tabulate 4 (λ i. words_at 4 (before ++ tail_bytes p.tail) (at + i * 8)) i [] h ∙ table_at before at i l h))
+      (get_or-tabulate 4 (λ i. words_at 4 (before ++ tail_bytes p.tail) (at + i * 8)) i [] h ∙ table_at before at i l h))
       ∙ ap (λ (m : ℕ). tabulate m table) (sym whole.four)
       ∙ tabulate-get_or p.tail (record { words = [] })

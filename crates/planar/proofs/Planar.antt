@@ -8,7 +8,7 @@ use lib.Arith.{digits_lt}
 use lib.ListN.{length, get_or, drop, length-drop}
 use lib.Seq.{length-take-le, get_or-take, get_or-drop}
 use Rattle.lists.specs.Tabulate.{tabulate}
-use Rattle.lists.proofs.Tabulate.{length-tabulate, get_d_tabulate, tabulate-ext}
+use Rattle.lists.proofs.Tabulate.{length-tabulate, get_or-tabulate, tabulate-ext}
 use Rattle.raster.specs.declared.Raster.{Raster}
 use Rattle.raster.specs.Shape.{row_bytes, rows, bytes}
 use Rattle.raster.specs.PlaneRows.{row_at, column_at, plane_row, plane_rows, image_of}
@@ -50,7 +50,7 @@ spaced-planar r list =
     ap (λ (i : ℕ). get_or list (i + c) 0) (planar-start r n)
     ∙ sym (get_or-drop (place_of r n * row_bytes r) list c 0)
     ∙ sym (get_or-take (row_bytes r) (drop (place_of r n * row_bytes r) list) c 0 (column_at-lt r o h))
-    ∙ sym (ap (λ (row : List ℕ). get_or row c 0) (get_d_tabulate (rows r) (planar_row r list) n [] (row_at-lt r o h))))
+    ∙ sym (ap (λ (row : List ℕ). get_or row c 0) (get_or-tabulate (rows r) (planar_row r list) n [] (row_at-lt r o h))))
 
 -- ---- the image
 
@@ -71,7 +71,7 @@ module _ (r : Raster) (list : List ℕ) (full : bytes r ≤ length list) where
   row-of-planes n h =
       let all : List (List ℕ) = tabulate (rows r) (planar_row r list) in
       let row : (m : ℕ) → m < rows r → get_or all m [] ≡ planar_row r list m =
-      λ m k. get_d_tabulate (rows r) (planar_row r list) m [] k in
+      λ m k. get_or-tabulate (rows r) (planar_row r list) m [] k in
       let image : plane_rows (image_of r all) r ≡ all =
       rows-of-image r all (length-tabulate (rows r) (planar_row r list))
       (λ m k. ap length (row m k) ∙ length-planar_row m k) in

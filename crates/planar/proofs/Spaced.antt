@@ -11,7 +11,7 @@ use lib.Dec.{eqb}
 use lib.ListN.{length, get_or, take, drop}
 use lib.Seq.{get_or-drop}
 use Rattle.lists.specs.Tabulate.{tabulate}
-use Rattle.lists.proofs.Tabulate.{get_d_tabulate, tabulate-ext, tabulate-take}
+use Rattle.lists.proofs.Tabulate.{get_or-tabulate, tabulate-ext, tabulate-take}
 use Rattle.raster.specs.declared.Raster.{Raster}
 use Rattle.raster.specs.Shape.{rows, line_bytes, bytes}
 use Rattle.raster.specs.PlaneRows.{row_at, column_at, image_of, with_row, put_rows}
@@ -144,7 +144,7 @@ unfolding image_of spaced_image
 image-spaced r step gap list =
     tabulate-ext (bytes r) _ (spaced_byte r step gap list)
     (λ o h. ap (λ (row : List ℕ). get_or row (column_at r o) 0)
-    (get_d_tabulate (rows r) (λ n. drop (start_at r.planes step gap n) list) (row_at r o) [] (row_at-lt r o h))
+    (get_or-tabulate (rows r) (λ n. drop (start_at r.planes step gap n) list) (row_at r o) [] (row_at-lt r o h))
     ∙ get_or-drop (start_at r.planes step gap (row_at r o)) list (column_at r o) 0)
 
 -- a turn of the loop that puts each of them
@@ -157,6 +157,6 @@ tails-turn r step gap list area₀ area n at part h place is e =
     let tail : part ≡ get_or (row_tails r step gap list) n [] =
     e
     ∙ ap (λ (i : ℕ). drop i list) place
-    ∙ sym (get_d_tabulate (rows r) (λ n. drop (start_at r.planes step gap n) list) n [] h) in
+    ∙ sym (get_or-tabulate (rows r) (λ n. drop (start_at r.planes step gap n) list) n [] h) in
     ap₂ (λ (a row : List ℕ). with_row a r n row) is tail
     ∙ ap (λ (k : ℕ). put_rows r k (row_tails r step gap list) area₀) (sym (add-one n))

@@ -12,7 +12,7 @@ use Rattle.lists.specs.Over.{over}
 use Rattle.lists.proofs.Over.{get_or-over-in, tabulate-piece}
 use Rattle.lists.proofs.Parts.{over-put, over-append}
 use Rattle.lists.specs.Tabulate.{tabulate}
-use Rattle.lists.proofs.Tabulate.{length-tabulate, get_d_tabulate, tabulate-ext}
+use Rattle.lists.proofs.Tabulate.{length-tabulate, get_or-tabulate, tabulate-ext}
 use Rattle.raster.specs.Joined.{interleaved, interleaved_line}
 
 pub length-interleaved : (s : List ℕ) (at planes width n : ℕ) → length (interleaved_line s at planes width n) ≡ n
@@ -88,7 +88,7 @@ module _ (s : List ℕ) (at e : ℕ) (half₀ : List ℕ) where
       ap (λ (i : ℕ). get_or (over (first ++ second) half₀) i 0) none
       ∙ get_or-over-in (first ++ second) half₀ u 0 (omega (arith, length-append first second))
       ∙ get_or-append first second 0 u (omega arith)
-      ∙ get_d_tabulate (e * 16) (λ x. get_or s (at + interleaved 2 (e * 16) x) 0) u 0 h
+      ∙ get_or-tabulate (e * 16) (λ x. get_or s (at + interleaved 2 (e * 16) x) 0) u 0 h
       ∙ ap (λ (i : ℕ). get_or s (at + i) 0) same
   pair-byte (suc zero) u hq h =
       let a : length first ≡ e * 16 = length-interleaved s at 2 (e * 16) (e * 16) in
@@ -99,7 +99,7 @@ module _ (s : List ℕ) (at e : ℕ) (half₀ : List ℕ) where
       ap (λ (i : ℕ). get_or (over (first ++ second) half₀) i 0) one
       ∙ get_or-over-in (first ++ second) half₀ (length first + u) 0 (omega (arith, length-append first second))
       ∙ get_or-append-add first second u 0
-      ∙ get_d_tabulate (e * 16) (λ x. get_or s (at + e * 8 + interleaved 2 (e * 16) x) 0) u 0 h
+      ∙ get_or-tabulate (e * 16) (λ x. get_or s (at + e * 8 + interleaved 2 (e * 16) x) 0) u 0 h
       ∙ ap (λ (i : ℕ). get_or s i 0) same
   pair-byte (suc (suc q)) u hq h = absurd (omega arith)
 

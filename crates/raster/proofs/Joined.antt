@@ -12,7 +12,7 @@ use lib.ListN.{length, get_or, take, drop, length-drop}
 use lib.Seq.{get_or-take, get_or-drop}
 use Rattle.lists.specs.Tabulate.{tabulate}
 use Rattle.lists.specs.Wide.{Wide}
-use Rattle.lists.proofs.Tabulate.{get_d_tabulate, tabulate-ext, tabulate-take}
+use Rattle.lists.proofs.Tabulate.{get_or-tabulate, tabulate-ext, tabulate-take}
 use Rattle.lists.proofs.Wide.{get_or-flatten}
 use Rattle.raster.specs.declared.Raster.{Raster}
 use Rattle.raster.specs.Shape.{row_bytes, rows, line_bytes, bytes}
@@ -139,7 +139,7 @@ unfolding image_of joined_image
 image-joined r list =
     tabulate-ext (bytes r) _ (joined_byte r list)
     (λ o h. ap (λ (row : List ℕ). get_or row (column_at r o) 0)
-    (get_d_tabulate (rows r) (λ n. drop (n * row_bytes r) list) (row_at r o) [] (row_at-lt r o h))
+    (get_or-tabulate (rows r) (λ n. drop (n * row_bytes r) list) (row_at r o) [] (row_at-lt r o h))
     ∙ get_or-drop (row_at r o * row_bytes r) list (column_at r o) 0)
 
 -- a turn of the loop that puts each of them
@@ -151,7 +151,7 @@ tails-turn r list area₀ area n at part h place is e =
     let tail : part ≡ get_or (row_tails r list) n [] =
     e
     ∙ ap (λ (i : ℕ). drop i list) place
-    ∙ sym (get_d_tabulate (rows r) (λ n. drop (n * row_bytes r) list) n [] h) in
+    ∙ sym (get_or-tabulate (rows r) (λ n. drop (n * row_bytes r) list) n [] h) in
     ap₂ (λ (a row : List ℕ). with_row a r n row) is tail
     ∙ ap (λ (k : ℕ). put_rows r k (row_tails r list) area₀) (sym (add-one n))
 

@@ -5,7 +5,7 @@ use Prim.Native.Nat.{ℕ, ◌≤◌, ◌<◌}
 use lib.ListN.{length, get_or, take}
 use Rattle.lists.specs.Tabulate.{tabulate}
 use Rattle.lists.specs.Wide.{Wide}
-use Rattle.lists.proofs.Tabulate.{length-tabulate, get_d_tabulate, tabulate-ext, tabulate-get_or, tabulate-take}
+use Rattle.lists.proofs.Tabulate.{length-tabulate, get_or-tabulate, tabulate-ext, tabulate-get_or, tabulate-take}
 use Rattle.lists.proofs.Wide.{wide-tabulate}
 use Rattle.raster.specs.declared.Raster.{Raster}
 use Rattle.raster.specs.Shape.{row_bytes, rows, bytes}
@@ -26,11 +26,11 @@ length-plane_rows s r = length-tabulate (rows r) (λ n. plane_row s r n)
 pub get_or-plane_row : (s : List ℕ) (r : Raster) (n c : ℕ) → c < row_bytes r
     → get_or (plane_row s r n) c 0 ≡ get_or s (row_offset r n c) 0
 unfolding plane_row
-get_or-plane_row s r n c h = get_d_tabulate (row_bytes r) (λ c. get_or s (row_offset r n c) 0) c 0 h
+get_or-plane_row s r n c h = get_or-tabulate (row_bytes r) (λ c. get_or s (row_offset r n c) 0) c 0 h
 
 pub get_or-plane_rows : (s : List ℕ) (r : Raster) (n : ℕ) → n < rows r → get_or (plane_rows s r) n [] ≡ plane_row s r n
 unfolding plane_rows
-get_or-plane_rows s r n h = get_d_tabulate (rows r) (λ n. plane_row s r n) n [] h
+get_or-plane_rows s r n h = get_or-tabulate (rows r) (λ n. plane_row s r n) n [] h
 
 -- they have the raster's width
 pub wide-plane_rows : (s : List ℕ) (r : Raster) → Wide (row_bytes r) (plane_rows s r)
@@ -46,7 +46,7 @@ length-image_of r list = length-tabulate (bytes r) (λ o. get_or (get_or list (r
 get_or-image_of : (r : Raster) (list : List (List ℕ)) (o : ℕ) → o < bytes r
     → get_or (image_of r list) o 0 ≡ get_or (get_or list (row_at r o) []) (column_at r o) 0
 unfolding image_of
-get_or-image_of r list o h = get_d_tabulate (bytes r) (λ o. get_or (get_or list (row_at r o) []) (column_at r o) 0) o 0 h
+get_or-image_of r list o h = get_or-tabulate (bytes r) (λ o. get_or (get_or list (row_at r o) []) (column_at r o) 0) o 0 h
 
 -- byte c of row n
 byte-of-image : (r : Raster) (list : List (List ℕ)) (n c : ℕ) → n < rows r → c < row_bytes r

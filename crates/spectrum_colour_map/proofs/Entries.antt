@@ -11,7 +11,7 @@ use lib.Dec.{eqb}
 use borrow.Author.Tests.{eqb-true, eqb-false}
 use Rattle.lists.specs.Sum.{sum}
 use Rattle.lists.specs.Tabulate.{tabulate}
-use Rattle.lists.proofs.Tabulate.{length-tabulate, get_d_tabulate, tabulate-ext}
+use Rattle.lists.proofs.Tabulate.{length-tabulate, get_or-tabulate, tabulate-ext}
 use Rattle.words.specs.Word.{word_at, words_at}
 use Rattle.spectrum_colour_map.specs.Vector.{bit, named_below, named}
 use Rattle.spectrum_colour_map.specs.Palettes.{entry, palette}
@@ -59,7 +59,7 @@ module _ (v : ℕ) where
     unfolding palette_of
     from-entry i b h e =
         drop-cons after i 0 (omega (arith, length-after))
-        ∙ ap (λ (x : ℕ). x ∷ drop (suc i) after) (get_d_tabulate 16 _ i 0 h)
+        ∙ ap (λ (x : ℕ). x ∷ drop (suc i) after) (get_or-tabulate 16 _ i 0 h)
         ∙ ap (λ (c : Bool). cond c (get_or words (named_below v i) 0) (get_or before i 0) ∷ drop (suc i) after) e
 
     -- from each entry on one
@@ -120,7 +120,7 @@ palette-of file before words at v e w = tabulate-ext 16 _ _ (λ i h. rw e (go i 
         → cond b (word_at file (at + 2 + named_below v i * 2)) (get_or before i 0)
         ≡ cond b (get_or words (named_below v i) 0) (get_or before i 0)
     go i h true q =
-        sym (get_d_tabulate (named v) (λ k. word_at file (at + 2 + k * 2)) (named_below v i) 0
+        sym (get_or-tabulate (named v) (λ k. word_at file (at + 2 + k * 2)) (named_below v i) 0
         (named-less v i h (eqb-true (bit v i) 1 q)))
         ∙ ap (λ (l : List ℕ). get_or l (named_below v i) 0) w
     go i h false q = refl

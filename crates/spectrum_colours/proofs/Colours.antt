@@ -14,7 +14,7 @@ use Rattle.lists.specs.Sum.{sum}
 use Rattle.lists.specs.Tabulate.{tabulate}
 use Rattle.lists.proofs.Cond.{or-false}
 use Rattle.lists.proofs.Over.{over-whole}
-use Rattle.lists.proofs.Tabulate.{get_d_tabulate, tabulate-ext, tabulate-all}
+use Rattle.lists.proofs.Tabulate.{get_or-tabulate, tabulate-ext, tabulate-all}
 use Rattle.outcome.specs.Outcome.{accepted, refuse_if, map, later}
 use Rattle.outcome.specs.Refusal.{area_too_short, out_of_range}
 use Rattle.outcome.proofs.Outcome.{passed}
@@ -109,7 +109,7 @@ module _ (screen : List ℕ) (y : ℕ) where
       (λ x. get_or palettes (line_words * (y - 1) + get_or (tabulate columns shown_at) x 0) 0)
       (λ x. shown_word screen palettes x y)
       (λ x h.
-      ap (λ (p : ℕ). get_or palettes (line_words * (y - 1) + p) 0) (get_d_tabulate columns shown_at x 0 h))
+      ap (λ (p : ℕ). get_or palettes (line_words * (y - 1) + p) 0) (get_or-tabulate columns shown_at x 0 h))
 
 -- ---- the line and the pixel
 
@@ -131,7 +131,7 @@ line-pixel screen palettes x y room h k =
         ≡ refuse_if areas area_too_short (refuse_if line out_of_range (accepted (shown x)))
     go true line = refl
     go false true = refl
-    go false false = ap accepted (get_d_tabulate columns shown x 0 h)
+    go false false = ap accepted (get_or-tabulate columns shown x 0 h)
 
 -- of an accepted question the place of the word is below 9,552, and the palettes have so many words: none is read past
 -- their end

@@ -5,7 +5,7 @@ use Prim.Native.Nat.{ℕ, ◌+◌, ◌*◌, ◌<◌}
 use native.Mathlib.Omega.{arith}
 use lib.ListN.{get_or}
 use Rattle.lists.specs.Tabulate.{tabulate}
-use Rattle.lists.proofs.Tabulate.{length-tabulate, get_d_tabulate}
+use Rattle.lists.proofs.Tabulate.{length-tabulate, get_or-tabulate}
 use Rattle.lists.proofs.Wide.{wide-tabulate, get_or-flatten}
 use Rattle.spectrum_positions.specs.Positions.{columns, registers, position_of}
 use Rattle.spectrum_positions.specs.PositionTable.{column_positions, position_table}
@@ -21,5 +21,5 @@ table-position x c h k =
     (omega (arith, length-tabulate columns column_positions))
     k
     ).1
-    ∙ ap (λ (l : List ℕ). get_or l c 0) (get_d_tabulate columns column_positions x [] h)
-    ∙ get_d_tabulate registers (position_of x) c 0 k
+    ∙ ap (λ (l : List ℕ). get_or l c 0) (get_or-tabulate columns column_positions x [] h)
+    ∙ get_or-tabulate registers (position_of x) c 0 k

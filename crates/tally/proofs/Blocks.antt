@@ -17,7 +17,7 @@ use Rattle.lists.specs.Sum.{sum}
 use Rattle.lists.specs.Tabulate.{tabulate}
 use Rattle.lists.proofs.Digits.{cat-above, cat-below}
 use Rattle.lists.proofs.Sum.{sum-ext, sum-const, sum_rows}
-use Rattle.lists.proofs.Tabulate.{length-tabulate, get_d_tabulate, tabulate-ext}
+use Rattle.lists.proofs.Tabulate.{length-tabulate, get_or-tabulate, tabulate-ext}
 use Rattle.words.specs.Word.{word_at}
 use Rattle.words.proofs.Word.{word_at-lt}
 use Rattle.raster.specs.Offsets.{group_offset, word_offset}
@@ -198,7 +198,7 @@ counted-block b wide limit hl below c sets among m t h e is =
     at v l true o =
         ap ones
         (ap (λ (s : List ℕ). get_or s v 0) is
-        ∙ get_d_tabulate limit (λ v. register_set (reversed_block b) among v) v 0 (ltb-true v limit o)
+        ∙ get_or-tabulate limit (λ v. register_set (reversed_block b) among v) v 0 (ltb-true v limit o)
         ∙ ap (λ (n : ℕ). register_set (reversed_block b) n v) e)
         ∙ ones-pixels b wide v m t l h
     at v l false o =

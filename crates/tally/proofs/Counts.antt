@@ -13,7 +13,7 @@ use borrow.Author.Tests.{eq-eqb, ne_eqb}
 use Rattle.lists.specs.Sum.{sum}
 use Rattle.lists.specs.Tabulate.{tabulate}
 use Rattle.lists.proofs.Sum.{sum-ext, sum-le, sum-split, sum-const, sum-add}
-use Rattle.lists.proofs.Tabulate.{length-tabulate, get_d_tabulate, tabulate-ext, tabulate-get_or, tabulate-le}
+use Rattle.lists.proofs.Tabulate.{length-tabulate, get_or-tabulate, tabulate-ext, tabulate-get_or, tabulate-le}
 use Rattle.resolution.specs.declared.Resolution.{Resolution}
 use Rattle.lines.specs.Registers.{register}
 use Rattle.tally.specs.declared.Rectangle.{Rectangle}
@@ -68,7 +68,7 @@ counted_lines-turn c out after g m n is e =
     (λ v l.
     ap (λ (d : List ℕ). get_or d v 0 + sum m (λ k. is_register v (g n k))) is
     ∙ ap (λ (i : ℕ). i + sum m (λ k. is_register v (g n k)))
-    (get_d_tabulate 16 (λ v. get_or c v 0 + line_counts g m n v) v 0 l)
+    (get_or-tabulate 16 (λ v. get_or c v 0 + line_counts g m n v) v 0 l)
     ∙ add_assoc (get_or c v 0) (line_counts g m n v) (sum m (λ k. is_register v (g n k))))
     ∙ ap (λ (i : ℕ). counted_lines c g m i) (sym (add-one n))
 
@@ -91,7 +91,7 @@ counted_lines-join c out after f g i m n is e same =
     (λ v l.
     let p : ℕ → ℕ → ℕ = λ j k. is_register v (f j k) in
     ap₂ (λ (a b : ℕ). a + b)
-    (ap (λ (d : List ℕ). get_or d v 0) is ∙ get_d_tabulate 16 (λ v. get_or c v 0 + line_counts f i n v) v 0 l)
+    (ap (λ (d : List ℕ). get_or d v 0) is ∙ get_or-tabulate 16 (λ v. get_or c v 0 + line_counts f i n v) v 0 l)
     (sum-ext n _ (λ j. sum m (λ k. p j (i + k)))
     (λ j a. sum-ext m _ _ (λ k b. ap (is_register v) (same j k a b))))
     ∙ add_assoc (get_or c v 0) (line_counts f i n v) (sum n (λ j. sum m (λ k. p j (i + k))))

@@ -6,7 +6,7 @@ use mathlib.Core.List.{List, [], append-nil}
 use lib.ListN.{length, get_or, replicate, length-replicate}
 use Rattle.lists.specs.Tabulate.{tabulate}
 use Rattle.lists.proofs.Stores.{length-stores, get_or-stores-at}
-use Rattle.lists.proofs.Tabulate.{get_d_tabulate, tabulate-ext, tabulate-get_or}
+use Rattle.lists.proofs.Tabulate.{get_or-tabulate, tabulate-ext, tabulate-get_or}
 use Rattle.words.specs.Word.{word_at, words_at, words_bytes}
 use Rattle.words.proofs.Word.{length-words_bytes, words_back}
 use Rattle.resolution.specs.Shapes.{screen_bytes}
@@ -23,7 +23,7 @@ word-of-bytes ws p h =
     ∙ words_back (length ws) [] ws [] 0 refl refl in
     let e : 0 + p * 2 ≡ p * 2 = omega arith in
     ap (word_at (words_bytes ws)) (sym e)
-    ∙ sym (get_d_tabulate (length ws) (λ i. word_at (words_bytes ws) (0 + i * 2)) p 0 h)
+    ∙ sym (get_or-tabulate (length ws) (λ i. word_at (words_bytes ws) (0 + i * 2)) p 0 h)
     ∙ ap (λ (l : List ℕ). get_or l p 0) back
 
 module _ (words : List ℕ) where

@@ -11,7 +11,7 @@ use lib.ListN.{drop_of_length-le, get_or-append}
 use lib.Seq.{drop-drop, drop_at, get_or-take, get_or-drop}
 use Rattle.lists.specs.Over.{over}
 use Rattle.lists.specs.Tabulate.{tabulate}
-use Rattle.lists.proofs.Tabulate.{length-tabulate, get_d_tabulate}
+use Rattle.lists.proofs.Tabulate.{length-tabulate, get_or-tabulate}
 use Rattle.words.specs.Word.{word_at, words_at, words_bytes}
 use Rattle.tiny_runs.specs.declared.Run.{Run}
 use Rattle.tiny_runs.specs.Runs.{run_at, words_made, source_of}
@@ -32,7 +32,7 @@ module _ (n : ℕ) (section : List ℕ) (taken : ℕ) where
   unfolding words_at
   data-at k h =
       get_or-drop taken (tabulate n (λ i. word_at section (0 + i * 2))) k 0
-      ∙ get_d_tabulate n (λ i. word_at section (0 + i * 2)) (taken + k) 0 h
+      ∙ get_or-tabulate n (λ i. word_at section (0 + i * 2)) (taken + k) 0 h
       ∙ ap (word_at section) (omega arith)
 
   made_at : (count i : ℕ) (repeats : Bool) → i < count → taken + cond repeats 1 count ≤ n

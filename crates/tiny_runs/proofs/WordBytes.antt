@@ -9,7 +9,7 @@ use lib.Seq.{take-add, take_all, length-take-le, get_or-drop}
 use Rattle.lists.specs.Over.{over}
 use Rattle.lists.specs.Tabulate.{tabulate}
 use Rattle.lists.proofs.Parts.{over-append}
-use Rattle.lists.proofs.Tabulate.{length-tabulate, get_d_tabulate, tabulate-ext, tabulate-take}
+use Rattle.lists.proofs.Tabulate.{length-tabulate, get_or-tabulate, tabulate-ext, tabulate-take}
 use Rattle.words.specs.Word.{word_bytes, words_bytes}
 use Rattle.words.proofs.Word.{length-words_bytes}
 
@@ -72,7 +72,7 @@ module _ {n m : ℕ} {f : ℕ → ℕ} {d out : List ℕ} {i : ℕ} (p : Putting
         put =
             rw place
             (words-piece (tabulate n f) d out (i * m) (omega (arith, p.inside, size)) p.put m v t
-            (omega (arith, size)) (λ j l. e j l ∙ sym (get_d_tabulate n f (i * m + j) 0 (omega arith)))
+            (omega (arith, size)) (λ j l. e j l ∙ sym (get_or-tabulate n f (i * m + j) 0 (omega arith)))
             (rw place at there)
             ∙ ap (λ (k : ℕ). over (words_bytes (take k (tabulate n f))) d) (sym next));
       }

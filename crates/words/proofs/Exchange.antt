@@ -5,7 +5,7 @@ use Prim.Native.Nat.{ℕ, ◌+◌, ◌-◌, ◌*◌, ◌/◌, ◌%◌}
 use native.Mathlib.Omega.{arith}
 use lib.ListN.{get_or}
 use Rattle.lists.specs.Tabulate.{tabulate}
-use Rattle.lists.proofs.Tabulate.{tabulate-ext, get_d_tabulate}
+use Rattle.lists.proofs.Tabulate.{tabulate-ext, get_or-tabulate}
 use Rattle.words.specs.Word.{word_at, words_at}
 use Rattle.words.specs.Exchange.{exchanged, exchanged_word}
 
@@ -16,8 +16,8 @@ eight-words s at =
     tabulate-ext 8 _ _
     (λ k h.
     ap₂ (λ (high low : ℕ). high * 256 + low)
-    (get_d_tabulate 16 (exchanged s at) (k * 2 + 1) 0 (omega arith) ∙ ap (λ (i : ℕ). get_or s i 0) (high k))
-    (get_d_tabulate 16 (exchanged s at) (k * 2) 0 (omega arith) ∙ ap (λ (i : ℕ). get_or s i 0) (low k)))
+    (get_or-tabulate 16 (exchanged s at) (k * 2 + 1) 0 (omega arith) ∙ ap (λ (i : ℕ). get_or s i 0) (high k))
+    (get_or-tabulate 16 (exchanged s at) (k * 2) 0 (omega arith) ∙ ap (λ (i : ℕ). get_or s i 0) (low k)))
   where
     high : (k : ℕ) → at + ((k * 2 + 1) / 2 * 2 + (1 - (k * 2 + 1) % 2)) ≡ at + k * 2
     high k = omega arith

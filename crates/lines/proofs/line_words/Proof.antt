@@ -8,7 +8,7 @@ use borrow.Author.Rules.{rules}
 use Rattle.lists.specs.Over.{over}
 use Rattle.lists.specs.Tabulate.{tabulate}
 use Rattle.lists.proofs.Over.{length_over, get_or-over-in}
-use Rattle.lists.proofs.Tabulate.{length-tabulate, get_d_tabulate}
+use Rattle.lists.proofs.Tabulate.{length-tabulate, get_or-tabulate}
 use Rattle.lines.specs.Blocks.{line_word, turn}
 use Rattle.lines.proofs.line_words.Statement.{statement}
 use Rattle.lines.proofs.line_words.Tie as tie
@@ -21,11 +21,11 @@ module _ (n : ℕ) (f : ℕ → ℕ) (d w : List ℕ) (few : n ≤ 20) (is : w �
   turned-word : (t : List ℕ) → t ≡ tabulate 20 (λ i. turn (get_or w i 0)) → (i : ℕ) → i < n → get_or t i 0 ≡ turn (f i)
   turned-word t e i h =
       ap (λ (l : List ℕ). get_or l i 0) e
-      ∙ get_d_tabulate 20 (λ i. turn (get_or w i 0)) i 0 (omega arith)
+      ∙ get_or-tabulate 20 (λ i. turn (get_or w i 0)) i 0 (omega arith)
       ∙ ap turn
       (ap (λ (l : List ℕ). get_or l i 0) is
       ∙ get_or-over-in (tabulate n f) d i 0 (omega (arith, length-tabulate n f))
-      ∙ get_d_tabulate n f i 0 h)
+      ∙ get_or-tabulate n f i 0 h)
 
 turn-words-requires : tie.Need-turn_words-requires
 turn-words-requires c κs =

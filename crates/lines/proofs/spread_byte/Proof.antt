@@ -5,7 +5,7 @@ use native.Mathlib.Omega.{arith}
 use Prim.Native.Nat.{ℕ, ◌≤◌, ◌<◌}
 use lib.ListN.{get_or}
 use Rattle.lists.specs.Tabulate.{tabulate}
-use Rattle.lists.proofs.Tabulate.{get_d_tabulate}
+use Rattle.lists.proofs.Tabulate.{get_or-tabulate}
 use Rattle.lines.specs.Columns.{spread}
 use borrow.Author.Rules.{rules}
 use Rattle.lines.proofs.spread_byte.Statement.{statement}
@@ -16,7 +16,7 @@ unfolding spread
 spread-le b = omega arith
 
 entry : (table : List ℕ) (b : ℕ) → b < 256 → table ≡ tabulate 256 spread → get_or table b 0 ≡ spread b
-entry table b h is = ap (λ (l : List ℕ). get_or l b 0) is ∙ get_d_tabulate 256 spread b 0 h
+entry table b h is = ap (λ (l : List ℕ). get_or l b 0) is ∙ get_or-tabulate 256 spread b 0 h
 
 returns : tie.Need-returns
 returns c =

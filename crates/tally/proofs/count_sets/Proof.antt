@@ -12,7 +12,7 @@ use lib.Seq.{length-take-le}
 use Rattle.lists.specs.Over.{over}
 use Rattle.lists.specs.Tabulate.{tabulate}
 use Rattle.lists.proofs.Over.{get_or-over-past, tabulate-turn, over_done, over-ext}
-use Rattle.lists.proofs.Tabulate.{length-tabulate, get_d_tabulate}
+use Rattle.lists.proofs.Tabulate.{length-tabulate, get_or-tabulate}
 use Rattle.tally.proofs.Ones.{ones-zero}
 use Rattle.tally.proofs.count_sets.Statement.{statement}
 use Rattle.tally.proofs.count_sets.Tie as tie
@@ -28,7 +28,7 @@ module _ (c s : List ℕ) (all : length c ≡ 16) (few : length s ≤ 16) where
     where
       go : Dec (o < 16) → get_or (tabulate 16 (grown c s)) o 0 ≡ get_or c o 0
       go (yes l) =
-          get_d_tabulate 16 (grown c s) o 0 l
+          get_or-tabulate 16 (grown c s) o 0 l
           ∙ ap (λ (n : ℕ). get_or c o 0 + n) (ap ones (get_or-eq_default s 0 h) ∙ ones-zero)
           ∙ add-zero (get_or c o 0)
       go (no l) =
@@ -43,7 +43,7 @@ module _ (c s : List ℕ) (all : length c ≡ 16) (few : length s ≤ 16) where
       over_done (tabulate n (grown c s)) c out n (omega (arith, length-tabulate n (grown c s))) is
       ∙ sym
       (over-ext n (grown c s) c (tabulate 16 (grown c s)) (omega arith) (length-tabulate 16 (grown c s) ∙ sym all)
-      (λ k l. get_d_tabulate 16 (grown c s) k 0 (omega arith)) past)
+      (λ k l. get_or-tabulate 16 (grown c s) k 0 (omega arith)) past)
 
   module _ (out : List ℕ) (v : ℕ) (h : v < length s)
       (is : out ≡ over (take v (tabulate (length s) (grown c s))) c) where
