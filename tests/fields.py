@@ -2,7 +2,7 @@
 reads the Rattle sources, `fields.py c HEADER` the C header. A struct's layout is fixed by its fields' types in order.
 
 `fields.py constants CRATES` prints Rattle's kinds of a record, lists, directions and sizes as `kutimuq-tests --layout`
-prints Rust's."""
+prints Rust's, and `fields.py reasons CRATES` the refusal numbers with the header's names."""
 
 import pathlib
 import re
@@ -15,11 +15,11 @@ GROUP_BYTES = 2
 
 # The header's name: the crate, Rattle's constant or case of an enum there, and what one of its units counts.
 CONSTANTS = {
-    "RECORD_LITERAL": ("degas_records", "RECORD_LITERAL", 1),
-    "RECORD_REPEAT": ("degas_records", "RECORD_REPEAT", 1),
-    "RECORD_NOTHING": ("degas_records", "RECORD_NOTHING", 1),
-    "LIST_1989": ("neochrome_animation", "LIST_1989", 1),
-    "LIST_2008": ("neochrome_animation", "LIST_2008", 1),
+    "RECORD_LITERAL": ("degas_records", "RecordKind::Literal", 1),
+    "RECORD_REPEAT": ("degas_records", "RecordKind::Repeat", 1),
+    "RECORD_NOTHING": ("degas_records", "RecordKind::Nothing", 1),
+    "LIST_1989": ("neochrome_animation", "FormatList::Of1989", 1),
+    "LIST_2008": ("neochrome_animation", "FormatList::Of2008", 1),
     "DIRECTION_STOPPED": ("neochrome_animation", "Direction::Stopped", 1),
     "DIRECTION_LEFT": ("neochrome_animation", "Direction::Left", 1),
     "DIRECTION_RIGHT": ("neochrome_animation", "Direction::Right", 1),
@@ -46,8 +46,16 @@ CONSTANTS = {
 def rattle_constants(crates):
     for name, (crate, constant, unit) in CONSTANTS.items():
         text = (pathlib.Path(crates) / crate / "src/lib.rt").read_text()
-        (value,) = re.findall(rf"^(?:pub const {constant}: \w+ =| *{constant} =>) (\d+)[;,]", text, re.M)
+        case = constant.rpartition("::")[2]
+        (value,) = re.findall(rf"^(?:pub const {constant}: \w+| +{case}) = (\d+)[;,]", text, re.M)
         yield f"{name} is {unit * int(value)}"
+
+
+def rattle_reasons(crates):
+    text = (pathlib.Path(crates) / "outcome/src/lib.rt").read_text()
+    (cases,) = re.findall(r"^pub enum Reason \{\n(.*?)^\}", text, re.M | re.S)
+    for case, number in re.findall(r"^ +(\w+) = (\d+),$", cases, re.M):
+        yield re.sub(r"(?<=[a-z])(?=[A-Z0-9])|(?<=[0-9])(?=[A-Z])", "_", case).upper() + " " + number
 
 
 def rattle_fields(crates):
@@ -78,5 +86,6 @@ if __name__ == "__main__":
         "rattle": lambda crates: by_struct(rattle_fields(crates)),
         "c": lambda header: by_struct(c_fields(header)),
         "constants": rattle_constants,
+        "reasons": rattle_reasons,
     }[sys.argv[1]](sys.argv[2])
     print("\n".join(lines))

@@ -28,7 +28,7 @@ cargo build -q --release --offline --manifest-path "$here/Cargo.toml" "$@"
 equal "C and Rust" "$work/c" "$work/rust"
 
 sed -n '/^ACCEPTED /d; s/ number \([0-9]*\):.*/ \1/p' "$work/rust" > "$work/numbers"
-sed -n 's/^pub const \([A-Z_0-9]*\): u8 = \([0-9]*\);.*/\1 \2/p' "$root/crates/outcome/src/lib.rt" > "$work/rattle"
+python3 "$here/fields.py" reasons "$root/crates" > "$work/rattle"
 equal "the refusal numbers of Rust and Rattle" "$work/numbers" "$work/rattle"
 prefixes='RECORD\|LIST\|DIRECTION\|SCREEN\|WRITE_AREA\|PACK_AREA\|PLATE\|LONGEST_PLATE\|IMG\|SPU\|SPECTRUM'
 constants="\(${prefixes}\)_[A-Z_0-9]*"

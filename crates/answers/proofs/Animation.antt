@@ -1,4 +1,5 @@
 -- The colour animation answers as specs/Animation.antt says.
+use Rattle.std.specs.Prelude.{Ok, Err}
 use mathlib.Core.Path.{◌≡◌, refl, ap, ◌∙◌}
 use Prim.Native.Nat.{ℕ}
 use mathlib.Core.Bool.{true, not}
@@ -7,7 +8,7 @@ use native.Mathlib.Omega.{arith}
 use lib.ListN.{length}
 use lib.Dec.{ltb, eqb}
 use Rattle.lists.proofs.Cond.{cond-elim, cond-eqb}
-use Rattle.outcome.specs.Outcome.{Outcome, accepted, refused, refusal, map}
+use Rattle.outcome.specs.Outcome.{Outcome, refusal, map}
 use Rattle.outcome.specs.Refusal.{wrong_length, wrong_flag}
 use Rattle.words.specs.Word.{word_at}
 use Rattle.resolution.specs.declared.Resolution.{Resolution}
@@ -40,7 +41,7 @@ module _ (file : List ℕ) where
   unfolding animation1989 opening1989
   order-1989 =
       first-test (shown_number (shown1989 file)) (λ n. refl) (not (eqb (length file) file_length)) wrong_length (λ _.
-      first-resolution (shown_number (shown1989 file)) (λ n. refl) (long_resolution file) (λ r. accepted r) (λ _. 0) refl
+      first-resolution (shown_number (shown1989 file)) (λ n. refl) (long_resolution file) (λ r. Ok r) (λ _. 0) refl
       refl refl
       ∙ ap (λ (n : ℕ). first_refusal ((ltb 2 n, 5) ∷ [])) long-bytes)
 
@@ -49,7 +50,7 @@ module _ (file : List ℕ) where
   order-2008 =
       first-test (shown_number (shown2008 file)) (λ n. refl) (not (eqb (length file) file_length)) wrong_length (λ _.
       first-test (shown_number (shown2008 file)) (λ n. refl) (not (eqb (word_at file 0) 0)) wrong_flag (λ _.
-      first-resolution (shown_number (shown2008 file)) (λ n. refl) (word_at file resolution_start) (λ r. accepted r)
+      first-resolution (shown_number (shown2008 file)) (λ n. refl) (word_at file resolution_start) (λ r. Ok r)
       (λ _. 0) refl refl refl))
 
   pub animation-order : (list : ℕ) → number (animation list file) ≡ first_refusal (animation_order list file)
@@ -81,12 +82,12 @@ module _ (file : List ℕ) where
   placeless list =
       cond-eqb Placeless list 1
       (λ _. cond-elim (Opened (shown1989 file)) (not (eqb (length file) file_length)) (λ _. refl) (λ _.
-      with_resolution-elim (Opened (shown1989 file)) (long_resolution file) (λ r. accepted r) refl (λ r _. refl)))
+      with_resolution-elim (Opened (shown1989 file)) (long_resolution file) (λ r. Ok r) refl (λ r _. refl)))
       (λ _.
       cond-eqb Placeless list 2
       (λ _. cond-elim (Opened (shown2008 file)) (not (eqb (length file) file_length)) (λ _. refl) (λ _.
       cond-elim (Opened (shown2008 file)) (not (eqb (word_at file 0) 0)) (λ _. refl) (λ _.
-      with_resolution-elim (Opened (shown2008 file)) (word_at file resolution_start) (λ r. accepted r) refl
+      with_resolution-elim (Opened (shown2008 file)) (word_at file resolution_start) (λ r. Ok r) refl
       (λ r _. refl))))
       (λ _. refl))
     where
@@ -97,8 +98,8 @@ module _ (file : List ℕ) where
   animation-refused list = go (animation list file) (placeless list)
     where
       go : (o : Outcome ColourAnimation) → Placeless o → AnimationRefusal (animation_answer o)
-      go (accepted a) zero h = absurd (h refl)
-      go (refused why) zero h = record {
+      go (Ok a) zero h = absurd (h refl)
+      go (Err why) zero h = record {
         place = zero;
         valid = refl;
         left = refl;

@@ -1,5 +1,6 @@
 -- The examples of document 01 that are marked P hold: one test, which antt computes over the table, and one law at each
 -- entry.
+use Rattle.std.specs.Prelude.{Ok, Err}
 use mathlib.Core.Path.{◌≡◌, refl, ap₂, subst}
 use mathlib.Core.Bool.{Bool, true, false, ◌&&◌}
 use mathlib.Core.List.{List, [], ◌∷◌, flatten}
@@ -9,7 +10,7 @@ use lib.ListN.{length, get_or}
 use lib.Dec.{T, leb, eqb, leb→le, eqb→eq}
 use Rattle.lists.specs.Sum.{sum}
 use Rattle.outcome.specs.declared.Refusal.{Refusal}
-use Rattle.outcome.specs.Outcome.{Outcome, accepted, refused, row_refusal}
+use Rattle.outcome.specs.Outcome.{Outcome, row_refusal}
 use Rattle.words.specs.Word.{word_at, word_bytes, words_bytes}
 use Rattle.packbits.specs.Records.{control, record_at}
 use Rattle.packbits.specs.Row.{Row, done}
@@ -52,27 +53,27 @@ abbrev numbers : Refusal → List ℕ
 numbers why = why.number ∷ why.place ∷ why.plane_row ∷ why.good_bytes ∷ []
 
 abbrev same_outcome : Outcome Row → Outcome Row → Bool
-same_outcome (accepted r) (accepted s) = same (r.bytes ∷ r.records ∷ r.made) (s.bytes ∷ s.records ∷ s.made)
-same_outcome (accepted r) (refused w) = false
-same_outcome (refused v) (accepted s) = false
-same_outcome (refused v) (refused w) = same (numbers v) (numbers w)
+same_outcome (Ok r) (Ok s) = same (r.bytes ∷ r.records ∷ r.made) (s.bytes ∷ s.records ∷ s.made)
+same_outcome (Ok r) (Err w) = false
+same_outcome (Err v) (Ok s) = false
+same_outcome (Err v) (Err w) = same (numbers v) (numbers w)
 
 same_outcome_lem : (a b : Outcome Row) → T (same_outcome a b) → a ≡ b
-same_outcome_lem (accepted r) (accepted s) t =
+same_outcome_lem (Ok r) (Ok s) t =
     row r.bytes s.bytes r.records s.records r.made s.made
     (same-list (r.bytes ∷ r.records ∷ r.made) (s.bytes ∷ s.records ∷ s.made) t)
   where
     row : (u v n m : ℕ) (l k : List ℕ) → (u ∷ n ∷ l) ≡ (v ∷ m ∷ k) → done u n l ≡ done v m k
     row u v n m l k e = cc
-same_outcome_lem (accepted r) (refused w) t = absurd t
-same_outcome_lem (refused v) (accepted s) t = absurd t
-same_outcome_lem (refused v) (refused w) t =
+same_outcome_lem (Ok r) (Err w) t = absurd t
+same_outcome_lem (Err v) (Ok s) t = absurd t
+same_outcome_lem (Err v) (Err w) t =
     why v.number v.place v.plane_row v.good_bytes w.number w.place w.plane_row
     w.good_bytes
     (same-list (numbers v) (numbers w) t)
   where
     why : (n o r g m p s h : ℕ) → numbers (row_refusal n o r g) ≡ numbers (row_refusal m p s h)
-        → ◌≡◌ {A = Outcome Row} (refused (row_refusal n o r g)) (refused (row_refusal m p s h))
+        → ◌≡◌ {A = Outcome Row} (Err (row_refusal n o r g)) (Err (row_refusal m p s h))
     why n o r g m p s h e = cc
 
 -- ---- the test of an example, and what it tells

@@ -1,8 +1,9 @@
 -- Demand 1 for the index: what any refusal of a tally, a colour, a pond reading and a call on a legend gives.
+use Rattle.std.specs.Prelude.{Ok, Err}
+use Rattle.outcome.specs.Outcome.{Outcome}
 use mathlib.Core.Path.{refl}
 use mathlib.Core.List.{List}
 use Prim.Native.Nat.{ℕ}
-use Rattle.outcome.specs.Outcome.{Outcome, accepted, refused}
 use Rattle.tally.specs.declared.Rectangle.{Rectangle}
 use Rattle.tally.specs.Counts.{tallied}
 use Rattle.colour.specs.declared.Rgb.{Rgb}
@@ -16,20 +17,20 @@ use Rattle.answers.specs.IndexRefusals.{TallyRefusal, ColourRefusal, LegendRefus
 -- ---- any outcome
 
 tally-refusal : (o : Outcome (List ℕ)) → TallyRefusal o
-tally-refusal (accepted c) h = absurd (h refl)
-tally-refusal (refused why) h = refl
+tally-refusal (Ok c) h = absurd (h refl)
+tally-refusal (Err why) h = refl
 
 colour-refusal : (o : Outcome Rgb) → ColourRefusal o
-colour-refusal (accepted c) h = absurd (h refl)
-colour-refusal (refused why) h = (refl, refl, refl)
+colour-refusal (Ok c) h = absurd (h refl)
+colour-refusal (Err why) h = (refl, refl, refl)
 
 legend-refusal : (l : Legend) (o : Outcome Legend) → LegendRefusal l o
-legend-refusal l (accepted next) h = absurd (h refl)
-legend-refusal l (refused why) h = refl
+legend-refusal l (Ok next) h = absurd (h refl)
+legend-refusal l (Err why) h = refl
 
 pond-refusal : (o : Outcome PondCounts) → PondRefusal o
-pond-refusal (accepted p) h = absurd (h refl)
-pond-refusal (refused why) h = (refl, refl, refl)
+pond-refusal (Ok p) h = absurd (h refl)
+pond-refusal (Err why) h = (refl, refl, refl)
 
 -- ---- each public function
 

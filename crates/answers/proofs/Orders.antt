@@ -1,5 +1,6 @@
 -- Demand 1: "Bad input gets the refusal number that document 01 gives for it". The number in each operation's answer is
 -- that of the first test that holds in the papers' order.
+use Rattle.std.specs.Prelude.{Ok, Err, Option}
 use mathlib.Core.Path.{◌≡◌, refl, sym, ap, ◌∙◌}
 use mathlib.Core.Logic.{◌⊎◌, inl, inr}
 use mathlib.Core.Bool.{Bool, true, false, not, cond, ◌&&◌, ◌||◌}
@@ -13,7 +14,7 @@ use borrow.Author.Tests.{not-true}
 use Rattle.lists.specs.All.{all_first}
 use Rattle.lists.proofs.All.{all_below-ext}
 use Rattle.lists.proofs.Cond.{cond-elim, cond-eqb, and-true}
-use Rattle.outcome.specs.Outcome.{Outcome, accepted, refused, refusal, refuse, refuse_if, map, bind, placed, refusal_of}
+use Rattle.outcome.specs.Outcome.{Outcome, refusal, refuse, refuse_if, map, bind, placed, refusal_of}
 use Rattle.outcome.specs.Outcome.{Judged}
 use Rattle.outcome.specs.Refusal.{area_too_short, wrong_length, wrong_flag, unknown_resolution, wrong_tail, no_packed_body}
 use Rattle.outcome.specs.Refusal.{wrong_version, unknown_kind, ignored_bits_set, no_zero_tail}
@@ -28,7 +29,6 @@ use Rattle.packbits.specs.Rows.{RowsProgress, row_step, rows_from, rows_progress
 use Rattle.pack.specs.Pack.{max_body, pack_row, pack_within}
 use Rattle.raster.specs.declared.Raster.{Raster}
 use Rattle.raster.specs.Shape.{rows, row_bytes}
-use Rattle.resolution.specs.declared.Chosen.{Chosen}
 use Rattle.resolution.specs.declared.Resolution.{Resolution}
 use Rattle.resolution.specs.declared.Resolution.TheVariants.{Low, Medium, High}
 use Rattle.resolution.specs.Shapes.{screen_bytes, width_of, height_of, registers_of, raster_of}
@@ -41,7 +41,6 @@ use Rattle.tally.specs.Counts.{counts, tallied, tally_answer}
 use Rattle.bodies.specs.Unpacking.{UnpackedBody, body_of, unpacked_answer}
 use Rattle.bodies.specs.Reading.{judge_end, read_body}
 use Rattle.bodies.specs.Packing.{least_body, PackedBody}
-use Rattle.colour.specs.declared.ChosenMachine.{ChosenMachine}
 use Rattle.colour.specs.declared.Machine.{Machine}
 use Rattle.colour.specs.declared.Machine.TheVariants.{St, Ste}
 use Rattle.colour.specs.Machines.{judge_machine, with_machine}
@@ -129,7 +128,7 @@ module _ {A : Type 0} (number : Outcome A → ℕ) (is : (n : ℕ) → number (r
       cond-eqb Is n 2 (λ e. rw e high) (λ not2.
       rw (lt-ltb 2 n (omega arith)) (is 5))))
     where
-      Is : Chosen → Type 0
+      Is : Option Resolution → Type 0
       Is c = number (judge_with c further) ≡ cond (ltb 2 n) 5 (next n)
 
 -- a number that is none of 1 to most
@@ -149,7 +148,7 @@ module _ {A : Type 0} (number : Outcome A → ℕ) (is : (n : ℕ) → number (r
       cond-eqb Is machine 2 (λ e. rw e (h Ste)) (λ not2.
       rw (outside machine 2 (λ not0. omega arith)) (is 10)))
     where
-      Is : ChosenMachine → Type 0
+      Is : Option Machine → Type 0
       Is c = number (judge_machine c further) ≡ cond (no_machine machine) 10 next
 
 -- ---- one row
@@ -258,7 +257,7 @@ module _ (screen : List ℕ) (number y : ℕ) (line : List ℕ) where
     where
       at : (r : Resolution) → line_number (line_out_at screen r y (length line))
           ≡ first_refusal ((leb (height_of r) y, 10) ∷ (ltb (length line) (width_of r), 1) ∷ [])
-      at r = line-tests r y (length line) (accepted (scan_line screen r y)) refl
+      at r = line-tests r y (length line) (Ok (scan_line screen r y)) refl
 
   abbrev line_in_tests : ℕ → ℕ → ℕ → List Test
   line_in_tests h w n =
@@ -338,7 +337,7 @@ pub tally-order : (screen : List ℕ) (number : ℕ) (a : Rectangle)
     → tally_number (tallied screen number a) ≡ first_refusal (tally_order screen number a)
 unfolding tallied
 tally-order screen number a =
-    rectangle-order tally_number (λ n. refl) screen number a [] (λ r. accepted (counts screen r a)) (λ r. refl)
+    rectangle-order tally_number (λ n. refl) screen number a [] (λ r. Ok (counts screen r a)) (λ r. refl)
 
 abbrev pond_number : Outcome PondCounts → ℕ
 pond_number o = (pond_answer o).refusal.number
@@ -393,7 +392,7 @@ module _ (screen : List ℕ) (number : ℕ) (a : Rectangle) (party class floor :
       (go (counted r) refl (is_party party) (class_fits class) (confidence_fits floor) (legend_fits l)))
     where
       counted : Resolution → Outcome PondCounts
-      counted r = accepted (pond_of screen r a party class floor l)
+      counted r = Ok (pond_of screen r a party class floor l)
 
       go : (o : Outcome PondCounts) → pond_number o ≡ 0 → (p c f g : Bool)
           → pond_number (refuse_if (not ((p && (c && f)) && g)) out_of_range o)
@@ -426,7 +425,7 @@ set-order l party register class confidence =
   where
     go : (next : Legend) (p r c f g o : Bool)
         → legend_number
-        (refuse_if (not ((c && (f && (p && r))) && g)) out_of_range (refuse_if o not_owned (accepted next)))
+        (refuse_if (not ((c && (f && (p && r))) && g)) out_of_range (refuse_if o not_owned (Ok next)))
         ≡ first_refusal
         ((not p, 10) ∷ (not r, 10) ∷ (not c, 10) ∷ (not f, 10) ∷ (not g, 10) ∷ (o, 19) ∷ [])
     go next true true true true true true = refl
@@ -469,13 +468,13 @@ release-order l party register =
     go : (p : Bool) → is_party party ≡ p → (r g : Bool)
         → legend_number
         (refuse_if (not ((p && r) && g)) out_of_range
-        (refuse_if (not (owns l party register)) not_owned (accepted next)))
+        (refuse_if (not (owns l party register)) not_owned (Ok next)))
         ≡ first_refusal
         ((not p, 10) ∷ (not r, 10) ∷ (not g, 10)
         ∷ (anothers owner party || eqb owner 0, 19) ∷ [])
     go true e true true = rw (← unowned e (eqb owner 0) refl) (own (owns l party register))
       where
-        own : (b : Bool) → legend_number (refuse_if (not b) not_owned (accepted next)) ≡ cond (not b) 19 0
+        own : (b : Bool) → legend_number (refuse_if (not b) not_owned (Ok next)) ≡ cond (not b) 19 0
         own true = refl
         own false = refl
     go true e true false = refl
@@ -501,7 +500,7 @@ module _ (file : List ℕ) (at after : ℕ) (r : Raster) where
   end-tests p (inl e) = rw e (go (eqb (length file) (at + p.bytes + after)) _ _)
     where
       go : (t : Bool) (u : UnpackedBody) (place : ℕ)
-          → body_number (cond t (accepted u) (refused (refusal wrong_tail place))) ≡ cond (not t) 8 0
+          → body_number (cond t (Ok u) (Err (refusal wrong_tail place))) ≡ cond (not t) 8 0
       go true u place = refl
       go false u place = refl
 
@@ -520,15 +519,15 @@ module _ (file : List ℕ) where
   raw-tests r = go (eqb (length file) plain_length) (eqb (length file) elite_length) _ _
     where
       go : (s t : Bool) (a b : Reading)
-          → read_number (cond s (accepted a) (cond t (accepted b) (refuse wrong_length))) ≡ cond (not (s || t)) 3 0
+          → read_number (cond s (Ok a) (cond t (Ok b) (refuse wrong_length))) ≡ cond (not (s || t)) 3 0
       go true t a b = refl
       go false true a b = refl
       go false false a b = refl
 
   -- the number of a reading is that of its body
   map-number : (f : UnpackedBody → Reading) (o : Outcome UnpackedBody) → read_number (map f o) ≡ body_number o
-  map-number f (accepted u) = refl
-  map-number f (refused why) = refl
+  map-number f (Ok u) = refl
+  map-number f (Err why) = refl
 
   packed-tests : (r : Resolution) → read_number (read_packed file r)
       ≡ first_refusal (packed_tests file (rows_progress (rows (raster_of r)) (row_bytes (raster_of r)) (drop 34 file)))
@@ -543,7 +542,7 @@ module _ (file : List ℕ) where
   degas-order area =
       first-test read_number (λ n. refl) (ltb area screen_bytes) area_too_short (λ _.
       first-test opened (λ n. refl) (ltb (length file) header_length) wrong_length (λ _.
-      first-resolution opened (λ n. refl) (degas_resolution file) (λ r. accepted (header_of file r))
+      first-resolution opened (λ n. refl) (degas_resolution file) (λ r. Ok (header_of file r))
       (λ n. first_refusal (cond (degas_packed file) (packed_tests file (body_progress file n)) (raw_tests file)))
       (at Low) (at Medium) (at High)))
     where
@@ -571,10 +570,10 @@ module _ (file : List ℕ) where
       first-test read_number (λ n. refl) (ltb area screen_bytes) area_too_short (λ _.
       first-test opened (λ n. refl) (not (eqb (length file) file_length)) wrong_length (λ _.
       first-test opened (λ n. refl) (not (eqb (word_at file 0) 0)) wrong_flag (λ _.
-      first-resolution opened (λ n. refl) (word_at file 2) (λ r. accepted r) (λ _. 0) refl refl refl)))
+      first-resolution opened (λ n. refl) (word_at file 2) (λ r. Ok r) (λ _. 0) refl refl refl)))
     where
       opened : Outcome Resolution → ℕ
-      opened o = read_number (bind o (λ r. accepted (neochrome_reading file r)))
+      opened o = read_number (bind o (λ r. Ok (neochrome_reading file r)))
 
 -- ---- reading: Tiny
 
@@ -642,7 +641,7 @@ runs-fault (suc bound) [] datas room = inl refl
 runs-fault (suc bound) (x ∷ rest) datas room =
     let r = run_at (x ∷ rest) (length datas) room in
     cond-elim (λ (p : Expansion). RunFault p.fault) (eqb r.fault 0)
-    (λ _. runs-fault bound (drop r.controls.0 (x ∷ rest)) (drop r.datas.0 datas) (room - r.count))
+    (λ _. runs-fault bound (drop r.controls (x ∷ rest)) (drop r.datas datas) (room - r.count))
     (λ _. run-fault x rest (length datas) room)
 
 module _ (file : List ℕ) where
@@ -660,7 +659,7 @@ module _ (file : List ℕ) where
   run-tests p (inl e) = rw e (go (ltb p.datas (data_count file)) (ltb (length p.made) screen_words) _)
     where
       go : (s t : Bool) (q : Reading)
-          → read_number (refuse_if (s || t) size_mismatch (accepted q)) ≡ cond s 13 (cond t 13 0)
+          → read_number (refuse_if (s || t) size_mismatch (Ok q)) ≡ cond s 13 (cond t 13 0)
       go true t q = refl
       go false true q = refl
       go false false q = refl
@@ -740,7 +739,7 @@ module _ (p : Picture) (screen out : List ℕ) where
   unfolding judge_writing
   written-order further next low medium high =
       first_either judged (λ n. refl) (ltb (length screen) screen_bytes) (ltb (length out) file_bytes) area_too_short
-      (first-resolution judged (λ n. refl) p.resolution (λ r. accepted r) next low medium high)
+      (first-resolution judged (λ n. refl) p.resolution (λ r. Ok r) next low medium high)
     where
       judged : Outcome Resolution → ℕ
       judged o = write_number (bind o further)
@@ -809,8 +808,8 @@ module _ (file out : List ℕ) where
   accepted-reading = go (read_degas file screen_bytes) (degas-whole file screen_bytes) (degas-tail file screen_bytes)
     where
       go : (o : Outcome Reading) → Judged WholeReading o → Judged (HasTail file) o → Judged Accepted o
-      go (accepted q) w t = record { whole = w; tail = t }
-      go (refused why) w t = w
+      go (Ok q) w t = record { whole = w; tail = t }
+      go (Err why) w t = w
 
   -- the output, the reading, and what the conversion judges itself
   conversion-order : (to : Conversion) (own : List Test)
@@ -827,8 +826,8 @@ module _ (file out : List ℕ) where
           → file_bytes ≤ length out
           → write_number (bind o (λ q. converted to (word_at file 0) q.picture q.screen (length out)))
           ≡ first_refusal (degas_tests file ++ own)
-      go (accepted q) a e room = h q a room ∙ sym (first_passes (degas_tests file) own degas-numbered (sym e))
-      go (refused why) number e room = e ∙ sym (first-stands (degas_tests file) own (λ z. number (e ∙ z)))
+      go (Ok q) a e room = h q a room ∙ sym (first_passes (degas_tests file) own degas-numbered (sym e))
+      go (Err why) number e room = e ∙ sym (first-stands (degas_tests file) own (λ z. number (e ∙ z)))
 
   pub to-elite-order : write_number (convert ToElite file (length out)) ≡ first_refusal (to_elite_order file out)
   unfolding plain_to_elite

@@ -1,4 +1,5 @@
 -- The record list answers as specs/RecordList.antt says.
+use Rattle.std.specs.Prelude.{Ok, Err, None, Some}
 use mathlib.Core.Path.{◌≡◌, refl, sym, ◌∙◌}
 use Prim.Native.Nat.{ℕ, ◌+◌, ◌-◌}
 use mathlib.Core.Logic.{inl, inr}
@@ -9,7 +10,7 @@ use lib.Dec.{ltb, eqb}
 use borrow.Author.Tests.{eqb-true}
 use Rattle.lists.proofs.Cond.{cond-elim, cond-eqb}
 use Rattle.outcome.specs.declared.Refusal.{Refusal}
-use Rattle.outcome.specs.Outcome.{Outcome, accepted, refused, refusal, row_refusal, bind}
+use Rattle.outcome.specs.Outcome.{Outcome, refusal, row_refusal, bind}
 use Rattle.outcome.specs.Refusal.{unknown_kind, wrong_length, wrong_tail, out_of_range}
 use Rattle.packbits.specs.declared.Record.{Record}
 use Rattle.packbits.specs.declared.Record.TheVariants as R
@@ -22,12 +23,10 @@ use Rattle.degas.specs.declared.Header.{Header}
 use Rattle.degas.specs.Layout.{header_length, tail_length, packed_most}
 use Rattle.degas.specs.Opening.{is_packed, opening}
 use Rattle.degas.proofs.Opening.{header_of, opening-elim}
-use Rattle.degas_records.specs.declared.Found.{Found}
-use Rattle.degas_records.specs.declared.Found.TheVariants.{Listed, Done, Refused}
 use Rattle.degas_records.specs.declared.RecordCursor.{RecordCursor}
 use Rattle.degas_records.specs.declared.Stepped.{Stepped}
 use Rattle.degas_records.specs.Opening.{judge_packed, packed_opening}
-use Rattle.degas_records.specs.Listing.{cursor_at, record_under, listed_as, moved_over}
+use Rattle.degas_records.specs.Listing.{Found, cursor_at, record_under, listed_as, moved_over}
 use Rattle.degas_records.specs.Steps.{stays, record_step, end_at, outside, body_step, opened_step, stepped}
 use Rattle.degas_records.specs.Answers.{cursor_answer, record_answer}
 use Rattle.demands.specs.Refusals.{Refuses}
@@ -57,7 +56,7 @@ pub open-records-order : (file : List ℕ)
 unfolding packed_opening opening
 open-records-order file =
     first-test opened (λ n. refl) (ltb (length file) header_length) wrong_length (λ _.
-    first-resolution opened (λ n. refl) (degas_resolution file) (λ r. accepted (header_of file r))
+    first-resolution opened (λ n. refl) (degas_resolution file) (λ r. Ok (header_of file r))
     (λ _. cond (not (degas_packed file)) 2 (cond (ltb 32065 (length file)) 3 0)) (at Low) (at Medium) (at High))
   where
     opened : Outcome Header → ℕ
@@ -78,8 +77,8 @@ module _ (file : List ℕ) (c : RecordCursor) where
     where
       go : (b : Bool) → eqb (fault r) 0 ≡ b
           → number
-          (cond b (record { found = Listed (listed_as c r); next = moved_over width c r })
-          (stays c (Refused (row_refusal (fault r) c.offset c.plane_row c.good_bytes))))
+          (cond b (record { found = Ok (Some (listed_as c r)); next = moved_over width c r })
+          (stays c (Err (row_refusal (fault r) c.offset c.plane_row c.good_bytes))))
           ≡ fault r
       go true e = sym (eqb-true _ _ e)
       go false e = refl
@@ -89,7 +88,7 @@ module _ (file : List ℕ) (c : RecordCursor) where
   unfolding end_at
   end-number = go (eqb (length file) (c.offset + tail_length))
     where
-      go : (b : Bool) → number (stays c (cond b Done (Refused (refusal wrong_tail c.offset)))) ≡ cond (not b) 8 0
+      go : (b : Bool) → number (stays c (cond b (Ok None) (Err (refusal wrong_tail c.offset)))) ≡ cond (not b) 8 0
       go true = refl
       go false = refl
 
@@ -105,7 +104,7 @@ module _ (file : List ℕ) (c : RecordCursor) where
 
       go : (s t : Bool)
           → number
-          (cond s (stays c (Refused (refusal out_of_range 0)))
+          (cond s (stays c (Err (refusal out_of_range 0)))
           (cond t (record_step width c (record_under file width c)) (stays c (end_at (length file) c.offset))))
           ≡ cond s 10
           (first_refusal
@@ -119,7 +118,7 @@ module _ (file : List ℕ) (c : RecordCursor) where
   unfolding stepped packed_opening opening
   next-record-order =
       first-test opened (λ n. refl) (ltb (length file) header_length) wrong_length (λ _.
-      first-resolution opened (λ n. refl) (degas_resolution file) (λ r. accepted (header_of file r))
+      first-resolution opened (λ n. refl) (degas_resolution file) (λ r. Ok (header_of file r))
       (λ n. cond (not (degas_packed file)) 2 (cond (ltb 32065 (length file)) 3
       (first_refusal (cursor_tests file (plane_rows n) (row_bytes n) c)))) (at Low) (at Medium) (at High))
     where
@@ -191,8 +190,8 @@ module _ (file : List ℕ) (c : RecordCursor) where
   next-record-at-record = go (packed_opening file) (opening-zero file)
     where
       go : (o : Outcome Resolution) → OpeningZero o → Unless (opened_step file c o)
-      go (accepted r) zero = body-unless (plane_rows_of r) (row_bytes_of r)
-      go (refused why) zero = λ _. zero
+      go (Ok r) zero = body-unless (plane_rows_of r) (row_bytes_of r)
+      go (Err why) zero = λ _. zero
 
 -- ---- demand 1: what a refusal gives; nothing is lent but the file, which is only read
 
@@ -201,7 +200,7 @@ module _ (file : List ℕ) (c : RecordCursor) where
   Gives s = RecordRefusal c (record_answer s)
 
   -- the cursor stays at a refusal
-  refused-stays : (why : Refusal) → Gives (stays c (Refused why))
+  refused-stays : (why : Refusal) → Gives (stays c (Err why))
   refused-stays why h = record { kind = refl; offset = refl; plane_row = refl; length = refl; next = refl }
 
   body-gives : (rows width : ℕ) → Gives (body_step file rows width c)
@@ -218,8 +217,8 @@ module _ (file : List ℕ) (c : RecordCursor) where
   next-record-refused = go (packed_opening file)
     where
       go : (o : Outcome Resolution) → Gives (opened_step file c o)
-      go (accepted r) = body-gives (plane_rows_of r) (row_bytes_of r)
-      go (refused why) = refused-stays why
+      go (Ok r) = body-gives (plane_rows_of r) (row_bytes_of r)
+      go (Err why) = refused-stays why
 
 -- a refused opening gives no cursor
 pub open-records-refused : (file : List ℕ) → Refuses (cursor_answer (packed_opening file)).refusal
@@ -227,5 +226,5 @@ pub open-records-refused : (file : List ℕ) → Refuses (cursor_answer (packed_
 open-records-refused file = go (packed_opening file)
   where
     go : (o : Outcome Resolution) → Refuses (cursor_answer o).refusal → (cursor_answer o).cursor ≡ cursor_at 0 0 0
-    go (accepted r) h = absurd (h refl)
-    go (refused why) h = refl
+    go (Ok r) h = absurd (h refl)
+    go (Err why) h = refl

@@ -1,5 +1,6 @@
 -- Document 02, ticket 3: "All other answers, and bodies packed otherwise, give zero there", of the plane row and its
 -- good bytes, of the answer of each public operation.
+use Rattle.std.specs.Prelude.{Ok, Err, None, Option, Some}
 use mathlib.Core.Path.{◌≡◌, refl, sym, subst}
 use mathlib.Core.Logic.{inl, inr}
 use mathlib.Core.Bool.{Bool, true, false, not, ◌||◌}
@@ -9,7 +10,7 @@ use lib.ListN.{length, drop}
 use lib.Dec.{ltb, leb, eqb}
 use Rattle.lists.proofs.Cond.{cond-elim, cond-eqb}
 use Rattle.outcome.specs.declared.Refusal.{Refusal}
-use Rattle.outcome.specs.Outcome.{Outcome, accepted, refused, refusal, refuse_if, map, bind, placed, refusal_of}
+use Rattle.outcome.specs.Outcome.{Outcome, refusal, refuse_if, map, bind, placed, refusal_of}
 use Rattle.outcome.specs.Refusal.{area_too_short, unknown_kind, wrong_length, wrong_flag, unknown_resolution, wrong_tail}
 use Rattle.outcome.specs.Refusal.{ignored_bits_set, no_zero_tail, not_owned}
 use Rattle.outcome.specs.Refusal.{input_ends, record_crosses, no_packed_body, out_of_range, size_mismatch, wrong_version}
@@ -31,8 +32,6 @@ use Rattle.lines.specs.Lines.{judge_line_at, registers_fit, line_out, line_in}
 use Rattle.tally.specs.declared.Rectangle.{Rectangle}
 use Rattle.tally.specs.Rectangles.{rectangle_fits, judge_rectangle}
 use Rattle.tally.specs.Counts.{tallied, tally_answer}
-use Rattle.colour.specs.declared.ChosenMachine.{ChosenMachine}
-use Rattle.colour.specs.declared.ChosenMachine.TheVariants.{Known, Unknown}
 use Rattle.colour.specs.declared.Machine.{Machine}
 use Rattle.colour.specs.Machines.{chosen_machine, judge_machine, with_machine}
 use Rattle.colour.specs.declared.Rgb.{Rgb}
@@ -96,10 +95,10 @@ module _ {A : Type 0} (o : Outcome A) {why : Refusal} (answer : why ≡ refusal_
   answer-zero p = answer-unless p (λ none. none)
 
 module _ {Given : ℕ → Type 0} {A : Type 0} where
-  accepts : (a : A) → ZeroExcept Given (accepted a)
+  accepts : (a : A) → ZeroExcept Given (Ok a)
   accepts a = record { unless = λ h. (refl, refl) }
 
-  refuses : (number place : ℕ) → ZeroExcept Given {A = A} (refused (refusal number place))
+  refuses : (number place : ℕ) → ZeroExcept Given {A = A} (Err (refusal number place))
   refuses number place = record { unless = λ h. (refl, refl) }
 
   by-if : (t : Bool) (number : ℕ) {further : Outcome A} → ZeroExcept Given further
@@ -109,16 +108,16 @@ module _ {Given : ℕ → Type 0} {A : Type 0} where
 
   by-bind : {B : Type 0} (o : Outcome B) (further : B → Outcome A) → ZeroExcept Given o
       → ((b : B) → ZeroExcept Given (further b)) → ZeroExcept Given (bind o further)
-  by-bind (accepted b) further p q = q b
-  by-bind (refused why) further p q = record { unless = p.unless }
+  by-bind (Ok b) further p q = q b
+  by-bind (Err why) further p q = record { unless = p.unless }
 
   by_map : {B : Type 0} (f : B → A) (o : Outcome B) → ZeroExcept Given o → ZeroExcept Given (map f o)
-  by_map f (accepted b) p = accepts (f b)
-  by_map f (refused why) p = record { unless = p.unless }
+  by_map f (Ok b) p = accepts (f b)
+  by_map f (Err why) p = record { unless = p.unless }
 
   by_place : (at : ℕ) (o : Outcome A) → ZeroExcept Given o → ZeroExcept Given (placed at o)
-  by_place at (accepted a) p = p
-  by_place at (refused why) p = record { unless = p.unless }
+  by_place at (Ok a) p = p
+  by_place at (Err why) p = record { unless = p.unless }
 
   by-resolution : (number : ℕ) (further : Resolution → Outcome A) → ((r : Resolution) → ZeroExcept Given (further r))
       → ZeroExcept Given (with_resolution number further)
@@ -134,7 +133,7 @@ module _ {Given : ℕ → Type 0} {A : Type 0} where
 -- a fault, which is 6 or 7
 at-fault : {A : Type 0} (why : Refusal)
     → ((why.number ≡ input_ends → ⊥) → (why.number ≡ record_crosses → ⊥) → why.number ≡ 0)
-    → (why.number ≡ 0 → ⊥) → ZeroExcept AtRecord {A = A} (refused why)
+    → (why.number ≡ 0 → ⊥) → ZeroExcept AtRecord {A = A} (Err why)
 at-fault why numbers e =
     record { unless = λ h. absurd (e (numbers (λ six. h (inl six)) (λ seven. h (inr seven)))) }
 
@@ -185,10 +184,10 @@ module _ (Given : ℕ → Type 0) where
   unfolding read_neochrome opening
   neochrome-rows file area =
       by-if (ltb area screen_bytes) area_too_short
-      (by-bind (opening file) (λ r. accepted (neochrome_reading file r))
+      (by-bind (opening file) (λ r. Ok (neochrome_reading file r))
       (by-if (not (eqb (length file) file_length)) wrong_length
       (by-if (not (eqb (word_at file 0) 0)) wrong_flag
-      (by-resolution (word_at file resolution_start) (λ r. accepted r) (λ r. accepts r))))
+      (by-resolution (word_at file resolution_start) (λ r. Ok r) (λ r. accepts r))))
       (λ r. accepts (neochrome_reading file r)))
 
   tiny-rows : (file : List ℕ) (area : ℕ) → Of (read_tiny file area)
@@ -335,9 +334,9 @@ by-machine : {A : Type 0} (machine : ℕ) (further : Machine → Outcome A)
     → ((m : Machine) → ZeroExcept NoNumber (further m)) → ZeroExcept NoNumber (with_machine machine further)
 by-machine machine further p = go (chosen_machine machine)
   where
-    go : (c : ChosenMachine) → ZeroExcept NoNumber (judge_machine c further)
-    go (Known m) = p m
-    go Unknown = refuses out_of_range 0
+    go : (c : Option Machine) → ZeroExcept NoNumber (judge_machine c further)
+    go (Some m) = p m
+    go None = refuses out_of_range 0
 
 pub colour-zero : (number machine : ℕ) (palette : List ℕ) (register : ℕ)
     → BothZero (colour_answer (shown number machine palette register)).refusal
@@ -368,7 +367,7 @@ by-writing : (screen out number : ℕ) (next : Resolution → Outcome Writing)
 unfolding judge_writing
 by-writing screen out number next h =
     by-bind (judge_writing screen out number) next
-    (by-areas screen out (by-resolution number (λ r. accepted r) (λ r. accepts r))) h
+    (by-areas screen out (by-resolution number (λ r. Ok r) (λ r. accepts r))) h
 
 degas-zero : (form : Form) (p : Picture) (screen : List ℕ) (out : ℕ)
     → ZeroExcept NoNumber (write_degas form p screen out)
@@ -402,8 +401,8 @@ weaken p = record { unless = λ _. p.unless (λ none. none) }
 
 by-recover : (number : ℕ) (o other : Outcome Writing) → ZeroExcept NoNumber o → ZeroExcept NoNumber other
     → ZeroExcept NoNumber (recover number o other)
-by-recover number (accepted w) other p q = accepts w
-by-recover number (refused why) other p q =
+by-recover number (Ok w) other p q = accepts w
+by-recover number (Err why) other p q =
     cond-elim (λ (o : Outcome Writing). ZeroExcept NoNumber o) (eqb why.number number) (λ _. q) (λ _. p)
 
 converted-zero : (to : Conversion) (word : ℕ) (p : Picture) (screen : List ℕ) (out : ℕ)

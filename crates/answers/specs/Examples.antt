@@ -1,6 +1,6 @@
 -- The examples of document 01 that are marked P, as one table (document 01, "Examples to hold to").
-use Rattle.std.specs.Prelude.{ℕ, ◌≡◌, List, [], ◌∷◌, replicate}
-use Rattle.outcome.specs.Outcome.{Outcome, refused, row_refusal}
+use Rattle.std.specs.Prelude.{ℕ, ◌≡◌, List, [], ◌∷◌, replicate, Err}
+use Rattle.outcome.specs.Outcome.{Outcome, row_refusal}
 use Rattle.outcome.specs.Refusal.{input_ends, record_crosses}
 use Rattle.words.specs.Word.{words_bytes}
 use Rattle.packbits.specs.Row.{Row, done}
@@ -37,8 +37,8 @@ table =
     ∷ row_packed (0x01 ∷ 0x07 ∷ 0x07 ∷ 0x07 ∷ 0x02 ∷ []) (0x00 ∷ 0x01 ∷ 0xFE ∷ 0x07 ∷ 0x00 ∷ 0x02 ∷ [])
     ∷ row_packed (replicate 40 0x00) (0xD9 ∷ 0x00 ∷ [])
     ∷ row_unpacked (0x80 ∷ 0xFF ∷ 0x07 ∷ []) 2 (done 3 2 (0x07 ∷ 0x07 ∷ []))
-    ∷ row_unpacked (0x01 ∷ 0x07 ∷ []) 2 (refused (row_refusal input_ends 0 0 0))
-    ∷ row_unpacked (0xFE ∷ 0x07 ∷ []) 2 (refused (row_refusal record_crosses 0 0 0))
+    ∷ row_unpacked (0x01 ∷ 0x07 ∷ []) 2 (Err (row_refusal input_ends 0 0 0))
+    ∷ row_unpacked (0xFE ∷ 0x07 ∷ []) 2 (Err (row_refusal record_crosses 0 0 0))
     ∷ coloured 0x0735 255 109 182
     ∷ coloured 0x0000 0 0 0
     ∷ first_register (0x8000 ∷ 0x0000 ∷ 0x8000 ∷ 0x0000 ∷ []) 5

@@ -1,7 +1,7 @@
 -- What a refusal of the index gives: zero in all but the refusal itself, or the legend as it was (document 01, "Numbers
 -- given back"; document 02, ticket 8). Nothing is lent but a screen that is only read.
-use Rattle.std.specs.Prelude.{ℕ, ◌≡◌, List, replicate}
 use Rattle.outcome.specs.Outcome.{Outcome}
+use Rattle.std.specs.Prelude.{ℕ, ◌≡◌, List, replicate}
 use Rattle.tally.specs.Counts.{tally_answer}
 use Rattle.colour.specs.declared.Rgb.{Rgb}
 use Rattle.colour.specs.Shown.{colour_answer}

@@ -1,26 +1,18 @@
--- The outcome that an answer of a body comes from.
-use mathlib.Core.Path.{◌≡◌, refl, sym, ap, ◌∙◌}
+-- What was accepted, where the value given of it is known.
+use Rattle.std.specs.Prelude.{Ok, Err}
+use mathlib.Core.Path.{◌≡◌, refl, ap}
 use Prim.Native.Nat.{ℕ}
-use Rattle.outcome.specs.Outcome.{Outcome, accepted, refused, Judged}
-use Rattle.bodies.specs.declared.BodyAnswer.{BodyAnswer}
-use Rattle.bodies.specs.Body.{body_done, body_answer}
+use native.Mathlib.Omega.{arith}
+use Rattle.outcome.specs.Outcome.{Outcome, map, later, Judged}
 
--- a value that was accepted, what holds of it, and the answer with its counts
-pub record Answered {A : Type 0} (body records : A → ℕ) (P : A → Type 0) (o : Outcome A) (a : BodyAnswer) : Type 0 where
+-- a value that was accepted, what holds of it, and what is given of it
+pub record Given {A B : Type 0} (f : A → B) (P : A → Type 0) (o : Outcome A) (given : B) : Type 0 where
   pub value : A
-  pub is : o ≡ accepted value
+  pub is : o ≡ Ok value
   pub holds : P value
-  pub same : a ≡ body_done (body value) (records value)
+  pub same : f value ≡ given
 
-module _ {A : Type 0} (body records : A → ℕ) {a : BodyAnswer} where
-  -- a number tells the refusal
-  pub answer-refused : (o : Outcome A) → a ≡ body_answer body records o → (a.refusal.number ≡ 0 → ⊥)
-      → o ≡ refused a.refusal
-  answer-refused (accepted v) is e = absurd (e (ap (λ (x : BodyAnswer). x.refusal.number) is))
-  answer-refused (refused why) is e = ap (λ (x : BodyAnswer). refused x.refusal) (sym is)
-
-  -- the number 0 tells what was accepted
-  pub answer-accepted : (P : A → Type 0) (o : Outcome A) → Judged P o → a ≡ body_answer body records o
-      → a.refusal.number ≡ 0 → Answered body records P o a
-  answer-accepted P (accepted v) p is ok = record { value = v; is = refl; holds = p; same = is }
-  answer-accepted P (refused why) p is ok = absurd (p (sym (ap (λ (x : BodyAnswer). x.refusal.number) is) ∙ ok))
+pub given-known : {A B : Type 0} (f : A → B) (P : A → Type 0) (o : Outcome A) (given : B) → Judged P o
+    → map f o ≡ Ok given → Given f P o given
+given-known f P (Ok v) given p e = record { value = v; is = refl; holds = p; same = ap (λ (o : Outcome _). later o (λ b. b) given) e }
+given-known f P (Err why) given p e = let z : ◌≡◌ {A = ℕ} 0 1 = cc in absurd (omega arith)

@@ -1,5 +1,6 @@
 -- Where a body broke, and that what its refusal calls good is what every completion of the file has (document 02,
 -- ticket 3).
+use Rattle.std.specs.Prelude.{Ok, Err}
 use mathlib.Core.Path.{◌≡◌, refl, sym, ap, ap₂, ◌∙◌, subst}
 use mathlib.Core.Logic.{inl, inr}
 use mathlib.Core.List.{List, ◌++◌, flatten}
@@ -12,7 +13,7 @@ use Rattle.lists.specs.Bytes.{Bytes}
 use Rattle.lists.proofs.Bytes.{bytes_drop}
 use Rattle.lists.proofs.Cond.{cond-elim}
 use Rattle.outcome.specs.declared.Refusal.{Refusal}
-use Rattle.outcome.specs.Outcome.{Outcome, accepted, refused, refusal, map, bind, placed, refusal_of}
+use Rattle.outcome.specs.Outcome.{Outcome, refusal, map, bind, placed, refusal_of}
 use Rattle.outcome.specs.Refusal.{wrong_tail}
 use Rattle.packbits.specs.Rows.{Rows, done_rows, unpack_rows}
 use Rattle.packbits.specs.Stops.{AtRecord, BeginsWith}
@@ -35,12 +36,12 @@ module _ (file : List ℕ) (at : ℕ) (r : Raster) where
   abbrev all_rows : Outcome Rows
   all_rows = unpack_rows (rows r) (row_bytes r) (drop at file)
 
-  pub stops-refused : (after : ℕ) {why : Refusal} → BodyStops file at r why → read_body file at after r ≡ refused why
+  pub stops-refused : (after : ℕ) {why : Refusal} → BodyStops file at r why → read_body file at after r ≡ Err why
   unfolding read_body
   stops-refused after s =
       let e = stops-complete (rows r) (row_bytes r) (drop at file) s.inside s.stops in
       ap (λ (o : Outcome Rows). bind (map (body_of r) (placed at o)) (judge_end file at after)) e
-      ∙ ap refused (sym s.from)
+      ∙ ap Err (sym s.from)
 
   pub stops-number : {why : Refusal} → BodyStops file at r why → AtRecord why.number
   stops-number s = subst (λ (w : Refusal). AtRecord w.number) (sym s.from) (faulty-number s.stops.faulty)
@@ -50,13 +51,13 @@ module _ (file : List ℕ) (at : ℕ) (r : Raster) where
   not_end place (inl six) = omega arith
   not_end place (inr seven) = omega arith
 
-  pub refused-stops : (after : ℕ) (why : Refusal) → Bytes file → read_body file at after r ≡ refused why
+  pub refused-stops : (after : ℕ) (why : Refusal) → Bytes file → read_body file at after r ≡ Err why
       → AtRecord why.number → BodyStops file at r why
   unfolding read_body
   refused-stops after why all = go all_rows refl
     where
       Stopped : Outcome UnpackedBody → Type 0
-      Stopped o = o ≡ refused why → AtRecord why.number → BodyStops file at r why
+      Stopped o = o ≡ Err why → AtRecord why.number → BodyStops file at r why
 
       ended : (q : Rows) → Stopped (judge_end file at after (body_of r q))
       ended q =
@@ -66,8 +67,8 @@ module _ (file : List ℕ) (at : ℕ) (r : Raster) where
           (subst (λ (w : Refusal). AtRecord w.number) (sym (ap (λ (o : Outcome UnpackedBody). refusal_of o) e)) n)))
 
       go : (o : Outcome Rows) → all_rows ≡ o → Stopped (bind (map (body_of r) (placed at o)) (judge_end file at after))
-      go (accepted q) is = ended q
-      go (refused w) is = λ e n. record {
+      go (Ok q) is = ended q
+      go (Err w) is = λ e n. record {
         inside = w;
         from = sym (ap (λ (o : Outcome UnpackedBody). refusal_of o) e);
         stops = (stops-exactly (rows r) (row_bytes r) (drop at file) w (bytes_drop at file all)).0 is;

@@ -1,4 +1,5 @@
 -- `unpack_body` accepts with exactly the byte strings of the relation `UnpacksImage`.
+use Rattle.std.specs.Prelude.{Ok}
 use mathlib.Core.Path.{◌≡◌, refl, sym, ap, ap₂, ◌∙◌, subst}
 use mathlib.Core.Logic.{◌↔◌}
 use mathlib.Core.List.{List, [], ◌++◌}
@@ -10,7 +11,7 @@ use Rattle.lists.specs.Bytes.{Bytes}
 use Rattle.lists.proofs.Bytes.{no_bytes, bytes_drop}
 use Rattle.lists.proofs.Tabulate.{tabulate-all, tabulate-le}
 use Rattle.lists.proofs.Wide.{wide_at}
-use Rattle.outcome.specs.Outcome.{Outcome, accepted, map, placed}
+use Rattle.outcome.specs.Outcome.{Outcome, map, placed}
 use Rattle.packbits.specs.Rows.{Rows, done_rows, unpack_rows}
 use Rattle.packbits.specs.UnpacksRows.{UnpacksRows}
 use Rattle.packbits.proofs.RowsExact.{complete-rows, exact-rows}
@@ -43,7 +44,7 @@ module _ (r : Raster) where
   pub body-complete : (image : List ℕ) → bytes r ≤ length image → {body : List ℕ} {n : ℕ} → UnpacksImage r body image n
       → (front rest : List ℕ)
       → unpack_body (front ++ (body ++ rest)) (length front) r
-      ≡ accepted (record { body = length body; records = n; image = take (bytes r) image })
+      ≡ Ok (record { body = length body; records = n; image = take (bytes r) image })
   body-complete image size {body} {n} u front rest =
       let list : List (List ℕ) = plane_rows image r in
       let file : List ℕ = front ++ (body ++ rest) in
@@ -52,13 +53,13 @@ module _ (r : Raster) where
       (drop_at front (body ++ rest) (length front) refl)
       ∙ complete-rows (row_bytes r) (wide-plane_rows image r) u rest in
       ap (λ (o : Outcome Rows). map (body_of r) (placed (length front) o)) all
-      ∙ ap (λ (l : List ℕ). accepted (record { body = length body; records = n; image = l }))
+      ∙ ap (λ (l : List ℕ). Ok (record { body = length body; records = n; image = l }))
       (image-of-rows r image size)
 
   -- ---- exact: accepted with these counts and this image just where the relation has them
 
   module _ (file : List ℕ) (at : ℕ) (u : UnpackedBody) (all : Bytes file) where
-    body-sound : unpack_body file at r ≡ accepted u → AcceptsBody file at r u
+    body-sound : unpack_body file at r ≡ Ok u → AcceptsBody file at r u
     body-sound e =
         let input : List ℕ = drop at file in
         let f = from-rows r at (unpack_rows (rows r) (row_bytes r) input) u e in
@@ -74,7 +75,7 @@ module _ (r : Raster) where
           subst (λ (list : List (List ℕ)). UnpacksRows (take q.bytes input) list q.records) (sym same) s.3,
         )
 
-    body-accepts : AcceptsBody file at r u → unpack_body file at r ≡ accepted u
+    body-accepts : AcceptsBody file at r u → unpack_body file at r ≡ Ok u
     body-accepts s =
         let input : List ℕ = drop at file in
         let list : List (List ℕ) = plane_rows u.image r in
@@ -85,7 +86,7 @@ module _ (r : Raster) where
         let image-back =
         image-of-rows r u.image (omega (arith, s.0)) ∙ take_all (bytes r) u.image (omega (arith, s.0)) in
         ap (λ (o : Outcome Rows). map (body_of r) (placed at o)) rows_back
-        ∙ ap (λ (l : List ℕ). accepted (record { body = u.body; records = u.records; image = l })) image-back
+        ∙ ap (λ (l : List ℕ). Ok (record { body = u.body; records = u.records; image = l })) image-back
 
-    pub body-exact : (unpack_body file at r ≡ accepted u) ↔ AcceptsBody file at r u
+    pub body-exact : (unpack_body file at r ≡ Ok u) ↔ AcceptsBody file at r u
     body-exact = (body-sound, body-accepts)

@@ -1,5 +1,6 @@
 -- A file with a body between a header and what follows it is accepted exactly when its parts fit, and then with what
 -- they give (document 00, demand 2).
+use Rattle.std.specs.Prelude.{Ok}
 use mathlib.Core.Path.{◌≡◌, refl, sym, ap, ap₂, ◌∙◌}
 use mathlib.Core.Logic.{◌↔◌}
 use mathlib.Core.List.{List, [], ◌++◌, append_assoc}
@@ -9,7 +10,7 @@ use lib.ListN.{length, take, drop, length-append, length-drop, take-append-drop}
 use lib.Seq.{take_at, drop_at, length-take-le, take_all}
 use Rattle.lists.specs.Bytes.{Bytes}
 use Rattle.lists.proofs.Cond.{cond-eqb}
-use Rattle.outcome.specs.Outcome.{Outcome, accepted, later, Judged}
+use Rattle.outcome.specs.Outcome.{Outcome, later, Judged}
 use Rattle.outcome.proofs.Outcome.{judged-known, judged-value, judged-bind}
 use Rattle.raster.specs.declared.Raster.{Raster}
 use Rattle.raster.specs.Shape.{bytes}
@@ -46,21 +47,21 @@ module _ (file : List ℕ) (at after limit : ℕ) (r : Raster) where
         ap (take (length b.body)) fits-behind ∙ take_at b.body b.tail (length b.body) refl
 
     -- is accepted, with what its parts give
-    pub fits-complete : read_body file at after r ≡ accepted (body_given b)
+    pub fits-complete : read_body file at after r ≡ Ok (body_given b)
     fits-complete =
         let runs = body-complete r b.image (omega (arith, b.size)) b.runs b.header b.tail in
         let whole : take (bytes r) b.image ≡ b.image = take_all (bytes r) b.image (omega (arith, b.size)) in
         read-ends file at after r (body_given b)
         (ap₂ (λ (s : List ℕ) (n : ℕ). unpack_body s n r) in_order (sym b.before)
         ∙ runs
-        ∙ ap (λ (s : List ℕ). accepted (record { body = length b.body; records = b.records; image = s })) whole)
+        ∙ ap (λ (s : List ℕ). Ok (record { body = length b.body; records = b.records; image = s })) whole)
         fits-length
 
   -- it fits in one way only
   pub fits-unique : (b o : BodyFits file at after limit r)
       → (b.body ≡ o.body) × (b.image ≡ o.image) × (b.records ≡ o.records)
   fits-unique b o =
-      let same : accepted (body_given b) ≡ accepted (body_given o) = sym (fits-complete b) ∙ fits-complete o in
+      let same : Ok (body_given b) ≡ Ok (body_given o) = sym (fits-complete b) ∙ fits-complete o in
       let long : length b.body ≡ length o.body =
       ap (λ (a : Outcome UnpackedBody). later a (λ u. u.body) 0) same in (
         sym (fits-body b) ∙ ap (λ (n : ℕ). take n (drop at file)) long ∙ fits-body o,
@@ -74,7 +75,7 @@ module _ (file : List ℕ) (at after limit : ℕ) (r : Raster) where
   FitsGiven u = (b : BodyFits file at after limit r) × (u ≡ body_given b)
 
   module _ (all : Bytes file) (short : length file < at + limit + after) where
-    end-judged : (u : UnpackedBody) → unpack_body file at r ≡ accepted u → Judged FitsGiven (judge_end file at after u)
+    end-judged : (u : UnpackedBody) → unpack_body file at r ≡ Ok u → Judged FitsGiven (judge_end file at after u)
     end-judged u is =
         cond-eqb (Judged FitsGiven) (length file) (at + u.body + after)
         (λ e.
@@ -110,14 +111,14 @@ module _ (file : List ℕ) (at after limit : ℕ) (r : Raster) where
         (λ u known. end-judged u known.0)
 
     -- accepted exactly when it fits, and then with this
-    pub fits-exactly : (u : UnpackedBody) → (read_body file at after r ≡ accepted u) ↔ FitsGiven u
+    pub fits-exactly : (u : UnpackedBody) → (read_body file at after r ≡ Ok u) ↔ FitsGiven u
     fits-exactly u = (
       judged-value FitsGiven (read_body file at after r) u fits-judged,
-      λ g. fits-complete g.0 ∙ ap accepted (sym g.1),
+      λ g. fits-complete g.0 ∙ ap Ok (sym g.1),
     )
 
     -- the counts of an accepted file are those of the body that unpacks to its image
-    pub fits-counts : (u : UnpackedBody) → read_body file at after r ≡ accepted u
+    pub fits-counts : (u : UnpackedBody) → read_body file at after r ≡ Ok u
         → (length file ≡ at + u.body + after) × UnpacksImage r (take u.body (drop at file)) u.image u.records
     fits-counts u e =
         let g = judged-value FitsGiven (read_body file at after r) u fits-judged e in

@@ -1,5 +1,6 @@
 -- The least body of an area at a raster: it unpacks to the area, none that does is shorter, when it is refused, and how
 -- long it can be. These are the demands on the packed writer, over the raster and the limit.
+use Rattle.std.specs.Prelude.{Ok}
 use mathlib.Core.Path.{◌≡◌, ap, ◌∙◌}
 use mathlib.Core.Logic.{◌↔◌}
 use mathlib.Core.Bool.{false}
@@ -13,7 +14,7 @@ use borrow.Author.Tests.{le-leb, lt-leb}
 use Rattle.lists.specs.Bytes.{Bytes}
 use Rattle.lists.specs.Tabulate.{tabulate}
 use Rattle.lists.proofs.Tabulate.{length-tabulate, get_or-tabulate, tabulate-ext, tabulate-le}
-use Rattle.outcome.specs.Outcome.{accepted, refuse}
+use Rattle.outcome.specs.Outcome.{refuse}
 use Rattle.outcome.specs.Refusal.{no_packed_body}
 use Rattle.packbits.specs.Row.{width_out_of_range}
 use Rattle.packbits.proofs.Row.{in-range}
@@ -69,7 +70,7 @@ module _ (r : Raster) (area : List ℕ) (range : width_out_of_range (row_bytes r
 
   -- otherwise it is the least body, below the limit
   pub least-below : (limit : ℕ) → (below_limit r area limit ≡ refuse no_packed_body → ⊥)
-      → (below_limit r area limit ≡ accepted (packed r area limit))
+      → (below_limit r area limit ≡ Ok (packed r area limit))
       × LeastBelow r area limit (least_body r area) (least_body_records r area)
   least-below limit h =
       let long : limit ≤ length (least_body r area) → ⊥ =

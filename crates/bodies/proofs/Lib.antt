@@ -1,7 +1,5 @@
 pub mod Answers
-pub mod Buffer
 pub mod Damage
-pub mod Differences
 pub mod Exact
 pub mod Fits
 pub mod JudgeRaster

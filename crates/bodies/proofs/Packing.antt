@@ -1,4 +1,5 @@
 -- A body packed below a limit: its cases, in the order of judging, and what is accepted.
+use Rattle.std.specs.Prelude.{Ok, Err, ⊤}
 use mathlib.Core.Path.{◌≡◌, refl, sym, ap, ◌∙◌, subst}
 use mathlib.Core.Bool.{true, false}
 use mathlib.Core.List.{List, ◌++◌}
@@ -7,23 +8,24 @@ use native.Mathlib.Omega.{arith}
 use lib.ListN.{length, take, drop}
 use lib.Dec.{ltb, leb}
 use borrow.Rule.Slice.PartMut.{put_mid}
-use borrow.Author.Tests.{lt-ltb, le-ltb, ltb-false, leb-false}
+use borrow.Author.Tests.{lt-ltb, le-ltb, ltb-false}
 use Rattle.lists.specs.Over.{over, over_at}
 use Rattle.lists.specs.Written.{Written}
 use Rattle.lists.proofs.Cond.{cond-elim, cond-leb}
 use Rattle.lists.proofs.Parts.{over-put, kept_put}
 use Rattle.lists.proofs.Pieces.{written-before}
-use Rattle.outcome.specs.Outcome.{Outcome, accepted, refused, refuse, refuse_if, later, Judged}
+use Rattle.outcome.specs.declared.Refusal.{Refusal}
+use Rattle.outcome.specs.Outcome.{Outcome, refuse, refuse_if, map, later, Judged}
 use Rattle.outcome.specs.Refusal.{area_too_short, no_packed_body}
 use Rattle.outcome.proofs.Outcome.{passed}
+use Rattle.packbits.specs.declared.Packed.{Packed}
 use Rattle.packbits.specs.Row.{width_out_of_range}
 use Rattle.raster.specs.declared.Raster.{Raster}
 use Rattle.raster.specs.Shape.{row_bytes, bytes}
-use Rattle.bodies.specs.declared.BodyAnswer.{BodyAnswer}
-use Rattle.bodies.specs.Body.{raster_refusal}
-use Rattle.bodies.specs.Packing.{least_body, least_body_records, PackedBody, below_limit, pack_body, packed_answer}
+use Rattle.bodies.specs.Body.{judge_raster}
+use Rattle.bodies.specs.Packing.{least_body, least_body_records, PackedBody, below_limit, pack_body, body_packed}
 use Rattle.bodies.specs.Packing.{packed_output}
-use Rattle.bodies.proofs.Answers.{answer-accepted}
+use Rattle.bodies.proofs.Answers.{given-known}
 use Rattle.bodies.proofs.JudgeRaster.{judge-room, judge-refused, judge-accepted}
 
 module _ (r : Raster) (area : List ℕ) (limit : ℕ) where
@@ -36,7 +38,7 @@ module _ (r : Raster) (area : List ℕ) (limit : ℕ) where
   pub limit-long : leb limit (length (least_body r area)) ≡ true → below_limit r area limit ≡ refuse no_packed_body
   limit-long h = rw h
 
-  pub limit-below : leb limit (length (least_body r area)) ≡ false → below_limit r area limit ≡ accepted packed
+  pub limit-below : leb limit (length (least_body r area)) ≡ false → below_limit r area limit ≡ Ok packed
   limit-below h = rw h
 
   -- what is accepted is a body as long as it says, below the limit; a refusal has a number
@@ -46,21 +48,16 @@ module _ (r : Raster) (area : List ℕ) (limit : ℕ) where
   pub below-judged : Judged Below (below_limit r area limit)
   below-judged = cond-leb (Judged Below) limit (length (least_body r area)) (λ h n. omega arith) (λ h. (refl, h))
 
-  -- a body below the limit has room where every such body has
-  pub below-fits : (room : ℕ) → leb limit (length (least_body r area)) ≡ false → limit - 1 ≤ room
-      → length (least_body r area) ≤ room
-  below-fits room h k = omega (arith, leb-false limit (length (least_body r area)) h)
-
   -- ---- all cases
 
   module _ (at room : ℕ) where
     abbrev judged : Outcome PackedBody
     judged = refuse_if (ltb room (at + (limit - 1))) area_too_short (below_limit r area limit)
 
-    pub pack-refused : ((raster_refusal r (length area)).number ≡ 0 → ⊥)
-        → pack_body r area limit at room ≡ refused (raster_refusal r (length area))
+    pub pack-refused : (why : Refusal) → judge_raster {A = ⊤} r (length area) (Ok tt) ≡ Err why
+        → pack_body r area limit at room ≡ Err why
     unfolding pack_body
-    pack-refused h = judge-refused r (length area) judged h
+    pack-refused why e = judge-refused r (length area) judged why e
 
     module _ (w : width_out_of_range (row_bytes r) ≡ false) (full : bytes r ≤ length area) where
       pub pack-no-room : room < at + (limit - 1) → pack_body r area limit at room ≡ refuse area_too_short
@@ -72,7 +69,7 @@ module _ (r : Raster) (area : List ℕ) (limit : ℕ) where
       pack-room h = judge-room r (length area) judged w full ∙ rw (le-ltb room (at + (limit - 1)) h)
 
     -- what is accepted has room
-    pub packed-room : (b : PackedBody) → pack_body r area limit at room ≡ accepted b → at + (limit - 1) ≤ room
+    pub packed-room : (b : PackedBody) → pack_body r area limit at room ≡ Ok b → at + (limit - 1) ≤ room
     unfolding pack_body
     packed-room b e =
         let j = judge-accepted r (length area) judged b e in
@@ -91,34 +88,34 @@ module _ (r : Raster) (area : List ℕ) (limit : ℕ) where
 pub part-packed : (o : Outcome PackedBody) (at : ℕ) (out last : List ℕ) → at ≤ length out
     → let part = take (length out - at) (drop at out) in
     last ≡ later o (λ b. over b.bytes part) part → put_mid at (length out - at) out last ≡ packed_output o at out
-part-packed (accepted b) at out last h e = over-put out last b.bytes at h e
-part-packed (refused why) at out last h e = kept_put out last at h e
+part-packed (Ok b) at out last h e = over-put out last b.bytes at h e
+part-packed (Err why) at out last h e = kept_put out last at h e
 
--- ---- from what `pack_body` answered, and left of the output
+-- ---- from what `pack_body` gave, and left of the output
 
--- these bytes stand there, as they are reported
-pub record PackedAt (at limit : ℕ) (out after : List ℕ) (a : BodyAnswer) (o : Outcome PackedBody) : Type 0 where
+-- these bytes stand there, as many as it says
+pub record PackedAt (at limit : ℕ) (out after : List ℕ) (p : Packed) (o : Outcome PackedBody) : Type 0 where
   pub bytes : List ℕ
-  pub size : a.body ≡ length bytes
-  pub below : a.body < limit
+  pub size : p.bytes ≡ length bytes
+  pub below : p.bytes < limit
   pub there : after ≡ over_at at bytes out
-  pub is : o ≡ accepted (record { body = a.body; records = a.records; bytes = bytes })
+  pub is : o ≡ Ok (record { body = p.bytes; records = p.records; bytes = bytes })
 
 -- a header put before them, of as many bytes as are kept free
-pub packed-behind : {at limit : ℕ} {out after : List ℕ} {a : BodyAnswer} {o : Outcome PackedBody}
-    (k : PackedAt at limit out after a o) (head then : List ℕ) (n : ℕ) → n ≡ at → at ≤ length out
-    → Written head after then n → Written (head ++ k.bytes) out then (n + a.body)
+pub packed-behind : {at limit : ℕ} {out after : List ℕ} {p : Packed} {o : Outcome PackedBody}
+    (k : PackedAt at limit out after p o) (head then : List ℕ) (n : ℕ) → n ≡ at → at ≤ length out
+    → Written head after then n → Written (head ++ k.bytes) out then (n + p.bytes)
 packed-behind {out = out} k head then n size room h =
     let place = k.there ∙ ap (λ (at : ℕ). over_at at k.bytes out) (sym size) in
     subst (λ (l : ℕ). Written (head ++ k.bytes) out then (n + l)) (sym k.size)
     (written-before k.bytes out (omega arith) (subst (λ (l : List ℕ). Written head l then n) place h))
 
-module _ (r : Raster) (area : List ℕ) (limit at : ℕ) (out after : List ℕ) (a : BodyAnswer) where
-  pub packed-at : (o : Outcome PackedBody) → Judged (Below r area limit) o → a ≡ packed_answer o
-      → after ≡ packed_output o at out → a.refusal.number ≡ 0 → PackedAt at limit out after a o
-  packed-at o judged answer left ok =
-      let k = answer-accepted _ _ _ o judged answer ok in
-      let size = ap (λ (x : BodyAnswer). x.body) k.same ∙ k.holds.0 in
+module _ (r : Raster) (area : List ℕ) (limit at : ℕ) (out after : List ℕ) (p : Packed) where
+  pub packed-at : (o : Outcome PackedBody) → Judged (Below r area limit) o → map body_packed o ≡ Ok p
+      → after ≡ packed_output o at out → PackedAt at limit out after p o
+  packed-at o judged given left =
+      let k = given-known body_packed (Below r area limit) o p judged given in
+      let size : p.bytes ≡ length k.value.bytes = sym (ap (λ (x : Packed). x.bytes) k.same) ∙ k.holds.0 in
       record {
         bytes = k.value.bytes;
         size = size;
@@ -126,6 +123,6 @@ module _ (r : Raster) (area : List ℕ) (limit at : ℕ) (out after : List ℕ) 
         there = left ∙ ap (λ (o : Outcome PackedBody). packed_output o at out) k.is;
         is =
             k.is
-            ∙ ap (λ (x : BodyAnswer).
-            accepted (record { body = x.body; records = x.records; bytes = k.value.bytes })) (sym k.same);
+            ∙ ap (λ (x : Packed).
+            Ok (record { body = x.bytes; records = x.records; bytes = k.value.bytes })) k.same;
       }

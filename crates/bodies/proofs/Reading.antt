@@ -1,58 +1,50 @@
 -- Laws of reading a body that stands in a file between a header and what follows it: what each test that the code makes
 -- comes to.
+use Rattle.std.specs.Prelude.{Ok, Err}
 use mathlib.Core.Path.{◌≡◌, refl, sym, ap, ◌∙◌}
+use mathlib.Core.Bool.{false}
 use mathlib.Core.List.{List, ◌++◌}
-use Prim.Native.Nat.{ℕ, ◌+◌, ◌-◌, ◌≤◌, ◌<◌}
+use Prim.Native.Nat.{ℕ, ◌+◌, ◌-◌, ◌≤◌}
 use native.Mathlib.Omega.{arith}
 use lib.ListN.{length, take, drop}
-use borrow.Author.Tests.{lt-ltb, le-ltb, le-leb, eq-eqb, ne_eqb}
+use borrow.Author.Tests.{le-ltb, le-leb, eq-eqb, ne_eqb}
 use Rattle.lists.specs.Over.{over}
 use Rattle.lists.proofs.Cond.{cond-eqb}
-use Rattle.outcome.specs.Outcome.{Outcome, accepted, refused, refusal, refuse, bind, Judged}
-use Rattle.outcome.specs.Refusal.{area_too_short, wrong_tail}
+use Rattle.outcome.specs.declared.Refusal.{Refusal}
+use Rattle.outcome.specs.Outcome.{Outcome, refusal, map, bind, Judged}
+use Rattle.outcome.specs.Refusal.{wrong_tail}
 use Rattle.outcome.proofs.Areas.{area-cut as any-area-cut}
-use Rattle.outcome.proofs.Outcome.{judged-bind}
+use Rattle.outcome.proofs.Outcome.{map-refused, judged-bind}
+use Rattle.packbits.specs.declared.Packed.{Packed}
+use Rattle.packbits.specs.Row.{width_out_of_range}
 use Rattle.raster.specs.declared.Raster.{Raster}
-use Rattle.raster.specs.Shape.{bytes}
+use Rattle.raster.specs.Shape.{row_bytes, bytes}
 use Rattle.raster.specs.Joined.{put_joined}
-use Rattle.bodies.specs.declared.BodyAnswer.{BodyAnswer}
-use Rattle.bodies.specs.Body.{raster_refusal}
-use Rattle.bodies.specs.Unpacking.{UnpackedBody, unpack_body, unpacked_answer, RowsUnpacked}
+use Rattle.bodies.specs.Unpacking.{UnpackedBody, unpack_body, body_unpacked, RowsUnpacked}
 use Rattle.bodies.specs.Reading.{judge_end, read_body, read_into, body_area}
-use Rattle.bodies.proofs.Answers.{Answered, answer-refused, answer-accepted}
-use Rattle.bodies.proofs.JudgeRaster.{none-refused, judge-room, judge-refused}
+use Rattle.bodies.proofs.Answers.{Given, given-known}
+use Rattle.bodies.proofs.JudgeRaster.{judge-room}
 use Rattle.bodies.proofs.Unpacking.{BodyBounded, body-bounded}
 
 -- ---- the raster, the buffer and the area
 
 module _ (file : List ℕ) (at after : ℕ) (r : Raster) (room area : ℕ) where
-  pub into-refused : ((raster_refusal r room).number ≡ 0 → ⊥)
-      → read_into file at after r room area ≡ refused (raster_refusal r room)
-  into-refused h = judge-refused r room _ h
-
-  module _ (ok : (raster_refusal r room).number ≡ 0) where
-    pub into-short : area < bytes r → read_into file at after r room area ≡ refuse area_too_short
-    into-short h =
-        let f = none-refused r room ok in
-        judge-room r room _ f.0 f.1 ∙ rw (lt-ltb area (bytes r) h) refl
-
+  module _ (range : width_out_of_range (row_bytes r) ≡ false) (full : bytes r ≤ room) where
     pub into-fits : bytes r ≤ area → read_into file at after r room area ≡ read_body file at after r
-    into-fits h =
-        let f = none-refused r room ok in
-        judge-room r room _ f.0 f.1 ∙ rw (le-ltb area (bytes r) h) refl
+    into-fits h = judge-room r room _ range full ∙ rw (le-ltb area (bytes r) h) refl
 
 -- ---- the body, and the end after it
 
-module _ (file : List ℕ) (at after : ℕ) (r : Raster) (u : UnpackedBody) (is : unpack_body file at r ≡ accepted u) where
+module _ (file : List ℕ) (at after : ℕ) (r : Raster) (u : UnpackedBody) (is : unpack_body file at r ≡ Ok u) where
   body-judged : read_body file at after r ≡ judge_end file at after u
   unfolding read_body
   body-judged = ap (λ (o : Outcome UnpackedBody). bind o (judge_end file at after)) is
 
   pub read-wrong : (length file ≡ at + u.body + after → ⊥)
-      → read_body file at after r ≡ refused (refusal wrong_tail (at + u.body))
+      → read_body file at after r ≡ Err (refusal wrong_tail (at + u.body))
   read-wrong h = body-judged ∙ simp (ne_eqb (length file) (at + u.body + after) h)
 
-  pub read-ends : length file ≡ at + u.body + after → read_body file at after r ≡ accepted u
+  pub read-ends : length file ≡ at + u.body + after → read_body file at after r ≡ Ok u
   read-ends h = body-judged ∙ simp (eq-eqb (length file) (at + u.body + after) h)
 
 module _ (file : List ℕ) (at after : ℕ) (r : Raster) where
@@ -69,53 +61,45 @@ module _ (file : List ℕ) (at after : ℕ) (r : Raster) where
       (λ u b.
       cond-eqb (Judged ReadBounded) (length file) (at + u.body + after) (λ ends. (ends, b)) (λ _ n. omega arith))
 
--- ---- from what unpacking answered
+-- ---- from what unpacking gave
 
-module _ (file : List ℕ) (at after : ℕ) (r : Raster) {a : BodyAnswer}
-    (answered : a ≡ unpacked_answer (unpack_body file at r)) where
-  pub body-fault : (a.refusal.number ≡ 0 → ⊥) → read_body file at after r ≡ refused a.refusal
+module _ (file : List ℕ) (at after : ℕ) (r : Raster) where
+  pub body-refused : (why : Refusal) → map body_unpacked (unpack_body file at r) ≡ Err why
+      → read_body file at after r ≡ Err why
   unfolding read_body
-  body-fault e =
+  body-refused why e =
       ap (λ (o : Outcome UnpackedBody). bind o (judge_end file at after))
-      (answer-refused _ _ (unpack_body file at r) answered e)
+      (map-refused body_unpacked (unpack_body file at r) why e)
 
-  -- a refusal has no counts
-  pub fault-answer : (a.refusal.number ≡ 0 → ⊥) → a ≡ unpacked_answer (read_body file at after r)
-  fault-answer e =
-      answered
-      ∙ ap unpacked_answer (answer-refused _ _ (unpack_body file at r) answered e)
-      ∙ sym (ap unpacked_answer (body-fault e))
-
-  module _ (ok : a.refusal.number ≡ 0) where
+  module _ (p : Packed) (given : map body_unpacked (unpack_body file at r) ≡ Ok p) where
     -- what is known of the body
-    known : Answered (λ (u : UnpackedBody). u.body) (λ (u : UnpackedBody). u.records) (BodyBounded file at r)
-        (unpack_body file at r) a
-    known = answer-accepted _ _ (BodyBounded file at r) (unpack_body file at r) (body-bounded file at r) answered ok
+    known : Given body_unpacked (BodyBounded file at r) (unpack_body file at r) p
+    known = given-known body_unpacked (BodyBounded file at r) (unpack_body file at r) p (body-bounded file at r) given
 
-    body : a.body ≡ known.value.body
-    body = ap (λ (x : BodyAnswer). x.body) known.same
+    body : p.bytes ≡ known.value.body
+    body = sym (ap (λ (x : Packed). x.bytes) known.same)
 
     -- its bytes are there
-    pub body-there : a.body ≤ length file - at
+    pub body-there : p.bytes ≤ length file - at
     body-there = omega (arith, body, known.holds.1)
 
-    pub body-wrong : (length file ≡ at + a.body + after → ⊥)
-        → read_body file at after r ≡ refused (refusal wrong_tail (at + a.body))
+    pub body-wrong : (length file ≡ at + p.bytes + after → ⊥)
+        → read_body file at after r ≡ Err (refusal wrong_tail (at + p.bytes))
     body-wrong h =
         read-wrong file at after r known.value known.is
         (λ e. h (e ∙ ap (λ (n : ℕ). at + n + after) (sym body)))
-        ∙ ap (λ (n : ℕ). refused (refusal wrong_tail (at + n))) (sym body)
+        ∙ ap (λ (n : ℕ). Err (refusal wrong_tail (at + n))) (sym body)
 
-    pub body-done : length file ≡ at + a.body + after → (buffer area : List ℕ) → RowsUnpacked file at r buffer
+    pub body-done : length file ≡ at + p.bytes + after → (buffer area : List ℕ) → RowsUnpacked file at r buffer
         → bytes r ≤ length buffer → bytes r ≤ length area
-        → (a ≡ unpacked_answer (read_body file at after r))
+        → (Ok p ≡ map body_unpacked (read_body file at after r))
         × (put_joined r buffer area ≡ body_area (read_body file at after r) area)
     body-done h buffer area made full room =
         let u : UnpackedBody = known.value in
         let ends = read-ends file at after r u known.is (h ∙ ap (λ (n : ℕ). at + n + after) body) in
         let put : put_joined r buffer area ≡ over u.image area =
         rw (le-leb (bytes r) (length area) room, le-leb (bytes r) (length buffer) full, made u known.is) refl in (
-          known.same ∙ sym (ap unpacked_answer ends),
+          ap Ok (sym known.same) ∙ sym (ap (map body_unpacked) ends),
           put ∙ sym (ap (λ (o : Outcome UnpackedBody). body_area o area) ends),
         )
 

@@ -1,11 +1,11 @@
 -- The least body, put into a file, is read to the area that it was made from (document 00, demand 2).
+use Rattle.std.specs.Prelude.{Ok}
 use mathlib.Core.Path.{◌≡◌}
 use mathlib.Core.Bool.{false}
 use mathlib.Core.List.{List, ◌++◌}
 use Prim.Native.Nat.{ℕ, ◌+◌, ◌≤◌}
 use native.Mathlib.Omega.{arith}
 use lib.ListN.{length, take, length-append}
-use Rattle.outcome.specs.Outcome.{accepted}
 use Rattle.packbits.specs.Row.{width_out_of_range}
 use Rattle.raster.specs.declared.Raster.{Raster}
 use Rattle.raster.specs.Shape.{row_bytes, bytes}
@@ -19,7 +19,7 @@ use Rattle.bodies.proofs.Reading.{read-ends}
 pub body_back : (r : Raster) (area : List ℕ) → width_out_of_range (row_bytes r) ≡ false → bytes r ≤ length area
     → (front rest : List ℕ) (at after : ℕ) → length front ≡ at → length rest ≡ after
     → read_body (front ++ (least_body r area ++ rest)) at after r
-    ≡ accepted (record {
+    ≡ Ok (record {
       body = length (least_body r area);
       records = least_body_records r area;
       image = take (bytes r) area;

@@ -1,12 +1,14 @@
 -- A body unpacked: its cases, its bounds, and the image that its rows make.
+use Rattle.std.specs.Prelude.{Ok, Err}
 use mathlib.Core.Path.{◌≡◌, refl, ap, ◌∙◌, subst}
+use mathlib.Core.Bool.{false}
 use mathlib.Core.List.{List, flatten}
 use Prim.Native.Nat.{ℕ, ◌-◌, ◌≤◌}
 use native.Mathlib.Omega.{arith}
 use lib.ListN.{length, drop, length-drop}
-use Rattle.outcome.specs.Outcome.{Outcome, accepted, refused, map, placed, later, Judged}
-use Rattle.packbits.specs.declared.RowAnswer.{RowAnswer}
-use Rattle.packbits.specs.Rows.{Rows, rows_progress, unpack_rows, unpack_rows_at}
+use Rattle.outcome.specs.Outcome.{Outcome, map, placed, later, Judged}
+use Rattle.packbits.specs.Row.{width_out_of_range}
+use Rattle.packbits.specs.Rows.{Rows, rows_packed, rows_progress, unpack_rows, unpack_rows_at}
 use Rattle.packbits.proofs.Row.{in-range}
 use Rattle.packbits.proofs.Completion.{rows-accepted}
 use Rattle.packbits.proofs.RowsBounds.{RowsBounded, rows-bounded}
@@ -14,45 +16,37 @@ use Rattle.raster.specs.declared.Raster.{Raster}
 use Rattle.raster.specs.Shape.{row_bytes, rows, bytes}
 use Rattle.raster.proofs.Joined.{rows-bytes, joined-image}
 use Rattle.raster.proofs.PlaneRows.{length-image_of}
-use Rattle.unpack.specs.Rows.{rows_answer, judge_rows, RowsFit, whole_rows, Begins}
+use Rattle.unpack.specs.Rows.{judge_rows, RowsFit, whole_rows, Begins}
 use Rattle.unpack.proofs.JudgeRows.{judge-fit}
-use Rattle.bodies.specs.declared.BodyAnswer.{BodyAnswer}
-use Rattle.bodies.specs.Body.{raster_refusal}
-use Rattle.bodies.specs.Unpacking.{UnpackedBody, body_of, unpack_body, unpacked_answer}
-use Rattle.bodies.specs.Unpacking.{RowsUnpacked}
-use Rattle.bodies.proofs.JudgeRaster.{none-refused}
+use Rattle.bodies.specs.Unpacking.{UnpackedBody, body_of, unpack_body, body_unpacked, RowsUnpacked}
 
--- ---- a raster that is not refused has rows that fit
+-- ---- a raster that is accepted has rows that fit
 
-pub rows_fit : (r : Raster) (room : ℕ) → (raster_refusal r room).number ≡ 0 → RowsFit (rows r) (row_bytes r) room
-rows_fit r room h =
-    let f = none-refused r room h in
-    let w = in-range (row_bytes r) f.0 in
-    record { some = w.0; narrow = w.1; size = omega (arith, rows-bytes r, f.1) }
+pub rows_fit : (r : Raster) (room : ℕ) → width_out_of_range (row_bytes r) ≡ false → bytes r ≤ room
+    → RowsFit (rows r) (row_bytes r) room
+rows_fit r room range full =
+    let w = in-range (row_bytes r) range in
+    record { some = w.0; narrow = w.1; size = omega (arith, rows-bytes r, full) }
 
--- ---- the answer of rows, as that of a body
+-- ---- what rows give, as what a body gives
 
-abbrev pub answer_of : RowAnswer → BodyAnswer
-answer_of a = record { refusal = a.refusal; body = a.bytes; records = a.records }
+body_rows : (r : Raster) (o : Outcome Rows) → map rows_packed o ≡ map body_unpacked (map (body_of r) o)
+body_rows r (Ok q) = refl
+body_rows r (Err why) = refl
 
-rows-answer : (r : Raster) (o : Outcome Rows) → answer_of (rows_answer o) ≡ unpacked_answer (map (body_of r) o)
-rows-answer r (accepted q) = refl
-rows-answer r (refused why) = refl
-
-pub body-answer : (file : List ℕ) (at : ℕ) (r : Raster) (room : ℕ) → RowsFit (rows r) (row_bytes r) room
-    → (a : RowAnswer)
-    → a ≡ rows_answer (judge_rows (rows r) (row_bytes r) room (unpack_rows_at file at (row_bytes r) (rows r)))
-    → answer_of a ≡ unpacked_answer (unpack_body file at r)
-body-answer file at r room fit a is =
+pub rows-judged : (file : List ℕ) (at : ℕ) (r : Raster) (room : ℕ) → RowsFit (rows r) (row_bytes r) room
+    → map rows_packed (judge_rows (rows r) (row_bytes r) room (unpack_rows_at file at (row_bytes r) (rows r)))
+    ≡ map body_unpacked (unpack_body file at r)
+rows-judged file at r room fit =
     let o = unpack_rows_at file at (row_bytes r) (rows r) in
-    ap answer_of (is ∙ ap rows_answer (judge-fit (rows r) (row_bytes r) room o fit)) ∙ rows-answer r o
+    ap (map rows_packed) (judge-fit (rows r) (row_bytes r) room o fit) ∙ body_rows r o
 
 -- ---- what is accepted comes from accepted rows, which are whole
 
-pub from-rows : (r : Raster) (at : ℕ) (o : Outcome Rows) (u : UnpackedBody) → map (body_of r) (placed at o) ≡ accepted u
-    → (q : Rows) × (o ≡ accepted q) × (body_of r q ≡ u)
-from-rows r at (accepted q) u e = (q, refl, ap (λ (o : Outcome UnpackedBody). later o (λ b. b) u) e)
-from-rows r at (refused why) u e = let z : ◌≡◌ {A = ℕ} 0 1 = cc in absurd (omega arith)
+pub from-rows : (r : Raster) (at : ℕ) (o : Outcome Rows) (u : UnpackedBody) → map (body_of r) (placed at o) ≡ Ok u
+    → (q : Rows) × (o ≡ Ok q) × (body_of r q ≡ u)
+from-rows r at (Ok q) u e = (q, refl, ap (λ (o : Outcome UnpackedBody). later o (λ b. b) u) e)
+from-rows r at (Err why) u e = let z : ◌≡◌ {A = ℕ} 0 1 = cc in absurd (omega arith)
 
 module _ (file : List ℕ) (at : ℕ) (r : Raster) where
   bounds : RowsBounded (drop at file) (row_bytes r) (rows r) (unpack_rows (rows r) (row_bytes r) (drop at file))
@@ -70,8 +64,8 @@ module _ (file : List ℕ) (at : ℕ) (r : Raster) where
     where
       go : (o : Outcome Rows) → RowsBounded (drop at file) (row_bytes r) (rows r) o
           → Judged BodyBounded (map (body_of r) (placed at o))
-      go (accepted q) b = (length-image_of r q.rows, omega (arith, length-drop at file, b.2), b.3)
-      go (refused why) b = b.0
+      go (Ok q) b = (length-image_of r q.rows, omega (arith, length-drop at file, b.2), b.3)
+      go (Err why) b = b.0
 
   -- ---- the rows of an accepted body make its image
 

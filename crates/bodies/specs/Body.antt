@@ -1,9 +1,10 @@
 -- The packed body of a raster (document 01, "Packed rows"): the raster and its area judged, and the answer of a body
 -- packed or unpacked.
-use Rattle.std.specs.Prelude.{ℕ, ◌≤◌, ◌≡◌, false, List, length, ltb}
+use Rattle.std.specs.Prelude.{ℕ, ◌≤◌, ◌≡◌, false, List, length, ltb, Ok, Err}
 use Rattle.outcome.specs.declared.Refusal.{Refusal}
-use Rattle.outcome.specs.Outcome.{Outcome, accepted, refused, none, refuse_if, refusal_of}
+use Rattle.outcome.specs.Outcome.{Outcome, none, refuse_if}
 use Rattle.outcome.specs.Refusal.{area_too_short, out_of_range}
+use Rattle.packbits.specs.declared.Packed.{Packed}
 use Rattle.packbits.specs.Row.{width_out_of_range}
 use Rattle.raster.specs.declared.Raster.{Raster}
 use Rattle.raster.specs.Shape.{row_bytes, bytes}
@@ -17,22 +18,18 @@ judge_raster r room further =
     (refuse_if (ltb room (bytes r)) area_too_short
     further)
 
--- why they are refused, or none
-unfoldable pub raster_refusal : Raster → ℕ → Refusal
-raster_refusal r room = refusal_of {A = Unit {0}} (judge_raster r room (accepted tt))
-
--- the answer of an accepted body with its packed bytes and its records
+-- C's answer of an accepted body with its packed bytes and its records
 abbrev pub body_done : ℕ → ℕ → BodyAnswer
 body_done body records = record { refusal = none; body = body; records = records }
 
--- the answer of a refused body
+-- C's answer of a refused body
 abbrev pub body_refused : Refusal → BodyAnswer
 body_refused why = record { refusal = why; body = 0; records = 0 }
 
--- the answer of an outcome whose value tells both; a refusal gives 0
-abbrev pub body_answer : {A : Type 0} → (A → ℕ) → (A → ℕ) → Outcome A → BodyAnswer
-body_answer body records (accepted a) = body_done (body a) (records a)
-body_answer body records (refused why) = body_refused why
+-- C's answer of what is given
+abbrev pub given_body_answer : Outcome Packed → BodyAnswer
+given_body_answer (Ok p) = body_done p.bytes p.records
+given_body_answer (Err why) = body_refused why
 
 -- what packing a row asks: the width of a row is in range, the area holds the raster, and the buffer is one row wide
 pub record RowRoom (r : Raster) (area row : List ℕ) : Type 0 where

@@ -1,9 +1,10 @@
 -- The least body of an area at a raster, below a limit (document 01, "Packed rows").
-use Rattle.std.specs.Prelude.{ℕ, ◌+◌, ◌-◌, ◌%◌, List, length, ltb, leb}
+use Rattle.std.specs.Prelude.{ℕ, ◌+◌, ◌-◌, ◌%◌, List, length, ltb, leb, Ok}
 use Rattle.lists.specs.Over.{over_at}
 use Rattle.lists.specs.Tabulate.{tabulate}
-use Rattle.outcome.specs.Outcome.{Outcome, accepted, refuse_if, later}
+use Rattle.outcome.specs.Outcome.{Outcome, refuse_if, map, later}
 use Rattle.outcome.specs.Refusal.{area_too_short, no_packed_body}
+use Rattle.packbits.specs.declared.Packed.{Packed}
 use Rattle.packbits.specs.Row.{Row, done}
 use Rattle.pack.specs.Least.{least, least_records}
 use Rattle.pack.specs.LeastRows.{least_rows, least_rows_records}
@@ -11,7 +12,7 @@ use Rattle.raster.specs.declared.Raster.{Raster}
 use Rattle.raster.specs.Shape.{bytes}
 use Rattle.raster.specs.PlaneRows.{plane_row, plane_rows}
 use Rattle.bodies.specs.declared.BodyAnswer.{BodyAnswer}
-use Rattle.bodies.specs.Body.{judge_raster, body_answer}
+use Rattle.bodies.specs.Body.{judge_raster, given_body_answer}
 
 -- plane row n packed
 abbrev pub packed_row : List ℕ → Raster → ℕ → Outcome Row
@@ -25,6 +26,10 @@ least_body r area = least_rows (plane_rows area r)
 -- the number of its records
 abbrev pub least_body_records : Raster → List ℕ → ℕ
 least_body_records r area = least_rows_records (plane_rows area r)
+
+-- what packing gives of it besides its bytes
+abbrev pub least_packed : Raster → List ℕ → Packed
+least_packed r area = record { bytes = length (least_body r area); records = least_body_records r area }
 
 -- The area whose bytes are 0 and 1 in turn. Where a plane row has a byte or more, no area of the raster has a longer
 -- least body (proofs/Least.antt, `least-most` and `most-attained`).
@@ -43,7 +48,7 @@ pub record PackedBody : Type 0 where
 abbrev pub below_limit : Raster → List ℕ → ℕ → Outcome PackedBody
 below_limit r area limit =
     refuse_if (leb limit (length (least_body r area))) no_packed_body
-    (accepted (record {
+    (Ok (record {
       body = length (least_body r area);
       records = least_body_records r area;
       bytes = least_body r area;
@@ -56,8 +61,12 @@ pack_body r area limit at room =
     (refuse_if (ltb room (at + (limit - 1))) area_too_short
     (below_limit r area limit))
 
+-- what is given of it besides the bytes
+abbrev pub body_packed : PackedBody → Packed
+body_packed b = record { bytes = b.body; records = b.records }
+
 abbrev pub packed_answer : Outcome PackedBody → BodyAnswer
-packed_answer o = body_answer (λ b. b.body) (λ b. b.records) o
+packed_answer o = given_body_answer (map body_packed o)
 
 -- the output's later content: the body over it from that offset on; after a refusal as it was
 abbrev pub packed_output : Outcome PackedBody → ℕ → List ℕ → List ℕ

@@ -1,8 +1,8 @@
 -- A packed body that stands in a file after a header of `at` bytes and before exactly `after` bytes: read, and the
 -- files that reading accepts (document 01, "File layouts"; document 02, ticket 9).
-use Rattle.std.specs.Prelude.{ℕ, ◌+◌, ◌<◌, ◌≡◌, cond, List, ◌++◌, length, ltb, eqb}
+use Rattle.std.specs.Prelude.{ℕ, ◌+◌, ◌<◌, ◌≡◌, cond, List, ◌++◌, length, ltb, eqb, Ok, Err}
 use Rattle.lists.specs.Over.{over}
-use Rattle.outcome.specs.Outcome.{Outcome, accepted, refused, refusal, refuse_if, bind, later}
+use Rattle.outcome.specs.Outcome.{Outcome, refusal, refuse_if, bind, later}
 use Rattle.outcome.specs.Refusal.{area_too_short, wrong_tail}
 use Rattle.raster.specs.declared.Raster.{Raster}
 use Rattle.raster.specs.Shape.{bytes}
@@ -13,7 +13,7 @@ use Rattle.bodies.specs.Unpacks.{UnpacksImage}
 -- after the body exactly `after` bytes; otherwise refused where the body ends
 abbrev pub judge_end : List ℕ → ℕ → ℕ → UnpackedBody → Outcome UnpackedBody
 judge_end file at after u =
-    cond (eqb (length file) (at + u.body + after)) (accepted u) (refused (refusal wrong_tail (at + u.body)))
+    cond (eqb (length file) (at + u.body + after)) (Ok u) (Err (refusal wrong_tail (at + u.body)))
 
 -- the plane rows are unpacked, and then the end is judged; the input of the rows is the whole file
 unfoldable pub read_body : List ℕ → ℕ → ℕ → Raster → Outcome UnpackedBody

@@ -1,25 +1,26 @@
 // The packed body of a raster: read from a file, and the least one below a limit packed. Definitions: specs/.
 #![tactic(auto)]
 
-ghost use Rattle.std.specs.Prelude.{◌≡◌, ◌+◌, ◌-◌, ◌≤◌, ◌<◌, length, ltb, leb, eqb};
+ghost use Rattle.std.specs.Prelude.{◌≡◌, ◌+◌, ◌-◌, ◌≤◌, ◌<◌, length, ltb, leb, eqb, Ok};
 ghost use Rattle.lists.specs.Over.{over};
-ghost use Rattle.outcome.specs.Outcome.{later};
-ghost use Rattle.packbits.specs.Row.{row_answer};
+ghost use Rattle.outcome.specs.Outcome.{map, later};
+ghost use Rattle.packbits.specs.Row.{row_packed};
 ghost use Rattle.unpack.specs.Rows.{RowsFit};
 ghost use Rattle.pack.specs.Least.{least};
 ghost use Rattle.raster.specs.Shape.{row_bytes, rows, bytes};
 ghost use Rattle.raster.specs.PlaneRows.{plane_row};
-ghost use Rattle.bodies.specs.Body.{raster_refusal, body_done, body_refused, RowRoom};
-ghost use Rattle.bodies.specs.Packing.{packed_row, least_body, least_body_records};
-ghost use Rattle.bodies.specs.Packing.{below_limit, pack_body, packed_answer, packed_output};
+ghost use Rattle.bodies.specs.Body.{judge_raster, given_body_answer, RowRoom};
+ghost use Rattle.bodies.specs.Packing.{packed_row, least_body, least_packed, below_limit, pack_body};
+ghost use Rattle.bodies.specs.Packing.{body_packed, packed_output};
 ghost use Rattle.bodies.specs.Reading.{read_into, body_area};
-ghost use Rattle.bodies.specs.Unpacking.{unpack_body, unpacked_answer, RowsUnpacked};
+ghost use Rattle.bodies.specs.Unpacking.{unpack_body, body_unpacked, RowsUnpacked};
 
-use outcome::{AREA_TOO_SHORT, NO_PACKED_BODY, OUT_OF_RANGE, Refusal, WRONG_TAIL};
-use packbits::{MAX_WIDTH, RowAnswer};
+use outcome::{Reason, Refusal};
+use packbits::{MAX_WIDTH, Packed};
 use raster::Raster;
 
-// The answer of a body packed or unpacked: its packed bytes and its records; both 0 of a refusal.
+// The answer in C of a body packed or unpacked: its packed bytes and its records; both 0 of a refusal.
+// C's struct: the exported function gives it back.
 #[repr(C)]
 #[derive(Clone, Copy)]
 pub struct BodyAnswer {
@@ -28,54 +29,53 @@ pub struct BodyAnswer {
     pub records: usize,
 }
 
-// The answer of a refused body.
-pub fn body_refused(refusal: Refusal) -> BodyAnswer
-    ensures { result ≡ body_refused refusal }
-{
-    BodyAnswer {
-        refusal,
-        body: 0,
-        records: 0,
+impl From<Result<Packed, Refusal>> for BodyAnswer {
+    ghost from_gives = { λ given answer. answer ≡ given_body_answer given };
+
+    fn from(given: Result<Packed, Refusal>) -> BodyAnswer {
+        match given {
+            Ok(packed) => BodyAnswer {
+                refusal: outcome::none(),
+                body: packed.bytes,
+                records: packed.records,
+            },
+            Err(refusal) => BodyAnswer {
+                refusal,
+                body: 0,
+                records: 0,
+            },
+        }
     }
 }
 
-// Why a raster with an area of room bytes is refused, or none.
-fn raster_refusal(r: Raster, room: usize) -> Refusal
-    ensures { result ≡ raster_refusal r room }
+// Judges a raster with an area of room bytes.
+fn judge_raster(r: Raster, room: usize) -> Result<(), Refusal>
+    ensures { result ≡ judge_raster r room (Ok tt) }
 {
     if packbits::width_out_of_range(r.row_bytes()) {
-        return outcome::refuse(OUT_OF_RANGE);
+        return Err(outcome::refuse(Reason::OutOfRange));
     }
     if room < r.bytes() {
-        return outcome::refuse(AREA_TOO_SHORT);
+        return Err(outcome::refuse(Reason::AreaTooShort));
     }
-    outcome::none()
+    Ok(())
 }
 
 // Unpacks the plane rows of the body that starts at an offset of a file, each behind the one before it, to the front of
 // a buffer. What stands behind the rows may change too.
-fn unpack_body(file: &[u8], at: usize, r: Raster, buffer: &mut [u8]) -> BodyAnswer
+fn unpack_body(file: &[u8], at: usize, r: Raster, buffer: &mut [u8]) -> Result<Packed, Refusal>
     requires { RowsFit (rows r) (row_bytes r) (length buffer.old) }
-    ensures answer { result ≡ unpacked_answer (unpack_body file.now at r) }
+    ensures answer { result ≡ map body_unpacked (unpack_body file.now at r) }
     ensures buffer { RowsUnpacked file.now at r buffer.new }
 {
-    let unpacked = unpack::unpack_rows(file, at, r.rows(), r.row_bytes(), buffer);
-    let why = unpacked.refusal;
-    BodyAnswer {
-        refusal: why,
-        body: unpacked.bytes,
-        records: unpacked.records,
-    }
+    unpack::unpack_rows(file, at, r.rows(), r.row_bytes(), buffer)
 }
 
 // Whether a file of len bytes has exactly `after` bytes behind the offset `end`.
 fn ends_after(len: usize, end: usize, after: usize) -> bool
     ensures { result ≡ eqb len (end + after) }
 {
-    if len < end {
-        return false;
-    }
-    len - end == after
+    len.checked_sub(end) == Some(after)
 }
 
 // Reads the body that stands in a file after a header of `at` bytes and before exactly `after` bytes into the front of
@@ -87,31 +87,25 @@ pub fn read_body(
     r: Raster,
     buffer: &mut [u8],
     area: &mut [u8],
-) -> BodyAnswer
+) -> Result<Packed, Refusal>
     ensures answer { result
-        ≡ unpacked_answer (read_into file.now at after r (length buffer.old)
+        ≡ map body_unpacked (read_into file.now at after r (length buffer.old)
         (length area.old)) }
     ensures area { area.new
         ≡ body_area (read_into file.now at after r (length buffer.old) (length area.old))
         area.old }
 {
-    let refusal = raster_refusal(r, buffer.len());
-    if refusal.number != 0 {
-        return body_refused(refusal);
-    }
+    judge_raster(r, buffer.len())?;
     if area.len() < r.bytes() {
-        return body_refused(outcome::refuse(AREA_TOO_SHORT));
+        return Err(outcome::refuse(Reason::AreaTooShort));
     }
-    let unpacked = unpack_body(file, at, r, buffer);
-    if unpacked.refusal.number != 0 {
-        return unpacked;
-    }
-    let end = at + unpacked.body;
+    let unpacked = unpack_body(file, at, r, buffer)?;
+    let end = at + unpacked.bytes;
     if !ends_after(file.len(), end, after) {
-        return body_refused(outcome::refuse_at(WRONG_TAIL, end));
+        return Err(outcome::refuse_at(Reason::WrongTail, end));
     }
     raster::put_rows(area, r, buffer);
-    unpacked
+    Ok(unpacked)
 }
 
 // The length of plane row n's least body; the row is taken into a buffer of its width.
@@ -124,10 +118,16 @@ fn least_row_len(area: &[u8], r: Raster, n: usize, row: &mut [u8]) -> usize
 }
 
 // Plane row n's least body to the front of out.
-fn pack_plane_row(area: &[u8], r: Raster, n: usize, row: &mut [u8], out: &mut [u8]) -> RowAnswer
+fn pack_plane_row(
+    area: &[u8],
+    r: Raster,
+    n: usize,
+    row: &mut [u8],
+    out: &mut [u8],
+) -> Result<Packed, Refusal>
     requires row_room { RowRoom r area.now row.old × (n < rows r) }
     requires n_in_bounds { length (least (plane_row area.now r n)) ≤ length out.old }
-    ensures answer { result ≡ row_answer (packed_row area.now r n) }
+    ensures answer { result ≡ map row_packed (packed_row area.now r n) }
     ensures out { out.new ≡ over (least (plane_row area.now r n)) out.old }
 {
     raster::take_row(area, r, n, row);
@@ -143,91 +143,80 @@ fn body_too_long(area: &[u8], r: Raster, limit: usize, row: &mut [u8]) -> bool
     let rows = r.rows();
     let longest = r.row_bytes() + 1;
     let mut most = rows * longest;
-    let mut n = 0;
-    while n < rows {
+    for n in 0..rows {
         most -= longest - least_row_len(area, r, n, row);
         if most < limit {
             return false;
         }
-        n += 1;
     }
     limit <= most
 }
 
 // The whole body to the front of out. Each row's body goes to the part of out that starts where the one before it
 // ended.
-fn put_body(area: &[u8], r: Raster, row: &mut [u8], out: &mut [u8]) -> BodyAnswer
+fn put_body(area: &[u8], r: Raster, row: &mut [u8], out: &mut [u8]) -> Result<Packed, Refusal>
     requires row_room { RowRoom r area.now row.old }
     requires area_in_bounds { length (least_body r area.now) ≤ length out.old }
-    ensures answer { result
-        ≡ body_done (length (least_body r area.now)) (least_body_records r area.now) }
+    ensures answer { result ≡ Ok (least_packed r area.now) }
     ensures out { out.new ≡ over (least_body r area.now) out.old }
 {
-    let rows = r.rows();
-    let mut n = 0;
     let mut end = 0;
     let mut records = 0;
-    while n < rows {
-        let packed = pack_plane_row(area, r, n, row, &mut out[end..]);
+    for n in 0..r.rows() {
+        let packed = pack_plane_row(area, r, n, row, &mut out[end..])?;
         end += packed.bytes;
         records += packed.records;
-        n += 1;
     }
-    BodyAnswer {
-        refusal: outcome::none(),
-        body: end,
+    Ok(Packed {
+        bytes: end,
         records,
-    }
+    })
 }
 
 // The least body to the front of out, where it is below a limit.
-fn pack_below(area: &[u8], r: Raster, limit: usize, row: &mut [u8], out: &mut [u8]) -> BodyAnswer
+fn pack_below(
+    area: &[u8],
+    r: Raster,
+    limit: usize,
+    row: &mut [u8],
+    out: &mut [u8],
+) -> Result<Packed, Refusal>
     requires row_room { RowRoom r area.now row.old }
     requires limit_in_bounds { limit - 1 ≤ length out.old }
-    ensures answer { result ≡ packed_answer (below_limit r area.now limit) }
+    ensures answer { result ≡ map body_packed (below_limit r area.now limit) }
     ensures out { out.new
         ≡ later (below_limit r area.now limit) (λ b. over b.bytes out.old)
         out.old }
 {
     if body_too_long(area, r, limit, row) {
-        return body_refused(outcome::refuse(NO_PACKED_BODY));
+        return Err(outcome::refuse(Reason::NoPackedBody));
     }
     put_body(area, r, row, out)
-}
-
-// The length of the longest string below a limit.
-fn longest_below(limit: usize) -> usize
-    ensures { result ≡ limit - 1 }
-{
-    if limit == 0 {
-        return 0;
-    }
-    limit - 1
 }
 
 // Whether an output of room bytes is too short, from an offset on, for the longest body below a limit.
 fn out_too_short(room: usize, at: usize, limit: usize) -> bool
     ensures { result ≡ ltb room (at + (limit - 1)) }
 {
-    if room < at {
-        return true;
-    }
-    room - at < longest_below(limit)
+    room < at || room - at < limit.saturating_sub(1)
 }
 
 // Packs an area to its least body below a limit, into out from an offset on, where out must have room for every body
 // below the limit. All is judged and decided before the first byte is written.
-pub fn pack_body(area: &[u8], r: Raster, limit: usize, at: usize, out: &mut [u8]) -> BodyAnswer
-    ensures answer { result ≡ packed_answer (pack_body r area.now limit at (length out.old)) }
+pub fn pack_body(
+    area: &[u8],
+    r: Raster,
+    limit: usize,
+    at: usize,
+    out: &mut [u8],
+) -> Result<Packed, Refusal>
+    ensures answer { result ≡ map body_packed (pack_body r area.now limit at (length out.old)) }
     ensures out { out.new
         ≡ packed_output (pack_body r area.now limit at (length out.old)) at out.old }
 {
-    let refusal = raster_refusal(r, area.len());
-    if refusal.number != 0 {
-        return body_refused(refusal);
-    }
+    judge_raster(r, area.len())?;
     if out_too_short(out.len(), at, limit) {
-        return body_refused(outcome::refuse(AREA_TOO_SHORT));
+        return Err(outcome::refuse(Reason::AreaTooShort));
     }
     let width = r.row_bytes();
     let mut row = [0u8; MAX_WIDTH];

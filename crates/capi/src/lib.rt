@@ -62,7 +62,7 @@ pub extern "C" fn kutimuq_unpack_row(packed: &[u8], width: usize, out: &mut [u8]
     ensures output { out.new
         ≡ row_output (unpack_row packed.now width (length out.old)) out.old }
 {
-    unpack::unpack_row(packed, width, out)
+    unpack::unpack_row(packed, width, out).into()
 }
 
 // Row pack.
@@ -72,7 +72,7 @@ pub extern "C" fn kutimuq_pack_row(row: &[u8], out: &mut [u8]) -> RowAnswer
     ensures output { out.new
         ≡ row_output (pack_row row.now (length out.old)) out.old }
 {
-    pack::pack_row(row, out)
+    pack::pack_row(row, out).into()
 }
 
 // Line out.
@@ -89,7 +89,7 @@ pub extern "C" fn kutimuq_line_out(
         ≡ later (line_out screen.now resolution line (length out.old))
         (λ l. over l out.old) out.old }
 {
-    lines::line_out(screen, resolution, line, out)
+    lines::line_out(screen, resolution, line, out).into()
 }
 
 // Line in.
@@ -105,7 +105,7 @@ pub extern "C" fn kutimuq_line_in(
         ≡ later (line_in screen.old resolution line registers.now)
         (λ s. s) screen.old }
 {
-    lines::line_in(screen, resolution, line, registers)
+    lines::line_in(screen, resolution, line, registers).into()
 }
 
 // Screen out.
@@ -117,7 +117,7 @@ pub extern "C" fn kutimuq_screen_out(screen: &[u8], resolution: u16, out: &mut [
         ≡ later (screen_out screen.now resolution (length out.old))
         (λ l. over l out.old) out.old }
 {
-    lines::screen_out(screen, resolution, out)
+    lines::screen_out(screen, resolution, out).into()
 }
 
 // Screen in.
@@ -128,7 +128,7 @@ pub extern "C" fn kutimuq_screen_in(screen: &mut [u8], resolution: u16, register
         ≡ later (screen_in screen.old resolution registers.now)
         (λ s. s) screen.old }
 {
-    lines::screen_in(screen, resolution, registers)
+    lines::screen_in(screen, resolution, registers).into()
 }
 
 // Tally.
@@ -136,7 +136,7 @@ pub extern "C" fn kutimuq_screen_in(screen: &mut [u8], resolution: u16, register
 pub extern "C" fn kutimuq_tally(screen: &[u8], resolution: u16, rectangle: Rectangle) -> TallyAnswer
     ensures { result ≡ tally_answer (tallied screen.now resolution rectangle) }
 {
-    tally::tally(screen, resolution, rectangle)
+    tally::tally(screen, resolution, rectangle).into()
 }
 
 // Colour.
@@ -150,7 +150,7 @@ pub extern "C" fn kutimuq_colour(
     ensures { result ≡ colour_answer (shown resolution machine palette.words register) }
 {
     let words = palette.words;
-    colour::colour(resolution, machine, words, register)
+    colour::colour(resolution, machine, words, register).into()
 }
 
 // A new legend.
@@ -172,7 +172,10 @@ pub extern "C" fn kutimuq_set_entry(
 ) -> LegendAnswer
     ensures { result ≡ legend_answer legend (setting legend party register class confidence) }
 {
-    legend::set_entry(legend, party, register, class, confidence)
+    legend::answer(
+        legend,
+        legend::set_entry(legend, party, register, class, confidence),
+    )
 }
 
 // A party releases an entry of a legend.
@@ -180,7 +183,7 @@ pub extern "C" fn kutimuq_set_entry(
 pub extern "C" fn kutimuq_release_entry(legend: Legend, party: u8, register: u8) -> LegendAnswer
     ensures { result ≡ legend_answer legend (releasing legend party register) }
 {
-    legend::release_entry(legend, party, register)
+    legend::answer(legend, legend::release_entry(legend, party, register))
 }
 
 // Pond reading for a party.
@@ -197,7 +200,7 @@ pub extern "C" fn kutimuq_pond(
     ensures { result
         ≡ pond_answer (pond_reading screen.now resolution rectangle party class floor legend) }
 {
-    pond::read_pond(screen, resolution, rectangle, party, class, floor, legend)
+    pond::read_pond(screen, resolution, rectangle, party, class, floor, legend).into()
 }
 
 // Read.
@@ -207,7 +210,7 @@ pub extern "C" fn kutimuq_read(kind: u8, file: &[u8], area: &mut [u8]) -> ReadAn
     ensures area { area.new
         ≡ read_area (read_file kind file.now (length area.old)) area.old }
 {
-    reader::read(kind, file, area)
+    reader::read(kind, file, area).into()
 }
 
 // Write.
@@ -223,7 +226,7 @@ pub extern "C" fn kutimuq_write(
     ensures output { out.new
         ≡ write_output (write_file form picture screen.now (length out.old)) out.old }
 {
-    writer::write(form, picture, screen, out)
+    writer::write(form, picture, screen, out).into()
 }
 
 // Read a MacPaint plate.
@@ -233,7 +236,7 @@ pub extern "C" fn kutimuq_read_plate(file: &[u8], plate: &mut [u8]) -> BodyAnswe
     ensures plate { plate.new
         ≡ body_area (read_plate file.now (length plate.old)) plate.old }
 {
-    macpaint::read(file, plate)
+    macpaint::read(file, plate).into()
 }
 
 // Write a MacPaint plate.
@@ -243,7 +246,7 @@ pub extern "C" fn kutimuq_write_plate(plate: &[u8], out: &mut [u8]) -> WriteAnsw
     ensures output { out.new
         ≡ write_output (write_plate plate.now (length out.old)) out.old }
 {
-    macpaint::write(plate, out)
+    macpaint::write(plate, out).into()
 }
 
 // Read a GEM IMG file of the screen profile.
@@ -253,7 +256,7 @@ pub extern "C" fn kutimuq_read_img(file: &[u8], area: &mut [u8]) -> ImgAnswer
     ensures area { area.new
         ≡ img_area (read_img file.now (length area.old)) area.old }
 {
-    gem_img::read(file, area)
+    gem_img::read(file, area).into()
 }
 
 // Plain DEGAS to DEGAS Elite.
@@ -263,7 +266,7 @@ pub extern "C" fn kutimuq_to_elite(file: &[u8], out: &mut [u8]) -> WriteAnswer
     ensures output { out.new
         ≡ write_output (convert ToElite file.now (length out.old)) out.old }
 {
-    conversion::convert(Conversion::ToElite, file, out)
+    conversion::convert(Conversion::ToElite, file, out).into()
 }
 
 // DEGAS Elite to plain DEGAS.
@@ -273,7 +276,7 @@ pub extern "C" fn kutimuq_to_plain(file: &[u8], out: &mut [u8]) -> WriteAnswer
     ensures output { out.new
         ≡ write_output (convert ToPlain file.now (length out.old)) out.old }
 {
-    conversion::convert(Conversion::ToPlain, file, out)
+    conversion::convert(Conversion::ToPlain, file, out).into()
 }
 
 // The records of a packed DEGAS file opened.
@@ -281,7 +284,7 @@ pub extern "C" fn kutimuq_to_plain(file: &[u8], out: &mut [u8]) -> WriteAnswer
 pub extern "C" fn kutimuq_open_records(file: &[u8]) -> CursorAnswer
     ensures { result ≡ cursor_answer (packed_opening file.now) }
 {
-    degas_records::open_records(file)
+    degas_records::open_records(file).into()
 }
 
 // The record at a cursor, or done, or the refusal; and the next cursor.
@@ -289,7 +292,7 @@ pub extern "C" fn kutimuq_open_records(file: &[u8]) -> CursorAnswer
 pub extern "C" fn kutimuq_next_record(file: &[u8], cursor: RecordCursor) -> RecordAnswer
     ensures { result ≡ record_answer (stepped file.now cursor) }
 {
-    degas_records::next_record(file, cursor)
+    degas_records::next_record(file, cursor).into()
 }
 
 // The colour animation of a NEOchrome file, by one of two lists of formats.
@@ -297,7 +300,7 @@ pub extern "C" fn kutimuq_next_record(file: &[u8], cursor: RecordCursor) -> Reco
 pub extern "C" fn kutimuq_animation(list: u8, file: &[u8]) -> AnimationAnswer
     ensures { result ≡ animation_answer (animation list file.now) }
 {
-    neochrome_animation::animation(list, file)
+    neochrome_animation::animation(list, file).into()
 }
 
 // Read a Spectrum 512 file, SPU or SPC.
@@ -317,7 +320,7 @@ pub extern "C" fn kutimuq_read_spectrum(
         (read_spectrum kind file.now (length screen.old) (length palettes.old))
         palettes.old }
 {
-    spectrum::read(kind, file, screen, palettes)
+    spectrum::read(kind, file, screen, palettes).into()
 }
 
 // The palette position at a column for a register of a Spectrum 512 picture.
@@ -325,7 +328,7 @@ pub extern "C" fn kutimuq_read_spectrum(
 pub extern "C" fn kutimuq_spectrum_position(column: usize, register: u8) -> PositionAnswer
     ensures { result ≡ position_answer (judge_position column register) }
 {
-    spectrum_positions::position(column, register)
+    spectrum_positions::position(column, register).into()
 }
 
 // The colour word of a pixel of a Spectrum 512 picture.
@@ -338,7 +341,7 @@ pub extern "C" fn kutimuq_spectrum_word(
 ) -> ColourWordAnswer
     ensures { result ≡ word_answer (pixel_word screen.now palettes.now column line) }
 {
-    spectrum_colours::pixel_word(screen, palettes, column, line)
+    spectrum_colours::pixel_word(screen, palettes, column, line).into()
 }
 
 // The colour words of a scan line of a Spectrum 512 picture.
@@ -354,5 +357,5 @@ pub extern "C" fn kutimuq_spectrum_line(
     ensures output { out.new ≡ later (line_of_words screen.now palettes.now line
         (length out.old)) (λ words. over words out.old) out.old }
 {
-    spectrum_colours::line_words(screen, palettes, line, out)
+    spectrum_colours::line_words(screen, palettes, line, out).into()
 }

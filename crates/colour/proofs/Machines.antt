@@ -1,4 +1,5 @@
 -- Laws of what a nibble shows on each machine.
+use Rattle.std.specs.Prelude.{Some}
 use mathlib.Core.Path.{◌≡◌, refl, sym, ap, ◌∙◌}
 use mathlib.Core.List.{List}
 use native.Mathlib.Omega.{arith}
@@ -6,14 +7,13 @@ use Prim.Native.Nat.{ℕ, ◌*◌, ◌/◌, ◌%◌, ◌≤◌, ◌<◌}
 use lib.ListN.{get_or}
 use Rattle.lists.specs.Tabulate.{tabulate}
 use Rattle.lists.proofs.Tabulate.{get_or-tabulate}
-use Rattle.colour.specs.declared.ChosenMachine.TheVariants.{Known}
 use Rattle.colour.specs.declared.Machine.{Machine}
 use Rattle.colour.specs.declared.Machine.TheVariants.{St, Ste}
 use Rattle.colour.specs.Machines.{chosen_machine, machine_number, levels, stretch, ste_level, nibble_shown}
 
 -- ---- a machine and its number
 
-pub machine-number : (m : Machine) → chosen_machine (machine_number m) ≡ Known m
+pub machine-number : (m : Machine) → chosen_machine (machine_number m) ≡ Some m
 machine-number St = refl
 machine-number Ste = refl
 

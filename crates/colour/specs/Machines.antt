@@ -1,16 +1,14 @@
 -- The machines, and what a nibble, four bits of a palette word, shows on each (document 02, ticket 4; the ST keeps the
 -- rule of document 01, "Three resolutions").
-use Rattle.std.specs.Prelude.{ℕ, ◌+◌, ◌*◌, ◌/◌, ◌%◌, cond, List, [], ◌∷◌, get_or, eqb}
+use Rattle.std.specs.Prelude.{ℕ, ◌+◌, ◌*◌, ◌/◌, ◌%◌, cond, List, [], ◌∷◌, get_or, eqb, None, Option, Some}
 use Rattle.outcome.specs.Outcome.{Outcome, refuse}
 use Rattle.outcome.specs.Refusal.{out_of_range}
-use Rattle.colour.specs.declared.ChosenMachine.{ChosenMachine}
-use Rattle.colour.specs.declared.ChosenMachine.TheVariants.{Known, Unknown}
 use Rattle.colour.specs.declared.Machine.{Machine}
 use Rattle.colour.specs.declared.Machine.TheVariants.{St, Ste}
 
 -- 1 ST, 2 STE
-abbrev pub chosen_machine : ℕ → ChosenMachine
-chosen_machine number = cond (eqb number 1) (Known St) (cond (eqb number 2) (Known Ste) Unknown)
+abbrev pub chosen_machine : ℕ → Option Machine
+chosen_machine number = cond (eqb number 1) (Some St) (cond (eqb number 2) (Some Ste) None)
 
 -- `chosen_machine` undone (proofs/Machines.antt, `machine-number`)
 abbrev pub machine_number : Machine → ℕ
@@ -18,9 +16,9 @@ machine_number St = 1
 machine_number Ste = 2
 
 -- judged further with the machine, or refused with 10 where there is none
-abbrev pub judge_machine : {A : Type 0} → ChosenMachine → (Machine → Outcome A) → Outcome A
-judge_machine (Known m) further = further m
-judge_machine Unknown further = refuse out_of_range
+abbrev pub judge_machine : {A : Type 0} → Option Machine → (Machine → Outcome A) → Outcome A
+judge_machine (Some m) further = further m
+judge_machine None further = refuse out_of_range
 
 -- the same from the machine's number
 abbrev pub with_machine : {A : Type 0} → ℕ → (Machine → Outcome A) → Outcome A

@@ -1,7 +1,7 @@
 -- The colour that a register shows (document 01, "Three resolutions", "Order of judging": colour; document 02, ticket
 -- 4).
-use Rattle.std.specs.Prelude.{ℕ, cond, List, get_or, leb, eqb}
-use Rattle.outcome.specs.Outcome.{Outcome, accepted, refused, none, refuse_if}
+use Rattle.std.specs.Prelude.{ℕ, cond, List, get_or, leb, eqb, Ok, Err}
+use Rattle.outcome.specs.Outcome.{Outcome, none, refuse_if}
 use Rattle.outcome.specs.Refusal.{out_of_range}
 use Rattle.resolution.specs.declared.Resolution.{Resolution}
 use Rattle.resolution.specs.declared.Resolution.TheVariants.{Low, Medium, High}
@@ -28,7 +28,7 @@ register_colour High m word register = cond (eqb register 0) white black
 -- a register judged at a known resolution, on a known machine
 unfoldable pub judge_register : Resolution → Machine → ℕ → ℕ → Outcome Rgb
 judge_register r m word register =
-    refuse_if (leb (registers_of r) register) out_of_range (accepted (register_colour r m word register))
+    refuse_if (leb (registers_of r) register) out_of_range (Ok (register_colour r m word register))
 
 -- colour: the resolution's number is judged, then the machine's, then the register; its word is the palette's
 unfoldable pub shown : ℕ → ℕ → List ℕ → ℕ → Outcome Rgb
@@ -37,5 +37,5 @@ shown resolution machine palette register =
 
 -- a refusal gives 0 in all else
 abbrev pub colour_answer : Outcome Rgb → ColourAnswer
-colour_answer (accepted c) = record { refusal = none; red = c.red; green = c.green; blue = c.blue }
-colour_answer (refused why) = record { refusal = why; red = 0; green = 0; blue = 0 }
+colour_answer (Ok c) = record { refusal = none; red = c.red; green = c.green; blue = c.blue }
+colour_answer (Err why) = record { refusal = why; red = 0; green = 0; blue = 0 }

@@ -1,14 +1,13 @@
 // The colour that a register shows on a machine. Definitions: specs/.
 #![tactic(auto)]
 
-ghost use Rattle.std.specs.Prelude.{◌≡◌, cond, ◌<◌, get_or, eqb};
-ghost use Rattle.outcome.specs.Outcome.{accepted, refused};
-ghost use Rattle.colour.specs.Machines.{chosen_machine, with_machine, stretch, ste_level, nibble_shown};
+ghost use Rattle.std.specs.Prelude.{◌≡◌, cond, ◌<◌, eqb, Ok};
+ghost use Rattle.colour.specs.Machines.{with_machine, stretch, ste_level, nibble_shown};
 ghost use Rattle.colour.specs.Palette.{nibble, word_colour};
-ghost use Rattle.colour.specs.Shown.{white, black, register_colour, judge_register, shown, colour_answer};
+ghost use Rattle.colour.specs.Shown.{white, black, register_colour, shown, colour_answer};
 
-use outcome::{OUT_OF_RANGE, Refusal, UNKNOWN_RESOLUTION};
-use resolution::{Chosen, Resolution};
+use outcome::{Reason, Refusal};
+use resolution::Resolution;
 
 // The ST's levels 0 to 7 as they are shown.
 const LEVELS: [u8; 8] = [0, 36, 72, 109, 145, 182, 218, 255];
@@ -17,41 +16,51 @@ const LEVELS: [u8; 8] = [0, 36, 72, 109, 145, 182, 218, 255];
 const STE_STEP: u16 = 17;
 
 // The machine whose colours are shown.
-#[derive(Clone, Copy)]
+#[derive(Clone, Copy, Debug, PartialEq, Eq)]
 pub enum Machine {
     St,
     Ste,
 }
 
-// The machine that a number names, if any.
-#[derive(Clone, Copy)]
-pub enum ChosenMachine {
-    Known(Machine),
-    Unknown,
-}
+// 1 ST, 2 STE; any other number is refused.
+impl TryFrom<u8> for Machine {
+    type Error = Refusal;
 
-impl Machine {
-    // 1 ST, 2 STE.
-    pub fn from_number(number: u8) -> ChosenMachine
-        ensures { result ≡ chosen_machine number }
-    {
+    ghost try_from_gives = { λ number chosen. chosen ≡ with_machine number (λ m. Ok m) };
+
+    fn try_from(number: u8) -> Result<Self, Refusal> {
         match number {
-            1 => ChosenMachine::Known(Machine::St),
-            2 => ChosenMachine::Known(Machine::Ste),
-            _ => ChosenMachine::Unknown,
+            1 => Ok(Machine::St),
+            2 => Ok(Machine::Ste),
+            _ => Err(outcome::refuse(Reason::OutOfRange)),
         }
     }
 }
 
 // Red, green and blue, each 0 to 255.
-#[derive(Clone, Copy)]
+#[derive(Clone, Copy, Debug, PartialEq, Eq)]
 pub struct Rgb {
     pub red: u8,
     pub green: u8,
     pub blue: u8,
 }
 
-// The answer of a colour: red, green and blue, 0 to 255; all 0 of a refusal.
+// What register 0 shows at high resolution.
+const WHITE: Rgb = Rgb {
+    red: 255,
+    green: 255,
+    blue: 255,
+};
+
+// What any other register shows there.
+const BLACK: Rgb = Rgb {
+    red: 0,
+    green: 0,
+    blue: 0,
+};
+
+// The answer of a colour in C: red, green and blue, 0 to 255; all 0 of a refusal.
+// C's struct: the exported function gives it back.
 #[repr(C)]
 #[derive(Clone, Copy)]
 pub struct ColourAnswer {
@@ -61,31 +70,29 @@ pub struct ColourAnswer {
     pub blue: u8,
 }
 
-// The answer of an accepted colour.
-fn colour_done(colour: Rgb) -> ColourAnswer
-    ensures { result ≡ colour_answer (accepted colour) }
-{
-    ColourAnswer {
-        refusal: outcome::none(),
-        red: colour.red,
-        green: colour.green,
-        blue: colour.blue,
-    }
-}
+impl From<Result<Rgb, Refusal>> for ColourAnswer {
+    ghost from_gives = { λ given answer. answer ≡ colour_answer given };
 
-// The answer of a refused colour.
-fn colour_refused(refusal: Refusal) -> ColourAnswer
-    ensures { result ≡ colour_answer (refused refusal) }
-{
-    ColourAnswer {
-        refusal,
-        red: 0,
-        green: 0,
-        blue: 0,
+    fn from(given: Result<Rgb, Refusal>) -> ColourAnswer {
+        match given {
+            Ok(colour) => ColourAnswer {
+                refusal: outcome::none(),
+                red: colour.red,
+                green: colour.green,
+                blue: colour.blue,
+            },
+            Err(refusal) => ColourAnswer {
+                refusal,
+                red: 0,
+                green: 0,
+                blue: 0,
+            },
+        }
     }
 }
 
 // Level v of an ST stretched to 0 to 255.
+#[tactic(auto, unfolding(crate::specs::Machines::stretch))]
 fn stretch(v: u16) -> u8
     requires { v < 8 }
     ensures { result ≡ stretch v }
@@ -94,6 +101,7 @@ fn stretch(v: u16) -> u8
 }
 
 // The level, 0 to 15, that a nibble means on an STE.
+#[tactic(auto, unfolding(crate::specs::Machines::ste_level))]
 fn ste_level(n: u16) -> u16
     requires { n < 16 }
     ensures { (result ≡ ste_level n) × (result < 16) }
@@ -102,6 +110,7 @@ fn ste_level(n: u16) -> u16
 }
 
 // What a nibble shows on a machine.
+#[tactic(auto, unfolding(crate::specs::Machines::nibble_shown))]
 fn nibble_shown(m: Machine, n: u16) -> u8
     requires { n < 16 }
     ensures { result ≡ nibble_shown m n }
@@ -113,6 +122,7 @@ fn nibble_shown(m: Machine, n: u16) -> u8
 }
 
 // The nibble that a palette word holds in its four bits from a bit up.
+#[tactic(auto, unfolding(crate::specs::Palette::nibble))]
 fn nibble(word: u16, bit: u16) -> u16
     requires { bit < 16 }
     ensures { (result ≡ nibble word bit) × (result < 16) }
@@ -121,6 +131,7 @@ fn nibble(word: u16, bit: u16) -> u16
 }
 
 // The colour of a palette word.
+#[tactic(auto, unfolding(crate::specs::Palette::word_colour))]
 fn word_colour(m: Machine, word: u16) -> Rgb
     ensures { result ≡ word_colour m word }
 {
@@ -135,63 +146,34 @@ fn word_colour(m: Machine, word: u16) -> Rgb
 fn monochrome(register: u8) -> Rgb
     ensures { result ≡ cond (eqb register 0) white black }
 {
-    let shade: u8 = if register == 0 { 255 } else { 0 };
-    Rgb {
-        red: shade,
-        green: shade,
-        blue: shade,
-    }
+    if register == 0 { WHITE } else { BLACK }
 }
 
 // The colour of a register with its palette word, at a resolution and on a machine.
+#[tactic(auto, unfolding(crate::specs::Shown::register_colour))]
 fn register_colour(r: Resolution, m: Machine, word: u16, register: u8) -> Rgb
     ensures { result ≡ register_colour r m word register }
 {
     match r {
-        Resolution::Low => word_colour(m, word),
-        Resolution::Medium => word_colour(m, word),
+        Resolution::Low | Resolution::Medium => word_colour(m, word),
         Resolution::High => monochrome(register),
     }
 }
 
-// The same, the register judged.
-fn colour_on(r: Resolution, m: Machine, word: u16, register: u8) -> ColourAnswer
-    ensures { result ≡ colour_answer (judge_register r m word register) }
-{
-    if register >= r.registers() {
-        return colour_refused(outcome::refuse(OUT_OF_RANGE));
-    }
-    colour_done(register_colour(r, m, word, register))
-}
-
-// The same, on the machine that a number names.
-fn colour_at(r: Resolution, machine: u8, word: u16, register: u8) -> ColourAnswer
-    ensures { result ≡ colour_answer (with_machine machine (λ m. judge_register r m word register)) }
-{
-    match Machine::from_number(machine) {
-        ChosenMachine::Known(m) => colour_on(r, m, word, register),
-        ChosenMachine::Unknown => colour_refused(outcome::refuse(OUT_OF_RANGE)),
-    }
-}
-
-// A register's word in a palette; 0 of a register that it has not.
-fn palette_word(palette: [u16; 16], register: usize) -> u16
-    ensures { result ≡ get_or palette register 0 }
-{
-    if register < 16 { palette[register] } else { 0 }
-}
-
 // Colour: what a register shows with a palette, at the resolution and on the machine that numbers name.
-pub fn colour(resolution: u16, machine: u8, palette: [u16; 16], register: u8) -> ColourAnswer
-    ensures { result ≡ colour_answer (shown resolution machine palette register) }
+#[tactic(auto, unfolding(crate::specs::Shown::shown, crate::specs::Shown::judge_register))]
+pub fn colour(
+    resolution: u16,
+    machine: u8,
+    palette: [u16; 16],
+    register: u8,
+) -> Result<Rgb, Refusal>
+    ensures { result ≡ shown resolution machine palette register }
 {
-    match Resolution::from_number(resolution) {
-        Chosen::Known(r) => colour_at(
-            r,
-            machine,
-            palette_word(palette, register as usize),
-            register,
-        ),
-        Chosen::Unknown => colour_refused(outcome::refuse(UNKNOWN_RESOLUTION)),
+    let r = Resolution::try_from(resolution)?;
+    let m = Machine::try_from(machine)?;
+    if register >= r.registers() {
+        return Err(outcome::refuse(Reason::OutOfRange));
     }
+    Ok(register_colour(r, m, palette[register as usize], register))
 }

@@ -1,4 +1,5 @@
 -- The files that each conversion accepts, and what it writes of them (document 02, ticket 7).
+use Rattle.std.specs.Prelude.{Ok, Err}
 use mathlib.Core.Path.{◌≡◌, refl, sym, ap, ◌∙◌, subst}
 use mathlib.Core.Bool.{true, false, not, true≢false}
 use mathlib.Core.List.{List}
@@ -15,7 +16,7 @@ use Rattle.lists.proofs.All.{all_below-each, each-all_below}
 use Rattle.lists.proofs.Bytes.{bytes_take, bytes_drop}
 use Rattle.lists.proofs.Cond.{cond-elim, cond-ltb, and-true}
 use Rattle.outcome.specs.declared.Refusal.{Refusal}
-use Rattle.outcome.specs.Outcome.{Outcome, accepted, refused, refuse, bind, refusal_of, Judged}
+use Rattle.outcome.specs.Outcome.{Outcome, refuse, bind, refusal_of, Judged}
 use Rattle.outcome.specs.Refusal.{no_packed_body}
 use Rattle.outcome.proofs.Outcome.{judged-accepted, judged-value, judged-bind}
 use Rattle.words.specs.Word.{word_at}
@@ -73,14 +74,14 @@ whole-passed q w out room =
 
 -- "then reading refusals apply": the same number, place, plane row and good bytes
 pub refusal-passed : (to : Conversion) (file : List ℕ) (out : ℕ) → file_bytes ≤ out → (why : Refusal)
-    → read_degas file screen_bytes ≡ refused why → convert to file out ≡ refused why
+    → read_degas file screen_bytes ≡ Err why → convert to file out ≡ Err why
 refusal-passed to file out room why reads =
     convert-read to file out room
     ∙ ap
     (λ (o : Outcome Reading). bind o (λ q. converted to (word_at file 0) q.picture q.screen out))
     reads
 
-module _ (file : List ℕ) (q : Reading) (reads : read_degas file screen_bytes ≡ accepted q) where
+module _ (file : List ℕ) (q : Reading) (reads : read_degas file screen_bytes ≡ Ok q) where
   pub whole-read : WholeReading q
   whole-read = judged-value WholeReading (read_degas file screen_bytes) q (degas-whole file screen_bytes) reads
 
@@ -118,8 +119,8 @@ read-judged file bytes =
     go (read_degas file screen_bytes) (degas-judged file screen_bytes bytes) (degas-whole file screen_bytes)
   where
     go : (o : Outcome Reading) → Judged (Given file screen_bytes) o → Judged WholeReading o → Judged (Read file) o
-    go (accepted q) g w = record { accepts = g.0; gives = g.1; whole = w.whole }
-    go (refused why) number w = number
+    go (Ok q) g w = record { accepts = g.0; gives = g.1; whole = w.whole }
+    go (Err why) number w = number
 
 -- ---- to Elite
 
@@ -139,7 +140,7 @@ module _ {file : List ℕ} (f : AcceptsToElite file) where
   pub plain-parts : PlainParts file f.accepts.resolution (plain_given f)
   plain-parts = plain_fits f.accepts.fits f.absent
 
-  pub plain-read : read_degas file screen_bytes ≡ accepted (plain_given f)
+  pub plain-read : read_degas file screen_bytes ≡ Ok (plain_given f)
   plain-read = degas-complete file screen_bytes (omega arith) f.accepts
 
   module _ (out : ℕ) (room : file_bytes ≤ out) where
@@ -156,7 +157,7 @@ module _ {file : List ℕ} (f : AcceptsToElite file) where
     }
 
     -- "The plain DEGAS shelf becomes Elite packed where a packed body exists, Elite raw where number 9 would come"
-    pub to-elite-writes : Bytes file → (w : Writing) × (convert ToElite file out ≡ accepted w)
+    pub to-elite-writes : Bytes file → (w : Writing) × (convert ToElite file out ≡ Ok w)
         × WritesElite f.accepts.resolution (plain_given f).picture (plain_given f).screen w
     to-elite-writes bytes =
         let screen : Bytes (plain_given f).screen =
@@ -179,7 +180,7 @@ module _ {file : List ℕ} (f : AcceptsToElite file) where
         )
 
 module _ (file : List ℕ) (out : ℕ) (bytes : Bytes file) where
-  to-elite-judged : Judged (λ w. AcceptsToElite file) (convert ToElite file out)
+  pub to-elite-judged : Judged (λ w. AcceptsToElite file) (convert ToElite file out)
   unfolding convert plain_to_elite
   to-elite-judged =
       cond-ltb (Judged (λ w. AcceptsToElite file)) out file_bytes (λ _ n. omega arith) (λ _.
@@ -205,7 +206,7 @@ module _ (file : List ℕ) (out : ℕ) (bytes : Bytes file) where
 -- ---- to plain
 
 module _ {file : List ℕ} (f : AcceptsToPlain file) where
-  pub elite-read : read_degas file screen_bytes ≡ accepted (elite_given f)
+  pub elite-read : read_degas file screen_bytes ≡ Ok (elite_given f)
   elite-read = degas-complete file screen_bytes (omega arith) f.accepts
 
   pub plain-length : length (plain_file (elite_given f).picture (elite_given f).screen) ≡ plain_length

@@ -1,4 +1,5 @@
 -- Laws of `write_elite`: which form it writes, and what reading finds in it.
+use Rattle.std.specs.Prelude.{Ok, Err}
 use mathlib.Core.Path.{◌≡◌, refl, sym, ap, ◌∙◌}
 use mathlib.Core.Bool.{Bool, true, false}
 use mathlib.Core.List.{List}
@@ -9,7 +10,7 @@ use lib.ListN.{length, take}
 use lib.Seq.{length-take-le}
 use Rattle.lists.specs.Bytes.{Bytes}
 use Rattle.lists.proofs.Cond.{cond-elim, cond-eqb}
-use Rattle.outcome.specs.Outcome.{Outcome, accepted, refused, refuse, map, later, Judged}
+use Rattle.outcome.specs.Outcome.{Outcome, refuse, map, later, Judged}
 use Rattle.outcome.specs.Refusal.{no_packed_body}
 use Rattle.outcome.proofs.Outcome.{judged-value, judged-map}
 use Rattle.resolution.specs.declared.Resolution.{Resolution}
@@ -35,8 +36,8 @@ use Rattle.conversion.specs.Converting.{recover, write_elite}
 use Rattle.conversion.specs.Accepts.{WritesElite, packed, raw}
 
 -- form 3 where it is not refused
-pub elite-packed : (p : Picture) (screen : List ℕ) (out : ℕ) (w : Writing) → write_degas Packed p screen out ≡ accepted w
-    → write_elite p screen out ≡ accepted w
+pub elite-packed : (p : Picture) (screen : List ℕ) (out : ℕ) (w : Writing) → write_degas Packed p screen out ≡ Ok w
+    → write_elite p screen out ≡ Ok w
 unfolding write_elite
 elite-packed p screen out w e = rw e
 
@@ -48,7 +49,7 @@ module _ (r : Resolution) (p : Picture) (screen : List ℕ) (out : ℕ)
   form3 = write_degas Packed p screen out
 
   -- it is refused with 9, or accepted
-  form3-cases : {P : Type 0} → (form3 ≡ refuse no_packed_body → P) → ((w : Writing) → form3 ≡ accepted w → P) → P
+  form3-cases : {P : Type 0} → (form3 ≡ refuse no_packed_body → P) → ((w : Writing) → form3 ≡ Ok w → P) → P
   unfolding write_packed
   form3-cases {P} nine written = go (leb body_limit (length (least_body (raster_of r) screen))) refl
     where
@@ -63,8 +64,8 @@ module _ (r : Resolution) (p : Picture) (screen : List ℕ) (out : ℕ)
           ∙ ap (map (packed_writing p)) (limit-below (raster_of r) screen body_limit e))
 
   -- as what it is accepted
-  form3-writes : WholePicture p → (w : Writing) → form3 ≡ accepted w
-      → (v : Writing) × (form3 ≡ accepted v) × WritesPacked r p screen v
+  form3-writes : WholePicture p → (w : Writing) → form3 ≡ Ok w
+      → (v : Writing) × (form3 ≡ Ok v) × WritesPacked r p screen v
   form3-writes whole w is =
       packed-otherwise r p screen out fits.known fits.screen-fits fits.output-fits whole
       (λ nine. let z : ◌≡◌ {A = ℕ} 0 1 = cc in absurd (omega arith))
@@ -105,7 +106,7 @@ module _ (r : Resolution) (p : Picture) (screen : List ℕ) (out : ℕ)
 
   -- in one of the two forms
   pub elite-writes : WholePicture p → Bytes screen
-      → (w : Writing) × (write_elite p screen out ≡ accepted w) × WritesElite r p screen w
+      → (w : Writing) × (write_elite p screen out ≡ Ok w) × WritesElite r p screen w
   elite-writes whole bytes =
       form3-cases
       (λ nine.
@@ -120,8 +121,8 @@ module _ (r : Resolution) (p : Picture) (screen : List ℕ) (out : ℕ)
 
 recover-judged : {A : Type 0} (P : A → Type 0) (number : ℕ) (o other : Outcome A) → Judged P o → Judged P other
     → Judged P (recover number o other)
-recover-judged P number (accepted a) other p q = p
-recover-judged P number (refused why) other p q =
+recover-judged P number (Ok a) other p q = p
+recover-judged P number (Err why) other p q =
     cond-elim (Judged P) (eqb why.number number) (λ _. q) (λ _. p)
 
 module _ (P : Type 0) (holds : P) (p : Picture) (whole : WholePicture p) (screen : List ℕ) (out : ℕ) where
@@ -142,20 +143,20 @@ module _ (P : Type 0) (holds : P) (p : Picture) (whole : WholePicture p) (screen
 -- ---- what reading finds in it: the picture with its tail present, the counts and the screen
 
 pub elite-reads : (p : Picture) → WholePicture p → (screen : List ℕ) (out : ℕ) (w : Writing)
-    → write_elite p screen out ≡ accepted w → read_degas w.file screen_bytes ≡ accepted (degas_back Elite p screen w)
+    → write_elite p screen out ≡ Ok w → read_degas w.file screen_bytes ≡ Ok (degas_back Elite p screen w)
 unfolding write_elite
 elite-reads p whole screen out w e = go (write_degas Packed p screen out) refl e
   where
     go : (o : Outcome Writing) → write_degas Packed p screen out ≡ o
-        → recover no_packed_body o (write_degas Elite p screen out) ≡ accepted w
-        → read_degas w.file screen_bytes ≡ accepted (degas_back Elite p screen w)
-    go (accepted v) is e =
+        → recover no_packed_body o (write_degas Elite p screen out) ≡ Ok w
+        → read_degas w.file screen_bytes ≡ Ok (degas_back Elite p screen w)
+    go (Ok v) is e =
         judged-value (ReadsBack p whole screen screen_bytes (omega arith) Packed) (write_degas Packed p screen out) w
         (degas-back p whole screen screen_bytes (omega arith) Packed out) (is ∙ e)
-    go (refused why) is e =
+    go (Err why) is e =
         cond-eqb
         (λ (o : Outcome Writing).
-        o ≡ accepted w → read_degas w.file screen_bytes ≡ accepted (degas_back Elite p screen w))
+        o ≡ Ok w → read_degas w.file screen_bytes ≡ Ok (degas_back Elite p screen w))
         why.number no_packed_body
         (λ nine e.
         judged-value (ReadsBack p whole screen screen_bytes (omega arith) Elite) (write_degas Elite p screen out) w

@@ -1,4 +1,5 @@
 -- A file converted and converted back (document 02, ticket 7).
+use Rattle.std.specs.Prelude.{Ok}
 use mathlib.Core.Path.{◌≡◌, refl, sym, ap, ap₂, ◌∙◌, subst}
 use mathlib.Core.Bool.{Bool, false}
 use mathlib.Core.List.{List, [], ◌++◌, append_assoc, flatten}
@@ -9,7 +10,7 @@ use lib.Seq.{take_all, drop_at}
 use borrow.Author.Tests.{eqb-false}
 use Rattle.lists.specs.Bytes.{Bytes}
 use Rattle.lists.specs.Tabulate.{tabulate}
-use Rattle.outcome.specs.Outcome.{Outcome, accepted, later}
+use Rattle.outcome.specs.Outcome.{Outcome, later}
 use Rattle.outcome.proofs.Outcome.{judged-value}
 use Rattle.words.specs.Word.{word_at, words_at, word_bytes, words_bytes}
 use Rattle.words.proofs.Word.{word_at-lt, word-restored, words-restored}
@@ -111,12 +112,12 @@ plain_form p screen size =
     (take_all screen_bytes screen (omega (arith, size)))
 
 module _ {file : List ℕ} (bytes : Bytes file) (f : AcceptsToElite file) (out : ℕ) (room : file_bytes ≤ out)
-    (w : Writing) (is : convert ToElite file out ≡ accepted w) where
+    (w : Writing) (is : convert ToElite file out ≡ Ok w) where
   abbrev elite : Reading
   elite = degas_back Elite (plain_given f).picture (plain_given f).screen w
 
   -- the written file is read as the plain one, with the counts of the writing and a tail
-  pub to-elite-reads : read_degas w.file screen_bytes ≡ accepted elite
+  pub to-elite-reads : read_degas w.file screen_bytes ≡ Ok elite
   to-elite-reads =
       elite-reads (plain_given f).picture (whole-read file (plain_given f) (plain-read f)).whole (plain_given f).screen
       out w (sym (to-elite-is f out room) ∙ is)
@@ -171,7 +172,7 @@ unfolding plain_file
 plain-clear p whole small screen = omega (arith, header-word p whole p.resolution (take screen_bytes screen), small)
 
 module _ {file : List ℕ} (f : AcceptsToPlain file) (out : ℕ) (room : file_bytes ≤ out) (w : Writing)
-    (is : convert ToPlain file out ≡ accepted w) where
+    (is : convert ToPlain file out ≡ Ok w) where
   abbrev p : Picture
   p = (elite_given f).picture
 
@@ -184,11 +185,11 @@ module _ {file : List ℕ} (f : AcceptsToPlain file) (out : ℕ) (room : file_by
   whole : WholeReading (elite_given f)
   whole = whole-read file (elite_given f) (elite-read f)
 
-  written : raw_writing (plain_file p screen) ≡ accepted w
+  written : raw_writing (plain_file p screen) ≡ Ok w
   written = sym (to-plain-is f out room) ∙ is
 
   -- the written file is read as the Elite one, without its tail
-  pub to-plain-reads : read_degas w.file screen_bytes ≡ accepted plain
+  pub to-plain-reads : read_degas w.file screen_bytes ≡ Ok plain
   to-plain-reads =
       judged-value (ReadsBack p whole.whole screen screen_bytes (omega arith) Plain) (write_degas Plain p screen out) w
       (degas-back p whole.whole screen screen_bytes (omega arith) Plain out)

@@ -1,7 +1,6 @@
 -- The DEGAS files that a conversion accepts, and what it writes of them, said without the functions that read and pack
 -- (document 02, ticket 7).
-use Rattle.std.specs.Prelude.{ℕ, ◌≡◌, true, false, List, replicate}
-use Rattle.outcome.specs.Outcome.{accepted}
+use Rattle.std.specs.Prelude.{ℕ, ◌≡◌, true, false, List, replicate, Ok}
 use Rattle.words.specs.Word.{word_at}
 use Rattle.resolution.specs.declared.Resolution.{Resolution}
 use Rattle.picture.specs.declared.Picture.{Picture}
@@ -27,7 +26,7 @@ plain_given f = degas_given f.accepts
 -- none does
 pub data WritesElite (r : Resolution) (p : Picture) (screen : List ℕ) (w : Writing) : Type 0 where
   packed : WritesPacked r p screen w → WritesElite r p screen w
-  raw : NoBodyBelow r screen → accepted w ≡ raw_writing (elite_file p screen) → WritesElite r p screen w
+  raw : NoBodyBelow r screen → Ok w ≡ raw_writing (elite_file p screen) → WritesElite r p screen w
 
 -- to plain: an Elite file, raw or packed, so one that reading accepts and that has a tail, which is all zero
 pub record AcceptsToPlain (file : List ℕ) : Type 0 where

@@ -1,8 +1,8 @@
 -- A DEGAS file converted, plain to Elite or Elite to plain: the whole judgement, and what is written (document 02,
 -- ticket 7).
-use Rattle.std.specs.Prelude.{ℕ, ◌/◌, ◌%◌, ◌^◌, Bool, cond, not, ◌&&◌, List, ltb, eqb}
+use Rattle.std.specs.Prelude.{ℕ, ◌/◌, ◌%◌, ◌^◌, Bool, cond, not, ◌&&◌, List, ltb, eqb, Ok, Err}
 use Rattle.lists.specs.All.{all_first}
-use Rattle.outcome.specs.Outcome.{Outcome, accepted, refused, refuse_if, bind}
+use Rattle.outcome.specs.Outcome.{Outcome, refuse_if, bind}
 use Rattle.outcome.specs.Refusal.{area_too_short, unknown_kind, no_packed_body, ignored_bits_set, no_zero_tail}
 use Rattle.words.specs.Word.{word_at}
 use Rattle.resolution.specs.Shapes.{screen_bytes}
@@ -26,8 +26,8 @@ zero_tail p = p.tail_present && all_first tail_length (λ b. eqb b 0) (tail_byte
 
 -- an outcome, or another in its place where it is refused with this number
 abbrev pub recover : {A : Type 0} → ℕ → Outcome A → Outcome A → Outcome A
-recover number (accepted a) other = accepted a
-recover number (refused why) other = cond (eqb why.number number) other (refused why)
+recover number (Ok a) other = Ok a
+recover number (Err why) other = cond (eqb why.number number) other (Err why)
 
 -- Elite packed where a packed body below 32,000 bytes exists, and raw where the packed writing is refused with 9
 unfoldable pub write_elite : Picture → List ℕ → ℕ → Outcome Writing

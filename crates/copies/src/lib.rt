@@ -1,11 +1,12 @@
-// Bytes copied, and one byte repeated, to the front of an output. Definitions: specs/.
+// Bytes copied, and one byte or some bytes repeated, to the front of an output. Definitions: specs/.
 #![tactic(auto)]
 
-ghost use Rattle.std.specs.Prelude.{◌≡◌, ◌+◌, ◌≤◌, length, take, drop, replicate};
+ghost use Rattle.std.specs.Prelude.{◌≡◌, ◌+◌, ◌*◌, ◌≤◌, length, take, drop, replicate};
 ghost use Rattle.lists.specs.Over.{over};
-ghost use Rattle.copies.specs.Copies.{put_part, put_run};
+ghost use Rattle.lists.specs.Repeated.{repeated};
+ghost use Rattle.copies.specs.Copies.{put_part, put_run, put_times};
 
-// Copies n bytes from an offset of a source.
+// Copies n bytes that there are from an offset of a source.
 fn copy_part(source: &[u8], from: usize, n: usize, out: &mut [u8])
     requires n_in_bounds { from + n ≤ length source.now }
     requires n_in_bounds_2 { n ≤ length out.old }
@@ -38,15 +39,13 @@ pub fn put_part(source: &[u8], from: usize, n: usize, out: &mut [u8])
     copy_part(source, from, n, out);
 }
 
-// Writes one byte n times.
+// Writes one byte n times, where there is room. (std's `fill` stores the last byte apart, which costs more.)
 fn fill(byte: u8, n: usize, out: &mut [u8])
     requires { n ≤ length out.old }
     ensures { out.new ≡ over (replicate n byte) out.old }
 {
-    let mut k: usize = 0;
-    while k < n {
-        out[k] = byte;
-        k += 1;
+    for x in out[..n].iter_mut() {
+        *x = byte;
     }
 }
 
@@ -87,4 +86,31 @@ pub fn put_run(byte: u8, n: usize, out: &mut [u8])
         return;
     }
     fill_run(byte, n, out);
+}
+
+// Copies a part so many times.
+fn copy_times(part: &[u8], times: usize, out: &mut [u8])
+    requires { times * length part.now ≤ length out.old }
+    ensures { out.new ≡ over (repeated times part.now) out.old }
+{
+    let n = part.len();
+    for k in 0..times {
+        let to = k * n;
+        out[to..to + n].copy_from_slice(part);
+    }
+}
+
+// Copies a part so many times to the front of an output. Where it has not so many bytes nothing changes.
+pub fn put_times(part: &[u8], times: usize, out: &mut [u8])
+    ensures output { out.new ≡ put_times part.now times out.old }
+    ensures fits { times * length part.now ≤ length out.old
+        → out.new ≡ over (repeated times part.now) out.old }
+{
+    let Some(all) = times.checked_mul(part.len()) else {
+        return;
+    };
+    if out.len() < all {
+        return;
+    }
+    copy_times(part, times, out);
 }

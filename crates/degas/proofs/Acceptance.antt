@@ -1,4 +1,5 @@
 -- Demand 2 of DEGAS files: one is accepted exactly when it fits, and then gives what its parts are.
+use Rattle.std.specs.Prelude.{Ok}
 use mathlib.Core.Path.{◌≡◌, refl, sym, ap, ◌∙◌}
 use mathlib.Core.Logic.{◌↔◌}
 use mathlib.Core.List.{List}
@@ -6,7 +7,7 @@ use Prim.Native.Nat.{ℕ, ◌≤◌}
 use native.Mathlib.Omega.{arith}
 use lib.ListN.{length, take, drop}
 use Rattle.lists.specs.Bytes.{Bytes}
-use Rattle.outcome.specs.Outcome.{Outcome, accepted, map, Judged}
+use Rattle.outcome.specs.Outcome.{Outcome, map, Judged}
 use Rattle.outcome.proofs.Outcome.{judged-known, judged-value, judged-map}
 use Rattle.resolution.specs.declared.Resolution.{Resolution}
 use Rattle.resolution.specs.Shapes.{screen_bytes, raster_of}
@@ -26,7 +27,7 @@ use Rattle.degas.proofs.ReadDegas.{raw-plain, raw-elite, packed-short, packed-ju
 module _ (file : List ℕ) (r : Resolution) where
   -- ---- a packed file that fits is accepted, with what its parts give
 
-  pub packed-complete : (p : PackedFits file r) → read_packed file r ≡ accepted (packed_given r p)
+  pub packed-complete : (p : PackedFits file r) → read_packed file r ≡ Ok (packed_given r p)
   packed-complete p =
       packed-short file r (omega (arith, fits-length file header_length tail_length body_limit (raster_of r) p, p.below))
       ∙ ap (map (packed_reading file r)) (fits-complete file header_length tail_length body_limit (raster_of r) p)
@@ -43,7 +44,7 @@ module _ (file : List ℕ) (r : Resolution) where
     packed-given : Judged PackedGiven (read_packed file r)
     packed-given =
         let Known : UnpackedBody → Type 0 = ReadBounded file header_length tail_length (raster_of r) in
-        packed-judged file r (λ u. (body ≡ accepted u) × Known u) PackedGiven
+        packed-judged file r (λ u. (body ≡ Ok u) × Known u) PackedGiven
         (judged-known Known body (read-bounded file header_length tail_length (raster_of r)))
         (λ u short known.
         let g =
@@ -52,7 +53,7 @@ module _ (file : List ℕ) (r : Resolution) where
         (g.0, ap (packed_reading file r) g.1))
 
     -- the counts of an accepted packed file are those of the body that unpacks to its screen
-    pub packed-counts : (q : Reading) → read_packed file r ≡ accepted q
+    pub packed-counts : (q : Reading) → read_packed file r ≡ Ok q
         → (length file ≡ packed_length q.body)
         × UnpacksImage (raster_of r) (take q.body (drop header_length file)) q.screen q.records
     packed-counts q e =
@@ -66,7 +67,7 @@ module _ (file : List ℕ) (r : Resolution) where
 
   -- ---- a file of a known resolution
 
-  opened-complete : (f : Fits file r) → read_opened file (header_of file r) ≡ accepted (fits_given f)
+  opened-complete : (f : Fits file r) → read_opened file (header_of file r) ≡ Ok (fits_given f)
   opened-complete (plain is size) = rw is (raw-plain file r size)
   opened-complete (elite is size) = rw is (raw-elite file r size)
   opened-complete (packed is p) = rw is (packed-complete p)
@@ -95,15 +96,15 @@ module _ (file : List ℕ) (area : ℕ) where
 
   module _ (room : screen_bytes ≤ area) where
     -- a file that fits is accepted
-    pub degas-complete : (a : AcceptsDegas file) → read_degas file area ≡ accepted (degas_given a)
+    pub degas-complete : (a : AcceptsDegas file) → read_degas file area ≡ Ok (degas_given a)
     degas-complete a =
         let h = fits-header file a.resolution a.fits in
         read_fits file area room
         ∙ rw (opening-known file h a.resolution a.allowed) (opened-complete file a.resolution a.fits)
 
     -- accepted exactly when it fits, and then with this
-    pub degas-acceptance : Bytes file → (q : Reading) → (read_degas file area ≡ accepted q) ↔ Given q
+    pub degas-acceptance : Bytes file → (q : Reading) → (read_degas file area ≡ Ok q) ↔ Given q
     degas-acceptance bytes q = (
       judged-value Given (read_degas file area) q (degas-judged bytes),
-      λ g. degas-complete g.0 ∙ ap accepted (sym g.1),
+      λ g. degas-complete g.0 ∙ ap Ok (sym g.1),
     )

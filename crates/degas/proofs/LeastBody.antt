@@ -1,5 +1,6 @@
 -- Demand 3: the packed writer refuses exactly when it must, and otherwise writes a screen's least body; how long that
 -- can be.
+use Rattle.std.specs.Prelude.{Ok, Some}
 use mathlib.Core.Path.{◌≡◌, refl, sym, ap, ◌∙◌}
 use mathlib.Core.Logic.{◌↔◌}
 use mathlib.Core.List.{List}
@@ -7,11 +8,10 @@ use Prim.Native.Nat.{ℕ, ◌+◌, ◌*◌, ◌≤◌}
 use native.Mathlib.Omega.{arith}
 use lib.ListN.{length}
 use Rattle.lists.specs.Bytes.{Bytes}
-use Rattle.outcome.specs.Outcome.{Outcome, accepted, refuse, map}
+use Rattle.outcome.specs.Outcome.{Outcome, refuse, map}
 use Rattle.outcome.specs.Refusal.{no_packed_body}
 use Rattle.outcome.proofs.Outcome.{map-refused}
 use Rattle.raster.specs.Shape.{row_bytes, rows}
-use Rattle.resolution.specs.declared.Chosen.TheVariants.{Known}
 use Rattle.resolution.specs.declared.Resolution.{Resolution}
 use Rattle.resolution.specs.declared.Resolution.TheVariants.{Low, Medium, High}
 use Rattle.resolution.specs.Shapes.{screen_bytes, raster_of}
@@ -59,7 +59,7 @@ bound-attained r = (
 
 -- ---- the packed writer
 
-module _ (r : Resolution) (p : Picture) (screen : List ℕ) (out : ℕ) (known : chosen p.resolution ≡ Known r)
+module _ (r : Resolution) (p : Picture) (screen : List ℕ) (out : ℕ) (known : chosen p.resolution ≡ Some r)
     (full : screen_bytes ≤ length screen) (room : file_bytes ≤ out) where
   abbrev least : Outcome PackedBody
   least = below_limit (raster_of r) screen body_limit
@@ -82,7 +82,7 @@ module _ (r : Resolution) (p : Picture) (screen : List ℕ) (out : ℕ) (known :
   -- every other byte string that does has at least as many bytes. It reports that body's length and number of records,
   -- and a file length 66 above the body's."
   pub packed-otherwise : WholePicture p → (write_degas Packed p screen out ≡ refuse no_packed_body → ⊥)
-      → (w : Writing) × (write_degas Packed p screen out ≡ accepted w) × WritesPacked r p screen w
+      → (w : Writing) × (write_degas Packed p screen out ≡ Ok w) × WritesPacked r p screen w
   packed-otherwise whole h =
       let body : List ℕ = least_body (raster_of r) screen in
       let some =

@@ -1,43 +1,42 @@
 -- Laws of reading a DEGAS file: what each test that the code makes comes to.
-use mathlib.Core.Path.{◌≡◌, refl, ap, ◌∙◌}
+use Rattle.std.specs.Prelude.{Ok, Err, Some, IfOk}
+use mathlib.Core.Path.{◌≡◌, sym, ap, ◌∙◌}
 use mathlib.Core.Bool.{true, false}
-use mathlib.Core.List.{List}
-use Prim.Native.Nat.{ℕ, ◌+◌, ◌-◌, ◌≤◌, ◌<◌}
+use mathlib.Core.List.{List, ◌++◌}
+use Prim.Native.Nat.{ℕ, ◌+◌, ◌≤◌, ◌<◌}
 use native.Mathlib.Omega.{arith}
-use lib.ListN.{length}
+use lib.ListN.{length, take, drop}
 use borrow.Author.Tests.{lt-ltb, le-ltb, eq-eqb, ne_eqb}
 use Rattle.lists.proofs.Cond.{cond-elim, cond-ltb, cond-eqb}
-use Rattle.outcome.specs.Outcome.{Outcome, accepted, refused, refuse, none, map, bind, Judged}
+use Rattle.outcome.specs.declared.Refusal.{Refusal}
+use Rattle.outcome.specs.Outcome.{Outcome, refuse, map, bind, Judged}
 use Rattle.outcome.specs.Refusal.{area_too_short, wrong_length}
 use Rattle.resolution.specs.declared.Resolution.{Resolution}
-use Rattle.resolution.specs.declared.Chosen.TheVariants.{Known}
 use Rattle.resolution.specs.Choice.{chosen}
 use Rattle.resolution.specs.Shapes.{screen_bytes, raster_of}
-use Rattle.bodies.specs.declared.BodyAnswer.{BodyAnswer}
-use Rattle.bodies.specs.Unpacking.{UnpackedBody, unpacked_answer}
-use Rattle.bodies.specs.Reading.{read_body, read_into, body_area}
-use Rattle.bodies.proofs.Answers.{Answered, answer-refused, answer-accepted}
+use Rattle.packbits.specs.declared.Packed.{Packed}
+use Rattle.bodies.specs.Unpacking.{UnpackedBody, body_unpacked}
+use Rattle.bodies.specs.Reading.{read_body, body_area}
 use Rattle.bodies.proofs.Reading.{ReadBounded, read-bounded}
-use Rattle.picture.specs.declared.ReadAnswer.{ReadAnswer}
-use Rattle.picture.specs.Reading.{Reading, raw_reading, read_answer, read_area}
-use Rattle.picture.proofs.Reading.{area-short, area-fits}
+use Rattle.picture.specs.declared.PictureRead.{PictureRead}
+use Rattle.picture.specs.Reading.{Reading, raw_reading, picture_read, read_area}
+use Rattle.picture.proofs.Reading.{area-short, area-fits, area-cut}
 use Rattle.degas.specs.Layout.{header_length, tail_length, plain_length, elite_length, packed_most}
 use Rattle.degas.specs.Opening.{resolution_number, is_packed, opening}
-use Rattle.degas.specs.Reading.{plain_picture, elite_picture, read_raw, packed_reading, read_packed}
+use Rattle.degas.specs.Reading.{plain_picture, elite_picture, read_raw, packed_reading, packed_body, read_packed}
 use Rattle.degas.specs.Reading.{read_opened, read_degas}
 use Rattle.degas.proofs.Opening.{opening-elim}
-use Rattle.degas.proofs.ScreenRaster.{screen-read}
 
 -- ---- raw
 
 module _ (file : List ℕ) (r : Resolution) where
   pub raw-plain : length file ≡ plain_length
-      → read_raw file r ≡ accepted (raw_reading (plain_picture file r) file header_length)
+      → read_raw file r ≡ Ok (raw_reading (plain_picture file r) file header_length)
   unfolding read_raw
   raw-plain h = simp (eq-eqb (length file) plain_length h)
 
   pub raw-elite : length file ≡ elite_length
-      → read_raw file r ≡ accepted (raw_reading (elite_picture file r plain_length) file header_length)
+      → read_raw file r ≡ Ok (raw_reading (elite_picture file r plain_length) file header_length)
   unfolding read_raw
   raw-elite h = simp (ne_eqb (length file) plain_length (omega arith), eq-eqb (length file) elite_length h)
 
@@ -69,68 +68,61 @@ module _ (file : List ℕ) (r : Resolution) where
       go short (read_body file header_length tail_length (raster_of r)) p)
     where
       go : length file ≤ packed_most → (o : Outcome UnpackedBody) → Judged P o → Judged Q (map (packed_reading file r) o)
-      go short (accepted u) p = f u short p
-      go short (refused why) p = p
+      go short (Ok u) p = f u short p
+      go short (Err why) p = p
 
--- a file that is not too long, and what `read_body` answered of its body and left of the area, by a buffer of so many
--- bytes
-pub record BodyRead (file : List ℕ) (r : Resolution) (area after : List ℕ) (a : BodyAnswer) : Type 0 where
-  pub short : length file ≤ packed_most
-  pub full : screen_bytes ≤ length area
-  pub buffer : ℕ
-  pub room : screen_bytes ≤ buffer
-  pub answer : a ≡ unpacked_answer (read_into file header_length tail_length (raster_of r) buffer (length area))
-  pub made : after ≡ body_area (read_into file header_length tail_length (raster_of r) buffer (length area)) area
+module _ (file : List ℕ) (r : Resolution) where
+  abbrev bounded : UnpackedBody → Type 0
+  bounded = ReadBounded file header_length tail_length (raster_of r)
 
-module _ {file : List ℕ} {r : Resolution} {area after : List ℕ} {a : BodyAnswer}
-    (b : BodyRead file r area after a) where
-  abbrev body : Outcome UnpackedBody
-  body = read_body file header_length tail_length (raster_of r)
+  -- what is given of an accepted body
+  abbrev pub read_of : Packed → PictureRead
+  read_of p = record {
+    picture = elite_picture file r (header_length + p.bytes);
+    body = p.bytes;
+    records = p.records;
+  }
 
-  judged : read_into file header_length tail_length (raster_of r) b.buffer (length area) ≡ body
-  judged = screen-read r file header_length tail_length b.buffer (length area) b.room b.full
-
-  answered : a ≡ unpacked_answer body
-  answered = b.answer ∙ ap unpacked_answer judged
-
-  left : after ≡ body_area body area
-  left = b.made ∙ ap (λ (o : Outcome UnpackedBody). body_area o area) judged
-
-  -- what the reading must answer, and leave of the area
-  abbrev Reads : ReadAnswer → Outcome Reading → Type 0
-  Reads q o = (q ≡ read_answer o) × (after ≡ read_area o area)
-
-  pub packed-fault : (a.refusal.number ≡ 0 → ⊥) → Reads (read_answer (refused a.refusal)) (read_packed file r)
-  packed-fault e =
-      let is = answer-refused _ _ body answered e in
-      let all = packed-short file r b.short ∙ ap (map (packed_reading file r)) is in
-      rw all (refl, left ∙ ap (λ (o : Outcome UnpackedBody). body_area o area) is)
-
-  module _ (ok : a.refusal.number ≡ 0) where
-    known : Answered (λ (u : UnpackedBody). u.body) (λ (u : UnpackedBody). u.records)
-        (ReadBounded file header_length tail_length (raster_of r)) body a
-    known = answer-accepted _ _ _ body (read-bounded file header_length tail_length (raster_of r)) answered ok
-
+  module _ {given : Outcome Packed} (is : given ≡ map body_unpacked (packed_body file r)) where
     -- its bytes are there
-    pub packed-bytes : a.body ≤ length file - header_length
-    packed-bytes = omega (arith, ap (λ (x : BodyAnswer). x.body) known.same, known.holds.1.1)
+    pub packed-bytes : IfOk given (λ p. header_length + p.bytes ≤ length file)
+    packed-bytes = rw is (go (packed_body file r) (read-bounded file header_length tail_length (raster_of r)))
+      where
+        go : (o : Outcome UnpackedBody) → Judged bounded o
+            → IfOk (map body_unpacked o) (λ p. header_length + p.bytes ≤ length file)
+        go (Ok u) holds = omega (arith, holds.1.1)
+        go (Err why) holds = tt
 
-    -- what the code answers with these counts
-    abbrev answer_of : BodyAnswer → ReadAnswer
-    answer_of x = record {
-      refusal = none;
-      picture = elite_picture file r (header_length + x.body);
-      body = x.body;
-      records = x.records;
-    }
+    module _ (short : length file ≤ packed_most) where
+      -- a refusal is the reading's
+      pub packed-fault : {why : Refusal} → given ≡ Err why → Err why ≡ map picture_read (read_packed file r)
+      packed-fault e = rw (packed-short file r short) (go (packed_body file r) (sym e ∙ is))
+        where
+          go : {why : Refusal} (o : Outcome UnpackedBody) → Err why ≡ map body_unpacked o
+              → Err why ≡ map picture_read (map (packed_reading file r) o)
+          go (Ok u) e = let z : ◌≡◌ {A = ℕ} 0 1 = cc in absurd (omega arith)
+          go (Err w) e = cc
 
-    pub packed-done : Reads (answer_of a) (read_packed file r)
-    packed-done =
-        let all = packed-short file r b.short ∙ ap (map (packed_reading file r)) known.is in
-        rw all (
-          ap answer_of known.same,
-          left ∙ ap (λ (o : Outcome UnpackedBody). body_area o area) known.is,
-        )
+      -- and what is given of an accepted one
+      pub packed-done : {p : Packed} → given ≡ Ok p → Ok (read_of p) ≡ map picture_read (read_packed file r)
+      packed-done e = rw (packed-short file r short) (go (packed_body file r) (sym e ∙ is))
+        where
+          go : {p : Packed} (o : Outcome UnpackedBody) → Ok p ≡ map body_unpacked o
+              → Ok (read_of p) ≡ map picture_read (map (packed_reading file r) o)
+          go {p = p} (Ok u) e = let same : p ≡ body_unpacked u = cc in ap (λ (k : Packed). Ok (read_of k)) same
+          go (Err w) e = let z : ◌≡◌ {A = ℕ} 0 1 = cc in absurd (omega arith)
+
+  -- a reading into the area cut to the screen is one into the whole area
+  pub packed-cut : length file ≤ packed_most → (area part : List ℕ) → length part ≡ length (take screen_bytes area)
+      → part ≡ body_area (packed_body file r) (take screen_bytes area)
+      → part ++ drop screen_bytes area ≡ read_area (read_packed file r) area
+  packed-cut short area part kept is =
+      rw (packed-short file r short) (go (packed_body file r) is)
+    where
+      go : (o : Outcome UnpackedBody) → part ≡ body_area o (take screen_bytes area)
+          → part ++ drop screen_bytes area ≡ read_area (map (packed_reading file r) o) area
+      go (Ok u) is = area-cut (Ok (packed_reading file r u)) area part screen_bytes kept is
+      go (Err why) is = area-cut (Err why) area part screen_bytes kept is
 
 -- ---- the area
 
@@ -147,11 +139,11 @@ module _ (file : List ℕ) (area : ℕ) where
 
 -- what holds of a raw reading of either length and of a packed one holds of what is accepted
 pub by_form : (file : List ℕ) (P : Reading → Type 0)
-    → ((r : Resolution) → chosen (resolution_number file) ≡ Known r → is_packed file ≡ false
+    → ((r : Resolution) → chosen (resolution_number file) ≡ Some r → is_packed file ≡ false
     → length file ≡ plain_length → P (raw_reading (plain_picture file r) file header_length))
-    → ((r : Resolution) → chosen (resolution_number file) ≡ Known r → is_packed file ≡ false
+    → ((r : Resolution) → chosen (resolution_number file) ≡ Some r → is_packed file ≡ false
     → length file ≡ elite_length → P (raw_reading (elite_picture file r plain_length) file header_length))
-    → ((r : Resolution) → chosen (resolution_number file) ≡ Known r → is_packed file ≡ true
+    → ((r : Resolution) → chosen (resolution_number file) ≡ Some r → is_packed file ≡ true
     → Judged P (read_packed file r))
     → (area : ℕ) → Judged P (read_degas file area)
 unfolding read_degas read_raw

@@ -1,4 +1,5 @@
 -- Demand 2 of DEGAS files: what is written is read back, in every form.
+use Rattle.std.specs.Prelude.{Ok, Some}
 use mathlib.Core.Path.{◌≡◌, refl, ap, ◌∙◌}
 use mathlib.Core.List.{List, ◌++◌}
 use Prim.Native.Nat.{ℕ, ◌+◌, ◌/◌, ◌%◌, ◌^◌, ◌≤◌, ◌<◌}
@@ -7,9 +8,8 @@ use lib.ListN.{length, take, length-append}
 use lib.Seq.{take_at, take_all, length-take-le}
 use borrow.Author.Tests.{ne_eqb}
 use Rattle.lists.proofs.Cond.{cond-leb}
-use Rattle.outcome.specs.Outcome.{Outcome, accepted, map, bind, Judged}
+use Rattle.outcome.specs.Outcome.{Outcome, map, bind, Judged}
 use Rattle.words.specs.Word.{word_at}
-use Rattle.resolution.specs.declared.Chosen.TheVariants.{Known}
 use Rattle.resolution.specs.declared.Resolution.{Resolution}
 use Rattle.resolution.specs.Shapes.{screen_bytes, raster_of}
 use Rattle.resolution.specs.Choice.{chosen}
@@ -40,13 +40,13 @@ use Rattle.degas.proofs.ScreenRaster.{in-range}
 module _ (p : Picture) (whole : WholePicture p) (screen : List ℕ) (area : ℕ) (room : screen_bytes ≤ area) where
   -- an accepted writing's file, read
   abbrev pub ReadsBack : Form → Writing → Type 0
-  ReadsBack form w = read_degas w.file area ≡ accepted (degas_back form p screen w)
+  ReadsBack form w = read_degas w.file area ≡ Ok (degas_back form p screen w)
 
-  module _ (r : Resolution) (known : chosen p.resolution ≡ Known r) (full : screen_bytes ≤ length screen) where
+  module _ (r : Resolution) (known : chosen p.resolution ≡ Some r) (full : screen_bytes ≤ length screen) where
     small : p.resolution ≤ 2
     small = known-le p.resolution r known
 
-    same : {n : ℕ} → n ≡ p.resolution → chosen n ≡ Known r
+    same : {n : ℕ} → n ≡ p.resolution → chosen n ≡ Some r
     same e = ap chosen e ∙ known
 
     size : length (take screen_bytes screen) ≡ screen_bytes

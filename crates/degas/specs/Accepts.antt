@@ -1,7 +1,6 @@
 -- The DEGAS files that reading accepts, and what it gives (document 00, demand 2; document 01, "File layouts").
-use Rattle.std.specs.Prelude.{ℕ, ◌≡◌, true, false, List, length}
+use Rattle.std.specs.Prelude.{ℕ, ◌≡◌, true, false, List, length, Some}
 use Rattle.resolution.specs.declared.Resolution.{Resolution}
-use Rattle.resolution.specs.declared.Chosen.TheVariants.{Known}
 use Rattle.resolution.specs.Shapes.{raster_of}
 use Rattle.resolution.specs.Choice.{chosen}
 use Rattle.picture.specs.Reading.{Reading, raw_reading}
@@ -23,7 +22,7 @@ pub data Fits (file : List ℕ) (r : Resolution) : Type 0 where
 -- and its resolution is allowed
 pub record AcceptsDegas (file : List ℕ) : Type 0 where
   pub resolution : Resolution
-  pub allowed : chosen (resolution_number file) ≡ Known resolution
+  pub allowed : chosen (resolution_number file) ≡ Some resolution
   pub fits : Fits file resolution
 
 -- what an accepted file gives: of a packed one the screen that the body unpacks to, the body's length and its records

@@ -1,7 +1,7 @@
 -- Reading a DEGAS file: the whole judgement and what an accepted file holds (document 01, "File layouts", "Order of
 -- judging": read).
-use Rattle.std.specs.Prelude.{ℕ, ◌+◌, cond, List, length, ltb, eqb}
-use Rattle.outcome.specs.Outcome.{Outcome, accepted, refuse, refuse_if, map, bind}
+use Rattle.std.specs.Prelude.{ℕ, ◌+◌, cond, List, length, ltb, eqb, Ok}
+use Rattle.outcome.specs.Outcome.{Outcome, refuse, refuse_if, map, bind}
 use Rattle.outcome.specs.Refusal.{wrong_length}
 use Rattle.words.specs.Word.{words_at}
 use Rattle.resolution.specs.declared.Resolution.{Resolution}
@@ -26,8 +26,8 @@ elite_picture file r at = with_tail (number_of r) (words_at 16 file palette_star
 -- raw: the length decides whether there is a tail
 unfoldable pub read_raw : List ℕ → Resolution → Outcome Reading
 read_raw file r =
-    cond (eqb (length file) plain_length) (accepted (raw_reading (plain_picture file r) file header_length))
-    (cond (eqb (length file) elite_length) (accepted (raw_reading (elite_picture file r plain_length) file header_length))
+    cond (eqb (length file) plain_length) (Ok (raw_reading (plain_picture file r) file header_length))
+    (cond (eqb (length file) elite_length) (Ok (raw_reading (elite_picture file r plain_length) file header_length))
     (refuse wrong_length))
 
 -- a packed file whose body is read
@@ -39,11 +39,14 @@ packed_reading file r b = record {
   screen = b.image;
 }
 
--- packed: at most the longest file; then the body, and after it exactly 32 bytes
+-- the body of a packed file, and after it exactly 32 bytes
+abbrev pub packed_body : List ℕ → Resolution → Outcome UnpackedBody
+packed_body file r = read_body file header_length tail_length (raster_of r)
+
+-- packed: at most the longest file; then the body
 unfoldable pub read_packed : List ℕ → Resolution → Outcome Reading
 read_packed file r =
-    refuse_if (ltb packed_most (length file)) wrong_length
-    (map (packed_reading file r) (read_body file header_length tail_length (raster_of r)))
+    refuse_if (ltb packed_most (length file)) wrong_length (map (packed_reading file r) (packed_body file r))
 
 -- an opened file
 abbrev pub read_opened : List ℕ → Header → Outcome Reading

@@ -16,9 +16,13 @@ use Rattle.degas.specs.Layout.{body_limit, plain_file, elite_file, packed_file}
 abbrev pub packed_writing : Picture → PackedBody → Writing
 packed_writing p b = record { file = packed_file p b.bytes; body = b.body; records = b.records }
 
--- form 3: the least body of the screen, refused where that is not below the limit
+-- the least body of a screen, refused where that is not below the limit
+abbrev pub packed_screen : Resolution → List ℕ → Outcome PackedBody
+packed_screen r screen = below_limit (raster_of r) screen body_limit
+
+-- form 3
 unfoldable pub write_packed : Resolution → Picture → List ℕ → Outcome Writing
-write_packed r p screen = map (packed_writing p) (below_limit (raster_of r) screen body_limit)
+write_packed r p screen = map (packed_writing p) (packed_screen r screen)
 
 -- a form at a known resolution
 abbrev pub write_form : Form → Resolution → Picture → List ℕ → Outcome Writing

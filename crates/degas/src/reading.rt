@@ -1,16 +1,19 @@
 // An opened DEGAS file read: its parts judged, and its screen copied or unpacked.
-ghost use Rattle.std.specs.Prelude.{◌≡◌, ◌≤◌, length};
-ghost use Rattle.outcome.specs.Outcome.{accepted};
+ghost use Rattle.std.specs.Prelude.{◌≡◌, ◌+◌, ◌≤◌, length, Ok, IfOk};
 ghost use Rattle.resolution.specs.Shapes.{screen_bytes};
-ghost use Rattle.picture.specs.Reading.{raw_reading, read_answer, read_area};
-ghost use Rattle.degas.specs.Layout.{header_length, plain_length, packed_most};
-ghost use Rattle.degas.specs.Reading.{plain_picture, elite_picture, read_raw, read_packed, read_opened};
+ghost use Rattle.outcome.specs.Outcome.{map};
+ghost use Rattle.picture.specs.Reading.{raw_reading, picture_read, read_area};
+ghost use Rattle.bodies.specs.Reading.{body_area};
+ghost use Rattle.bodies.specs.Unpacking.{body_unpacked};
+ghost use Rattle.degas.specs.Layout.{header_length, plain_length};
+ghost use Rattle.degas.specs.Reading.{plain_picture, elite_picture, read_raw, packed_body, read_packed, read_opened};
 
 use super::{
     ELITE_LENGTH, HEADER_LENGTH, Header, PACKED_MOST, PALETTE_START, PLAIN_LENGTH, TAIL_LENGTH,
 };
-use outcome::WRONG_LENGTH;
-use picture::{Picture, ReadAnswer};
+use outcome::{Reason, Refusal};
+use packbits::Packed;
+use picture::{Picture, PictureRead};
 use resolution::{Resolution, SCREEN_BYTES};
 
 // The picture of a plain file.
@@ -29,98 +32,85 @@ fn elite_picture(file: &[u8], r: Resolution, at: u32) -> Picture
     picture::with_tail(r.number(), palette, picture::parts::tail_at(file, at))
 }
 
-// Copies the raw screen of a file into the area, and answers with the picture.
-fn copy_screen(file: &[u8], picture: Picture, area: &mut [u8]) -> ReadAnswer
+// Copies the raw screen of a file into the area, and gives the picture.
+fn copy_screen(file: &[u8], picture: Picture, area: &mut [u8]) -> PictureRead
     requires plain_length_in_bounds { plain_length ≤ length file.now }
     requires screen_bytes_in_bounds { screen_bytes ≤ length area.old }
-    ensures answer { result ≡ read_answer (accepted (raw_reading picture file.now header_length)) }
+    ensures read { result ≡ picture_read (raw_reading picture file.now header_length) }
     ensures area { area.new
-        ≡ read_area (accepted (raw_reading picture file.now header_length)) area.old }
+        ≡ read_area (Ok (raw_reading picture file.now header_length)) area.old }
 {
     byte_copy::copy(&file[HEADER_LENGTH..PLAIN_LENGTH], area);
-    picture::read_done(picture, 0, 0)
+    PictureRead {
+        picture,
+        body: 0,
+        records: 0,
+    }
 }
 
 // A raw file: its length says whether it has a tail.
-fn read_raw(file: &[u8], r: Resolution, area: &mut [u8]) -> ReadAnswer
+#[tactic(auto, unfolding(crate::specs::Reading::read_raw))]
+fn read_raw(file: &[u8], r: Resolution, area: &mut [u8]) -> Result<PictureRead, Refusal>
     requires { screen_bytes ≤ length area.old }
-    ensures answer { result ≡ read_answer (read_raw file.now r) }
+    ensures answer { result ≡ map picture_read (read_raw file.now r) }
     ensures area { area.new ≡ read_area (read_raw file.now r) area.old }
 {
     if file.len() == PLAIN_LENGTH {
-        return copy_screen(file, plain_picture(file, r), area);
+        return Ok(copy_screen(file, plain_picture(file, r), area));
     }
     if file.len() == ELITE_LENGTH {
-        return copy_screen(file, elite_picture(file, r, PLAIN_LENGTH as u32), area);
+        return Ok(copy_screen(file, elite_picture(file, r, PLAIN_LENGTH as u32), area));
     }
-    picture::read_refused(outcome::refuse(WRONG_LENGTH))
+    Err(outcome::refuse(Reason::WrongLength))
 }
 
-// The body of a packed file that is not too long, and then exactly 32 bytes. The rows are unpacked into a buffer of the
-// reader's own.
+// The body of a packed file, and then exactly 32 bytes. The rows are unpacked into a buffer of the reader's own.
 #[inline(never)]
-fn read_by_buffer(file: &[u8], r: Resolution, area: &mut [u8]) -> ReadAnswer
-    requires file_len_bound { length file.now ≤ packed_most }
-    requires screen_bytes_in_bounds { screen_bytes ≤ length area.old }
-    ensures answer { result ≡ read_answer (read_packed file.now r) }
-    ensures area { area.new ≡ read_area (read_packed file.now r) area.old }
+fn read_by_buffer(file: &[u8], r: Resolution, area: &mut [u8]) -> Result<Packed, Refusal>
+    requires { screen_bytes ≤ length area.old }
+    ensures answer { result ≡ map body_unpacked (packed_body file.now r) }
+    ensures area { area.new ≡ body_area (packed_body file.now r) area.old }
+    ensures bytes { IfOk result (λ body. header_length + body.bytes ≤ length file.now) }
 {
     let mut buffer = [0u8; SCREEN_BYTES];
-    let unpacked = bodies::read_body(
+    bodies::read_body(
         file,
         HEADER_LENGTH,
         TAIL_LENGTH,
         r.raster(),
         &mut buffer,
         area,
-    );
-    if unpacked.refusal.number != 0 {
-        return picture::read_refused(unpacked.refusal);
-    }
-    let end = HEADER_LENGTH + unpacked.body;
-    picture::read_done(
-        elite_picture(file, r, end as u32),
-        unpacked.body,
-        unpacked.records,
     )
 }
 
-// The same, with an area cut to the screen.
-fn read_rows(file: &[u8], r: Resolution, area: &mut [u8]) -> ReadAnswer
-    requires file_len_bound { length file.now ≤ packed_most }
-    requires screen_bytes_in_bounds { screen_bytes ≤ length area.old }
-    ensures answer { result ≡ read_answer (read_packed file.now r) }
-    ensures area { area.new ≡ read_area (read_packed file.now r) area.old }
-{
-    // read_by_buffer is not inlined: its buffer stays out of the caller's stack frame.
-    if SCREEN_BYTES < area.len() {
-        return read_rows(file, r, &mut area[..SCREEN_BYTES]);
-    }
-    read_by_buffer(file, r, area)
-}
-
-// A packed file.
+// A packed file. read_by_buffer is not inlined: its buffer stays out of this stack frame.
 #[inline(never)]
-fn read_packed(file: &[u8], r: Resolution, area: &mut [u8]) -> ReadAnswer
+#[tactic(auto, unfolding(crate::specs::Reading::read_packed))]
+fn read_packed(file: &[u8], r: Resolution, area: &mut [u8]) -> Result<PictureRead, Refusal>
     requires { screen_bytes ≤ length area.old }
-    ensures answer { result ≡ read_answer (read_packed file.now r) }
+    ensures answer { result ≡ map picture_read (read_packed file.now r) }
     ensures area { area.new ≡ read_area (read_packed file.now r) area.old }
 {
     if PACKED_MOST < file.len() {
-        return picture::read_refused(outcome::refuse(WRONG_LENGTH));
+        return Err(outcome::refuse(Reason::WrongLength));
     }
-    read_rows(file, r, area)
+    let body = read_by_buffer(file, r, &mut area[..SCREEN_BYTES])?;
+    let end = HEADER_LENGTH + body.bytes;
+    Ok(PictureRead {
+        picture: elite_picture(file, r, end as u32),
+        body: body.bytes,
+        records: body.records,
+    })
 }
 
 // An opened file, raw or packed.
-pub(crate) fn read_opened(file: &[u8], h: Header, area: &mut [u8]) -> ReadAnswer
+pub(crate) fn read_opened(file: &[u8], h: Header, area: &mut [u8]) -> Result<PictureRead, Refusal>
     requires { screen_bytes ≤ length area.old }
-    ensures answer { result ≡ read_answer (read_opened file.now h) }
+    ensures answer { result ≡ map picture_read (read_opened file.now h) }
     ensures area { area.new ≡ read_area (read_opened file.now h) area.old }
 {
-    let r = h.resolution;
     if h.packed {
-        return read_packed(file, r, area);
+        return read_packed(file, h.resolution, area);
     }
-    read_raw(file, r, area)
+    read_raw(file, h.resolution, area)
 }

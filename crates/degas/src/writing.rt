@@ -1,16 +1,20 @@
 // A DEGAS file written over the front of a lent output, part by part.
-ghost use Rattle.std.specs.Prelude.{◌≡◌, ◌≤◌, length, take};
+ghost use Rattle.std.specs.Prelude.{◌≡◌, ◌≤◌, ◌<◌, length, take, Some, IfOk};
 ghost use Rattle.lists.specs.Written.{Written};
-ghost use Rattle.resolution.specs.declared.Chosen.TheVariants.{Known};
+ghost use Rattle.outcome.specs.Outcome.{map};
 ghost use Rattle.resolution.specs.Choice.{chosen};
 ghost use Rattle.resolution.specs.Shapes.{screen_bytes};
 ghost use Rattle.picture.specs.Tables.{tail_bytes};
-ghost use Rattle.picture.specs.Writing.{file_bytes, write_answer, write_output};
-ghost use Rattle.degas.specs.Layout.{header_length, tail_length, plain_length, header, plain_file, elite_file};
-ghost use Rattle.degas.specs.Writing.{write_packed, write_form};
+ghost use Rattle.picture.specs.Writing.{file_bytes, file_written, write_output};
+ghost use Rattle.bodies.specs.Packing.{body_packed, packed_output};
+ghost use Rattle.degas.specs.Layout.{header_length, tail_length, body_limit, plain_length};
+ghost use Rattle.degas.specs.Layout.{header, plain_file, elite_file};
+ghost use Rattle.degas.specs.Writing.{packed_screen, write_packed, write_form};
 
 use super::{BODY_LIMIT, Form, HEADER_LENGTH, PACKED_BIT};
-use picture::{Picture, Table, WriteAnswer};
+use outcome::Refusal;
+use packbits::Packed;
+use picture::{FileWritten, Picture, Table};
 use resolution::{Resolution, SCREEN_BYTES};
 
 // The first word and the palette. Answers the length, as every function here that puts a part does.
@@ -68,24 +72,40 @@ fn put_elite(picture: Picture, screen: &[u8], out: &mut [u8]) -> usize
     end + put_tail(tail, &mut out[end..])
 }
 
-// Form 3, DEGAS Elite packed. The body is decided and written first: where there is none below the limit nothing has
-// changed.
-fn write_packed(r: Resolution, picture: Picture, screen: &[u8], out: &mut [u8]) -> WriteAnswer
-    requires resolution_value { chosen picture.resolution ≡ Known r }
+// The least body of the screen, packed behind the place of the header.
+fn pack_screen(r: Resolution, screen: &[u8], out: &mut [u8]) -> Result<Packed, Refusal>
     requires screen_bytes_in_bounds { screen_bytes ≤ length screen.now }
     requires file_bytes_in_bounds { file_bytes ≤ length out.old }
-    ensures answer { result ≡ write_answer (write_packed r picture screen.now) }
+    ensures answer { result ≡ map body_packed (packed_screen r screen.now) }
+    ensures out { out.new ≡ packed_output (packed_screen r screen.now) header_length out.old }
+    ensures bytes { IfOk result (λ body. body.bytes < body_limit) }
+{
+    bodies::pack_body(screen, r.raster(), BODY_LIMIT, HEADER_LENGTH, out)
+}
+
+// Form 3, DEGAS Elite packed. The body is decided and written first: where there is none below the limit nothing has
+// changed.
+fn write_packed(
+    r: Resolution,
+    picture: Picture,
+    screen: &[u8],
+    out: &mut [u8],
+) -> Result<FileWritten, Refusal>
+    requires resolution_value { chosen picture.resolution ≡ Some r }
+    requires screen_bytes_in_bounds { screen_bytes ≤ length screen.now }
+    requires file_bytes_in_bounds { file_bytes ≤ length out.old }
+    ensures answer { result ≡ map file_written (write_packed r picture screen.now) }
     ensures output { out.new
         ≡ write_output (write_packed r picture screen.now) out.old }
 {
-    let packed = bodies::pack_body(screen, r.raster(), BODY_LIMIT, HEADER_LENGTH, out);
-    if packed.refusal.number != 0 {
-        return picture::write_refused(packed.refusal);
-    }
-    let tail = picture.tail;
-    let end = put_header(PACKED_BIT + picture.resolution, picture, out) + packed.body;
-    let length = end + put_tail(tail, &mut out[end..]);
-    picture::write_done(length, packed.body, packed.records)
+    let body = pack_screen(r, screen, out)?;
+    let end = put_header(PACKED_BIT + picture.resolution, picture, out) + body.bytes;
+    let length = end + put_tail(picture.tail, &mut out[end..]);
+    Ok(FileWritten {
+        length,
+        body: body.bytes,
+        records: body.records,
+    })
 }
 
 // A form at a known resolution.
@@ -95,17 +115,22 @@ pub(crate) fn write_form(
     picture: Picture,
     screen: &[u8],
     out: &mut [u8],
-) -> WriteAnswer
-    requires resolution_value { chosen picture.resolution ≡ Known r }
+) -> Result<FileWritten, Refusal>
+    requires resolution_value { chosen picture.resolution ≡ Some r }
     requires screen_bytes_in_bounds { screen_bytes ≤ length screen.now }
     requires file_bytes_in_bounds { file_bytes ≤ length out.old }
-    ensures answer { result ≡ write_answer (write_form form r picture screen.now) }
+    ensures answer { result ≡ map file_written (write_form form r picture screen.now) }
     ensures output { out.new
         ≡ write_output (write_form form r picture screen.now) out.old }
 {
-    match form {
-        Form::Plain => picture::write_done(put_plain(picture, screen, out), 0, 0),
-        Form::Elite => picture::write_done(put_elite(picture, screen, out), 0, 0),
-        Form::Packed => write_packed(r, picture, screen, out),
-    }
+    let length = match form {
+        Form::Plain => put_plain(picture, screen, out),
+        Form::Elite => put_elite(picture, screen, out),
+        Form::Packed => return write_packed(r, picture, screen, out),
+    };
+    Ok(FileWritten {
+        length,
+        body: 0,
+        records: 0,
+    })
 }

@@ -7,17 +7,17 @@ use Rattle.degas_records.specs.Opening.{packed_opening}
 use Rattle.degas_records.specs.Listing.{listed}
 use Rattle.degas_records.specs.Steps.{steps}
 use Rattle.degas_records.specs.Answers.{cursor_answer}
-use Rattle.degas_record_reader.specs.Reader.{cursor_of, step_of, after_step, after_steps}
+use Rattle.degas_record_reader.specs.Reader.{step_of, after_step, after_steps}
 use Rattle.degas_records.proofs.Reading.{steps-listed}
 
 -- step k of a reader is step k from its cursor
-reader-steps : (k : ℕ) (r : RecordReader) → (step_of (after_steps k r)).found ≡ steps r.file.now (cursor_of r) k
+reader-steps : (k : ℕ) (r : RecordReader) → (step_of (after_steps k r)).found ≡ steps r.file.now r.cursor k
 unfolding after_steps steps
 reader-steps zero r = refl
 reader-steps (suc k) r = reader-steps k (after_step r)
 
 -- of a reader that stands where `open_reader` puts it
-pub reader-listed : (r : RecordReader) → cursor_of r ≡ (cursor_answer (packed_opening r.file.now)).cursor → (k : ℕ)
+pub reader-listed : (r : RecordReader) → r.cursor ≡ (cursor_answer (packed_opening r.file.now)).cursor → (k : ℕ)
     → (step_of (after_steps k r)).found ≡ listed r.file.now k
 reader-listed r is k =
     reader-steps k r

@@ -1,4 +1,5 @@
 -- Small files as records: computed.
+use Rattle.std.specs.Prelude.{Err}
 use mathlib.Core.Path.{◌≡◌, refl}
 use mathlib.Core.List.{List, [], ◌∷◌, ◌++◌}
 use Prim.Native.Nat.{ℕ}
@@ -12,7 +13,6 @@ use Rattle.words.specs.Word.{word_at}
 use Rattle.bodies.specs.Reading.{read_body}
 use Rattle.degas.specs.Opening.{opening}
 use Rattle.degas.specs.Reading.{read_packed}
-use Rattle.degas_records.specs.declared.Found.TheVariants.{Refused}
 use Rattle.degas_records.specs.declared.ListedRecord.{ListedRecord}
 use Rattle.degas_records.specs.declared.RecordKind.{RecordKind}
 use Rattle.degas_records.specs.declared.RecordKind.TheVariants.{Literal, Repeat, Nothing}
@@ -47,19 +47,19 @@ abbrev header : List ℕ
 header = 128 ∷ replicate 33 0
 
 -- a file of 34 bytes: 6 at 34, at every step
-pub no_body : (k : ℕ) → listed header k ≡ Refused (row_refusal 6 34 0 0)
+pub no_body : (k : ℕ) → listed header k ≡ Err (row_refusal 6 34 0 0)
 unfolding listed packed_opening opening word_at records_from records_within read_packed read_body rows_outcome rows_from
     row_step progress progress_within unpacking.step record_at control
 no_body k = refl
 
 -- a row of a repeat of 39 and a literal of one, and then D8 with one byte after it: 7 at its place, in plane row 1
 pub crossing : (k : ℕ) → listed (header ++ (218 ∷ 5 ∷ 0 ∷ 9 ∷ 216 ∷ 0 ∷ [])) k
-    ≡ record_or (Refused (row_refusal 7 38 1 0)) (listing 34 0 Repeat 39 ∷ listing 36 0 Literal 1 ∷ []) k
+    ≡ record_or (Err (row_refusal 7 38 1 0)) (listing 34 0 Repeat 39 ∷ listing 36 0 Literal 1 ∷ []) k
 unfolding listed packed_opening opening word_at records_from records_within moved_over read_packed read_body rows_outcome
     rows_from row_step progress progress_within unpacking.step record_at control
 crossing k = refl
 
 -- a raw file of 34 bytes, whose length no raw file has: 2
-pub raw : (k : ℕ) → listed (replicate 34 0) k ≡ Refused (refusal 2 0)
+pub raw : (k : ℕ) → listed (replicate 34 0) k ≡ Err (refusal 2 0)
 unfolding listed packed_opening opening word_at
 raw k = refl

@@ -1,4 +1,5 @@
 -- The steps from the first record on give the records of the list, in order, and then, for ever, done or the refusal.
+use Rattle.std.specs.Prelude.{Ok, Err}
 use mathlib.Core.Path.{◌≡◌, sym, ap, ap₂, ◌∙◌, subst}
 use Prim.Native.Nat.{ℕ, zero, suc, ◌+◌, ◌-◌, ◌≤◌, ◌<◌}
 use native.Mathlib.Nat.{add-zero}
@@ -8,7 +9,7 @@ use mathlib.Core.List.{List, [], ◌∷◌, ◌++◌, append-nil}
 use lib.ListN.{length, drop, length-append}
 use lib.Dec.{eqb}
 use borrow.Author.Tests.{ne_eqb}
-use Rattle.outcome.specs.Outcome.{accepted, row_refusal}
+use Rattle.outcome.specs.Outcome.{row_refusal}
 use Rattle.packbits.specs.declared.Record.{Record}
 use Rattle.packbits.specs.Records.{packed_len, row_len, row_bytes, fault}
 use Rattle.packbits.specs.Unpack.{stopped}
@@ -19,8 +20,7 @@ use Rattle.resolution.specs.declared.Resolution.{Resolution}
 use Rattle.resolution.specs.Shapes.{row_bytes_of, plane_rows_of}
 use Rattle.resolution.proofs.Rasters.{raster-row_bytes, raster-width}
 use Rattle.degas.specs.Layout.{header_length}
-use Rattle.degas_records.specs.declared.Found.{Found}
-use Rattle.degas_records.specs.declared.Found.TheVariants.{Refused}
+use Rattle.degas_records.specs.Listing.{Found}
 use Rattle.degas_records.specs.declared.ListedRecord.{ListedRecord}
 use Rattle.degas_records.specs.declared.RecordCursor.{RecordCursor}
 use Rattle.degas_records.specs.declared.Stepped.{Stepped}
@@ -36,7 +36,7 @@ use Rattle.degas_records.proofs.Steps.{step-record, step_end, stepped-opened, st
 -- after the rows the end of a file of so many bytes is judged; a fault is refused
 abbrev stop_as : ℕ → ℕ → ℕ → ℕ → ℕ → Found
 stop_as size number place plane_row good_bytes =
-    cond (eqb number 0) (end_at size place) (Refused (row_refusal number place plane_row good_bytes))
+    cond (eqb number 0) (end_at size place) (Err (row_refusal number place plane_row good_bytes))
 
 -- from an offset and a plane row on
 abbrev pub stop_found : ℕ → ℕ → ℕ → RowsProgress → Found
@@ -48,7 +48,7 @@ stop_found size at row p = stop_as size p.fault (at + p.bytes) (row + length p.r
 pub row-some : (r : Resolution) → 0 < row_bytes_of r
 row-some r = subst (λ (width : ℕ). 0 < width) (raster-row_bytes r) (raster-width r).0
 
-module _ (file : List ℕ) (r : Resolution) (opened : packed_opening file ≡ accepted r) where
+module _ (file : List ℕ) (r : Resolution) (opened : packed_opening file ≡ Ok r) where
   abbrev rows : ℕ
   rows = plane_rows_of r
 

@@ -1,5 +1,6 @@
 -- The record list and the whole reading (document 02, ticket 13): step k over a file is `listed file k`; the end is the
 -- reading's; the records are as many as the reading reports, and make its screen.
+use Rattle.std.specs.Prelude.{Ok, Err, None}
 use mathlib.Core.Path.{◌≡◌, refl, sym, ap, ◌∙◌, subst}
 use Prim.Native.Nat.{ℕ, ◌+◌, ◌≤◌}
 use native.Mathlib.Nat.{zero-add}
@@ -12,7 +13,7 @@ use borrow.Author.Tests.{ltb-true, ltb-false, eqb-true}
 use Rattle.lists.specs.Tabulate.{tabulate}
 use Rattle.lists.proofs.Cond.{cond-elim, cond-ltb}
 use Rattle.outcome.specs.declared.Refusal.{Refusal}
-use Rattle.outcome.specs.Outcome.{Outcome, accepted, refused, refuse, refusal, row_refusal, refuse_if, map, bind}
+use Rattle.outcome.specs.Outcome.{Outcome, refuse, refusal, row_refusal, refuse_if, map, bind}
 use Rattle.outcome.specs.Outcome.{placed, Judged}
 use Rattle.outcome.specs.Refusal.{unknown_kind, wrong_tail}
 use Rattle.outcome.proofs.Outcome.{passed}
@@ -32,8 +33,7 @@ use Rattle.degas.specs.Opening.{resolution_number, is_packed, opening}
 use Rattle.degas.specs.Reading.{packed_reading, read_packed, read_opened, read_degas}
 use Rattle.degas.proofs.Opening.{header_of, opening-short}
 use Rattle.degas.proofs.ReadDegas.{packed-long, packed-short, read_fits}
-use Rattle.degas_records.specs.declared.Found.{Found}
-use Rattle.degas_records.specs.declared.Found.TheVariants.{Done, Refused}
+use Rattle.degas_records.specs.Listing.{Found}
 use Rattle.degas_records.specs.declared.RecordCursor.{RecordCursor}
 use Rattle.degas_records.specs.Opening.{judge_packed, packed_opening}
 use Rattle.degas_records.specs.Listing.{cursor_at, records_from, opened_records, file_records}
@@ -49,17 +49,17 @@ use Rattle.degas_records.proofs.Unpacking.{unpacking}
 
 -- what the reading comes to after the opening
 abbrev Opened : List ℕ → Outcome Resolution → Type 0
-Opened file (accepted r) =
+Opened file (Ok r) =
     (read_as_packed file ≡ map (packed_reading file r) (read_body file header_length tail_length (raster_of r)))
     × (header_length ≤ length file)
-Opened file (refused why) = read_as_packed file ≡ refused why
+Opened file (Err why) = read_as_packed file ≡ Err why
 
 not-true : (b : Bool) → not b ≡ false → b ≡ true
 not-true true e = refl
 not-true false e = let z : ◌≡◌ {A = ℕ} 0 1 = cc in absurd (omega arith)
 
 -- the header of a file of a header's length at least
-opened-header : (file : List ℕ) (h : Header) → opening file ≡ accepted h → header_length ≤ length file
+opened-header : (file : List ℕ) (h : Header) → opening file ≡ Ok h → header_length ≤ length file
     → Opened file (judge_packed (length file) h)
 opened-header file h is long =
     cond-elim (Opened file) (not h.packed)
@@ -74,7 +74,7 @@ opened-header file h is long =
     whole : not h.packed ≡ false → read_as_packed file ≡ read_packed file h.resolution
     whole packed = rw (is, packed, not-true h.packed packed)
 
-opened-long : (file : List ℕ) (h : Header) → opening file ≡ accepted h → header_length ≤ length file
+opened-long : (file : List ℕ) (h : Header) → opening file ≡ Ok h → header_length ≤ length file
 opened-long file h is = go (ltb (length file) header_length) refl
   where
     go : (b : Bool) → ltb (length file) header_length ≡ b → header_length ≤ length file
@@ -88,12 +88,12 @@ unfolding packed_opening
 opened file = go (opening file) refl
   where
     go : (o : Outcome Header) → opening file ≡ o → Opened file (bind o (judge_packed (length file)))
-    go (accepted h) is = opened-header file h is (opened-long file h is)
-    go (refused why) is = rw is
+    go (Ok h) is = opened-header file h is (opened-long file h is)
+    go (Err why) is = rw is
 
 -- a refused opening is the reading's refusal, or 2 of a file that is not packed
-pub refused-as-read : (file : List ℕ) (why : Refusal) → packed_opening file ≡ refused why
-    → read_as_packed file ≡ refused why
+pub refused-as-read : (file : List ℕ) (why : Refusal) → packed_opening file ≡ Err why
+    → read_as_packed file ≡ Err why
 refused-as-read file why is = subst (Opened file) is (opened file)
 
 -- an opened file is packed where bit 15 of its first word says so
@@ -102,7 +102,7 @@ unfolding opening
 opened-mark file =
     let Q : Outcome Header → Type 0 = Judged (λ h. h.packed ≡ is_packed file) in
     cond-ltb Q (length file) header_length (λ _ n. omega arith)
-    (λ _. with_resolution-elim Q (resolution_number file) (λ r. accepted (header_of file r)) (λ n. omega arith) (λ r e.
+    (λ _. with_resolution-elim Q (resolution_number file) (λ r. Ok (header_of file r)) (λ n. omega arith) (λ r e.
     refl))
 
 -- of a packed file it is the whole reading's outcome, into an area of the stated size
@@ -111,18 +111,18 @@ packed-as-read file mark = go (opening file) (opened-mark file) ∙ sym (read_fi
   where
     go : (o : Outcome Header) → Judged (λ h. h.packed ≡ is_packed file) o
         → bind o (λ h. refuse_if (not h.packed) unknown_kind (read_opened file h)) ≡ bind o (read_opened file)
-    go (accepted h) same = rw (same ∙ mark)
-    go (refused why) same = refl
+    go (Ok h) same = rw (same ∙ mark)
+    go (Err why) same = refl
 
 -- an opened file is packed
-pub opened_packed : (file : List ℕ) (r : Resolution) → packed_opening file ≡ accepted r → is_packed file ≡ true
+pub opened_packed : (file : List ℕ) (r : Resolution) → packed_opening file ≡ Ok r → is_packed file ≡ true
 unfolding packed_opening
 opened_packed file r = go (opening file) (opened-mark file)
   where
     go : (o : Outcome Header) → Judged (λ h. h.packed ≡ is_packed file) o
-        → bind o (judge_packed (length file)) ≡ accepted r → is_packed file ≡ true
-    go (accepted h) same e = sym same ∙ not-true h.packed (passed (not h.packed) unknown_kind _ r e).0
-    go (refused why) same e = let z : ◌≡◌ {A = ℕ} 0 1 = cc in absurd (omega arith)
+        → bind o (judge_packed (length file)) ≡ Ok r → is_packed file ≡ true
+    go (Ok h) same e = sym same ∙ not-true h.packed (passed (not h.packed) unknown_kind _ r e).0
+    go (Err why) same e = let z : ◌≡◌ {A = ℕ} 0 1 = cc in absurd (omega arith)
 
 -- a file that is not packed gets 2 where no refusal of the opening comes before
 pub raw-refused : (file : List ℕ) → is_packed file ≡ false
@@ -131,8 +131,8 @@ raw-refused file mark = go (opening file) (opened-mark file)
   where
     go : (o : Outcome Header) → Judged (λ h. h.packed ≡ is_packed file) o
         → bind o (λ h. refuse_if (not h.packed) unknown_kind (read_opened file h)) ≡ bind o (λ _. refuse unknown_kind)
-    go (accepted h) same = rw (same ∙ mark)
-    go (refused why) same = refl
+    go (Ok h) same = rw (same ∙ mark)
+    go (Err why) same = refl
 
 -- ---- where the rows stop, the reading does
 
@@ -148,7 +148,7 @@ module _ (file : List ℕ) (r : Resolution) where
   read_from b =
       map (packed_reading file r)
       (bind (map (body_of (raster_of r)) (placed header_length (cond b (done_rows p.bytes p.records p.rows)
-      (refused (rows_fault p)))))
+      (Err (rows_fault p)))))
       (judge_end file header_length tail_length))
 
   read-rows : read_rows ≡ read_from (eqb p.fault 0)
@@ -157,7 +157,7 @@ module _ (file : List ℕ) (r : Resolution) where
 
   end-judged : (b : Bool) → end_of (read_from b)
       ≡ cond b (end_at (length file) (header_length + p.bytes))
-      (Refused (row_refusal p.fault (header_length + p.bytes) (0 + length p.rows) (length p.begun)))
+      (Err (row_refusal p.fault (header_length + p.bytes) (0 + length p.rows) (length p.begun)))
   unfolding end_at
   end-judged true = go (eqb (length file) (header_length + p.bytes + tail_length))
     where
@@ -165,8 +165,8 @@ module _ (file : List ℕ) (r : Resolution) where
       u = body_of (raster_of r) (record { bytes = p.bytes; records = p.records; rows = p.rows })
 
       go : (b : Bool)
-          → end_of (map (packed_reading file r) (cond b (accepted u) (refused (refusal wrong_tail (header_length + p.bytes)))))
-          ≡ cond b Done (Refused (refusal wrong_tail (header_length + p.bytes)))
+          → end_of (map (packed_reading file r) (cond b (Ok u) (Err (refusal wrong_tail (header_length + p.bytes)))))
+          ≡ cond b (Ok None) (Err (refusal wrong_tail (header_length + p.bytes)))
       go true = refl
       go false = refl
   end-judged false = rw (zero-add (length p.rows))
@@ -178,12 +178,12 @@ module _ (file : List ℕ) (r : Resolution) where
 
 from-opening : (file : List ℕ) (o : Outcome Resolution) → packed_opening file ≡ o → Opened file o → (k : ℕ)
     → steps file (cursor_answer o).cursor k ≡ record_or (end_of (read_as_packed file)) (opened_records file o) k
-from-opening file (accepted r) is read k =
+from-opening file (Ok r) is read k =
     rows-steps file r is read.1 k
-    ∙ ap (λ (end : Found). record_or end (opened_records file (accepted r)) k)
+    ∙ ap (λ (end : Found). record_or end (opened_records file (Ok r)) k)
     (sym (ap end_of read.0 ∙ stops-as-read file r))
-from-opening file (refused why) is read k =
-    steps-stay file (cursor_at 0 0 0) (Refused why) (stepped-refused file (cursor_at 0 0 0) why is) k
+from-opening file (Err why) is read k =
+    steps-stay file (cursor_at 0 0 0) (Err why) (stepped-refused file (cursor_at 0 0 0) why is) k
     ∙ sym (ap end_of read)
 
 pub steps-listed : (file : List ℕ) (k : ℕ) → steps file (cursor_answer (packed_opening file)).cursor k ≡ listed file k
@@ -191,13 +191,13 @@ unfolding listed
 steps-listed file = from-opening file (packed_opening file) refl (opened file)
 
 -- after a refused opening each step gives that refusal, from whatever cursor
-pub refused-always : (file : List ℕ) (why : Refusal) → packed_opening file ≡ refused why → (c : RecordCursor) (k : ℕ)
-    → steps file c k ≡ Refused why
-refused-always file why is c = steps-stay file c (Refused why) (stepped-refused file c why is)
+pub refused-always : (file : List ℕ) (why : Refusal) → packed_opening file ≡ Err why → (c : RecordCursor) (k : ℕ)
+    → steps file c k ≡ Err why
+refused-always file why is c = steps-stay file c (Err why) (stepped-refused file c why is)
 
 -- ---- what the records of a file make
 
-module _ (file : List ℕ) (r : Resolution) (is : packed_opening file ≡ accepted r) where
+module _ (file : List ℕ) (r : Resolution) (is : packed_opening file ≡ Ok r) where
   -- the records of the file, and how far unpacking its rows comes
   records-are : file_records file ≡ records_from file (plane_rows_of r) (row_bytes_of r) (cursor_at header_length 0 0)
   records-are = rw is
@@ -226,5 +226,5 @@ module _ (file : List ℕ) (r : Resolution) (is : packed_opening file ≡ accept
 
   pub records-as-read : ListsReading file r (file_records file) (read_as_packed file)
   records-as-read =
-      let read : Opened file (accepted r) = subst (Opened file) is (opened file) in
+      let read : Opened file (Ok r) = subst (Opened file) is (opened file) in
       rw (read.0 ∙ read-rows file r) (lists-from (eqb (p file r).fault 0) refl)

@@ -1,23 +1,22 @@
 -- Laws of one step: what each test comes to.
+use Rattle.std.specs.Prelude.{Ok, Err, Some}
 use mathlib.Core.Path.{◌≡◌, ap, ◌∙◌}
 use Prim.Native.Nat.{ℕ, zero, suc, ◌+◌, ◌-◌, ◌≤◌, ◌<◌}
 use native.Mathlib.Omega.{arith}
-use mathlib.Core.Bool.{true, false, ◌||◌}
+use mathlib.Core.Bool.{false, ◌||◌}
 use mathlib.Core.List.{List}
 use lib.ListN.{length}
 use lib.Dec.{ltb, leb}
 use borrow.Author.Tests.{lt-ltb, le-ltb, eq-eqb, ne_eqb, lt-leb, ltb-false, leb-false}
 use Rattle.lists.proofs.Cond.{or-false}
 use Rattle.outcome.specs.declared.Refusal.{Refusal}
-use Rattle.outcome.specs.Outcome.{accepted, refused, refusal, row_refusal}
-use Rattle.outcome.specs.Refusal.{wrong_tail, out_of_range}
+use Rattle.outcome.specs.Outcome.{row_refusal}
 use Rattle.packbits.specs.declared.Record.{Record}
 use Rattle.packbits.specs.Records.{packed_len, row_len, fault}
 use Rattle.resolution.specs.declared.Resolution.{Resolution}
 use Rattle.resolution.specs.Shapes.{row_bytes_of, plane_rows_of}
-use Rattle.degas.specs.Layout.{header_length, tail_length}
-use Rattle.degas_records.specs.declared.Found.{Found}
-use Rattle.degas_records.specs.declared.Found.TheVariants.{Listed, Done, Refused}
+use Rattle.degas.specs.Layout.{header_length}
+use Rattle.degas_records.specs.Listing.{Found}
 use Rattle.degas_records.specs.declared.RecordCursor.{RecordCursor}
 use Rattle.degas_records.specs.declared.Stepped.{Stepped}
 use Rattle.degas_records.specs.Opening.{packed_opening}
@@ -40,51 +39,27 @@ module _ (width : ℕ) (c : RecordCursor) (r : Record) where
   -- ---- a record
 
   pub record-whole : fault r ≡ 0
-      → record_step width c r ≡ record { found = Listed (listed_as c r); next = moved_over width c r }
+      → record_step width c r ≡ record { found = Ok (Some (listed_as c r)); next = moved_over width c r }
   record-whole e = simp (eq-eqb (fault r) 0 e)
 
   pub record-fault : (fault r ≡ 0 → ⊥)
       → record_step width c r
-      ≡ stays c (Refused (row_refusal (fault r) c.offset c.plane_row c.good_bytes))
+      ≡ stays c (Err (row_refusal (fault r) c.offset c.plane_row c.good_bytes))
   record-fault e = simp (ne_eqb (fault r) 0 e)
-
--- ---- after the last plane row exactly 32 bytes
-
-module _ (size at : ℕ) where
-  pub end-done : size ≡ at + tail_length → end_at size at ≡ Done
-  unfolding end_at
-  end-done h = simp (eq-eqb size (at + tail_length) h)
-
-  pub end-wrong : (size ≡ at + tail_length → ⊥) → end_at size at ≡ Refused (refusal wrong_tail at)
-  unfolding end_at
-  end-wrong h = simp (ne_eqb size (at + tail_length) h)
 
 -- ---- a cursor out of range
 
 module _ (size rows width : ℕ) (c : RecordCursor) where
-  pub outside-before : c.offset < header_length → outside size rows width c ≡ true
-  unfolding outside
-  outside-before h = simp (lt-ltb c.offset header_length h)
-
-  module _ (from : header_length ≤ c.offset) where
-    pub outside_behind : size < c.offset → outside size rows width c ≡ true
-    unfolding outside
-    outside_behind h = simp (le-ltb c.offset header_length from, lt-ltb size c.offset h)
-
-    module _ (to : c.offset ≤ size) where
-      pub outside-rows : rows < c.plane_row → outside size rows width c ≡ true
-      unfolding outside
-      outside-rows h =
-          simp (le-ltb c.offset header_length from, le-ltb size c.offset to, lt-ltb rows c.plane_row h)
-
-      pub outside-bytes : c.plane_row ≤ rows → outside size rows width c ≡ leb width c.good_bytes
-      unfolding outside
-      outside-bytes h =
-          simp (le-ltb c.offset header_length from, le-ltb size c.offset to, le-ltb rows c.plane_row h)
-
   pub in-range : header_length ≤ c.offset → c.offset ≤ size → c.plane_row ≤ rows → c.good_bytes < width
       → outside size rows width c ≡ false
-  in-range from to last room = outside-bytes from to last ∙ lt-leb width c.good_bytes room
+  unfolding outside
+  in-range from to last room =
+      simp (
+        le-ltb c.offset header_length from,
+        le-ltb size c.offset to,
+        le-ltb rows c.plane_row last,
+        lt-leb width c.good_bytes room,
+      )
 
   -- in range: a plane row or the place after the last, and a row that is not full
   pub inside : outside size rows width c ≡ false → (c.plane_row ≤ rows) × (c.good_bytes < width)
@@ -98,11 +73,6 @@ module _ (size rows width : ℕ) (c : RecordCursor) where
 -- ---- one step over rows
 
 module _ (file : List ℕ) (rows width : ℕ) (c : RecordCursor) where
-  pub step-outside : outside (length file) rows width c ≡ true
-      → body_step file rows width c ≡ stays c (Refused (refusal out_of_range 0))
-  unfolding body_step
-  step-outside o = simp o
-
   module _ (o : outside (length file) rows width c ≡ false) where
     pub step-record : c.plane_row < rows
         → body_step file rows width c ≡ record_step width c (record_under file width c)
@@ -116,12 +86,12 @@ module _ (file : List ℕ) (rows width : ℕ) (c : RecordCursor) where
 -- ---- one step over a file
 
 module _ (file : List ℕ) (c : RecordCursor) where
-  pub stepped-opened : (r : Resolution) → packed_opening file ≡ accepted r
+  pub stepped-opened : (r : Resolution) → packed_opening file ≡ Ok r
       → stepped file c ≡ body_step file (plane_rows_of r) (row_bytes_of r) c
   unfolding stepped
   stepped-opened r e = ap (opened_step file c) e
 
-  pub stepped-refused : (why : Refusal) → packed_opening file ≡ refused why → stepped file c ≡ stays c (Refused why)
+  pub stepped-refused : (why : Refusal) → packed_opening file ≡ Err why → stepped file c ≡ stays c (Err why)
   unfolding stepped
   stepped-refused why e = ap (opened_step file c) e
 

@@ -1,8 +1,8 @@
 -- The records of a body, said without the functions that list them, and what they make (document 02, ticket 13: "in
 -- file order, each once"; "together they make the same screen"): a record is what its control byte says (`control`).
-use Rattle.std.specs.Prelude.{ℕ, ◌+◌, ◌/◌, ◌≡◌, cond, List, [], ◌∷◌, ◌++◌, length, get_or, drop, ltb, eqb}
+use Rattle.outcome.specs.Outcome.{Outcome}
+use Rattle.std.specs.Prelude.{ℕ, ◌+◌, ◌/◌, ◌≡◌, cond, List, [], ◌∷◌, ◌++◌, length, get_or, drop, ltb, eqb, Ok, Err}
 use Rattle.lists.specs.Tabulate.{tabulate}
-use Rattle.outcome.specs.Outcome.{Outcome, accepted, refused}
 use Rattle.packbits.specs.declared.Record.{Record}
 use Rattle.packbits.specs.declared.Record.TheVariants as R
 use Rattle.packbits.specs.Records.{control, packed_len, row_len, row_bytes}
@@ -86,5 +86,5 @@ pub record ListsAccepted (file : List ℕ) (r : Resolution) (records : List List
   pub whole-body : BodyRecords file (row_bytes_of r) header_length 0 records (header_length + q.body)
 
 abbrev pub ListsReading : List ℕ → Resolution → List ListedRecord → Outcome Reading → Type 0
-ListsReading file r records (accepted q) = ListsAccepted file r records q
-ListsReading file r records (refused why) = BodyRecords file (row_bytes_of r) header_length 0 records why.place
+ListsReading file r records (Ok q) = ListsAccepted file r records q
+ListsReading file r records (Err why) = BodyRecords file (row_bytes_of r) header_length 0 records why.place

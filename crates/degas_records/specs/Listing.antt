@@ -1,6 +1,7 @@
 -- The records of a packed body as a list, in file order (document 02, ticket 13; document 01, "Packed rows").
 use Rattle.std.specs.Prelude.{ℕ, zero, suc, ◌+◌, ◌-◌, cond, not, List, [], ◌∷◌, length, drop, ltb, eqb}
-use Rattle.outcome.specs.Outcome.{Outcome, accepted, refused, refuse_if, bind}
+use Rattle.std.specs.Prelude.{Ok, Err, Option, None, Some}
+use Rattle.outcome.specs.Outcome.{Outcome, refuse_if, bind}
 use Rattle.outcome.specs.Refusal.{unknown_kind}
 use Rattle.packbits.specs.declared.Record.{Record}
 use Rattle.packbits.specs.declared.Record.TheVariants as R
@@ -11,8 +12,6 @@ use Rattle.picture.specs.Reading.{Reading}
 use Rattle.degas.specs.Layout.{header_length}
 use Rattle.degas.specs.Opening.{opening}
 use Rattle.degas.specs.Reading.{read_opened}
-use Rattle.degas_records.specs.declared.Found.{Found}
-use Rattle.degas_records.specs.declared.Found.TheVariants.{Listed, Done, Refused}
 use Rattle.degas_records.specs.declared.ListedRecord.{ListedRecord}
 use Rattle.degas_records.specs.declared.RecordCursor.{RecordCursor}
 use Rattle.degas_records.specs.declared.RecordKind.{RecordKind}
@@ -74,8 +73,8 @@ first_cursor = cursor_at header_length 0 0
 
 -- the records of a file that is opened at a resolution; none where its opening is refused
 abbrev pub opened_records : List ℕ → Outcome Resolution → List ListedRecord
-opened_records file (accepted r) = records_from file (plane_rows_of r) (row_bytes_of r) first_cursor
-opened_records file (refused why) = []
+opened_records file (Ok r) = records_from file (plane_rows_of r) (row_bytes_of r) first_cursor
+opened_records file (Err why) = []
 
 abbrev pub file_records : List ℕ → List ListedRecord
 file_records file = opened_records file (packed_opening file)
@@ -87,15 +86,19 @@ read_as_packed file = bind (opening file) (λ h. refuse_if (not h.packed) unknow
 
 -- ---- what the steps over a file give
 
--- done where a file is accepted, its refusal where it is not
+-- a record; after the last one none; or the refusal
+abbrev pub Found : Type 0
+Found = Outcome (Option ListedRecord)
+
+-- none where a file is accepted, its refusal where it is not
 abbrev pub end_of : {A : Type 0} → Outcome A → Found
-end_of (accepted a) = Done
-end_of (refused why) = Refused why
+end_of (Ok a) = Ok None
+end_of (Err why) = Err why
 
 -- record k of a list, and after its last one the end, for ever
 abbrev pub record_or : Found → List ListedRecord → ℕ → Found
 record_or end [] k = end
-record_or end (e ∷ es) zero = Listed e
+record_or end (e ∷ es) zero = Ok (Some e)
 record_or end (e ∷ es) (suc k) = record_or end es k
 
 -- what step k over a file gives, from 0: each record in file order, once; and then, for ever, done or the refusal

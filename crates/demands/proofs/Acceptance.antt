@@ -1,11 +1,12 @@
 -- Demand 2: a file is accepted exactly when it fits, and then gives what its parts are.
+use Rattle.std.specs.Prelude.{Ok}
 use mathlib.Core.Path.{◌≡◌, sym, ap, ◌∙◌}
 use mathlib.Core.Logic.{◌↔◌}
 use mathlib.Core.List.{List}
 use Prim.Native.Nat.{ℕ, ◌≤◌}
 use Rattle.lists.specs.Bytes.{Bytes}
 use Rattle.outcome.specs.declared.Refusal.{Refusal}
-use Rattle.outcome.specs.Outcome.{Outcome, accepted, Judged}
+use Rattle.outcome.specs.Outcome.{Outcome, Judged}
 use Rattle.outcome.proofs.Outcome.{judged-accepted, judged-value, judged-map}
 use Rattle.resolution.specs.Shapes.{screen_bytes}
 use Rattle.picture.specs.Reading.{Reading, read_answer}
@@ -50,7 +51,7 @@ module _ (kind : ℕ) (file : List ℕ) (area : ℕ) where
 
   module _ (room : screen_bytes ≤ area) where
     -- a file that fits is accepted, with what its parts give
-    pub file-complete : (a : Accepts kind file) → read_file kind file area ≡ accepted (given a)
+    pub file-complete : (a : Accepts kind file) → read_file kind file area ≡ Ok (given a)
     file-complete (degas k a) = file-degas kind file area k ∙ degas-laws.degas-complete file area room a
     file-complete (neochrome k a) = file-neochrome kind file area k ∙ neochrome-laws.neochrome-complete file area room a
     file-complete (tiny k a) = file-tiny kind file area k ∙ tiny-laws.tiny-complete file area room a
@@ -68,8 +69,8 @@ module _ (kind : ℕ) (file : List ℕ) (area : ℕ) where
 
     -- "Reading follows the ST Picture Formats list as document 01 fixes it: resolution, palette, every register of
     -- every pixel and every count." An accepted file gives what its parts are, and nothing else.
-    pub reading : Bytes file → (q : Reading) → (read_file kind file area ≡ accepted q) ↔ Given q
+    pub reading : Bytes file → (q : Reading) → (read_file kind file area ≡ Ok q) ↔ Given q
     reading bytes q = (
       judged-value Given (read_file kind file area) q (file-judged bytes),
-      λ g. file-complete g.0 ∙ ap accepted (sym g.1),
+      λ g. file-complete g.0 ∙ ap Ok (sym g.1),
     )

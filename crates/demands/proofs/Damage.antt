@@ -1,5 +1,6 @@
 -- Document 02, ticket 3, of the file reader: where a packed DEGAS file broke, and that what its refusal calls good is
 -- what every completion of the file has.
+use Rattle.std.specs.Prelude.{Ok, Err, Some}
 use mathlib.Core.Path.{◌≡◌, refl, sym, ap, ap₂, ◌∙◌, subst}
 use mathlib.Core.Logic.{◌↔◌, inl, inr}
 use mathlib.Core.Bool.{true, false, not, ◌||◌}
@@ -13,7 +14,7 @@ use borrow.Author.Tests.{le-ltb, eqb-false, not-false}
 use Rattle.lists.specs.Bytes.{Bytes}
 use Rattle.lists.proofs.Cond.{cond-elim, cond-ltb, or-false}
 use Rattle.outcome.specs.declared.Refusal.{Refusal}
-use Rattle.outcome.specs.Outcome.{Outcome, accepted, refused, refusal, map, bind, refusal_of}
+use Rattle.outcome.specs.Outcome.{Outcome, refusal, map, bind, refusal_of}
 use Rattle.outcome.proofs.Outcome.{judged-value}
 use Rattle.outcome.specs.Refusal.{area_too_short, wrong_length, unknown_resolution, input_ends, record_crosses}
 use Rattle.outcome.specs.Refusal.{wrong_version}
@@ -22,7 +23,6 @@ use Rattle.packbits.specs.Unpack.{unpack, unpack_row}
 use Rattle.packbits.specs.Stops.{AtRecord, Stops}
 use Rattle.packbits.proofs.Stops.{faulty-number, row-stops-exactly}
 use Rattle.resolution.specs.declared.Resolution.{Resolution}
-use Rattle.resolution.specs.declared.Chosen.TheVariants.{Known}
 use Rattle.resolution.specs.Choice.{chosen, number_of}
 use Rattle.resolution.specs.Shapes.{screen_bytes, raster_of}
 use Rattle.resolution.proofs.Choice.{with_resolution-elim}
@@ -48,7 +48,7 @@ use Rattle.macpaint.specs.Reading.{version_allowed, read_plate}
 use Rattle.macpaint.specs.Accepts.{AcceptsPlate, plate_given}
 use Rattle.macpaint.proofs.Acceptance as macpaint-acceptance
 use Rattle.macpaint.proofs.Acceptance.{plate-judged, version-sound, version-complete}
-use Rattle.macpaint.proofs.ReadPlate.{header-none, judge-passed, read-judged}
+use Rattle.macpaint.proofs.ReadPlate.{judge-passed, read-judged}
 use Rattle.reader.specs.Reading.{kind_degas, read_file}
 use Rattle.reader.proofs.Choice.{file-degas}
 use Rattle.demands.specs.Damage.{Damaged, Completion, GoodBefore, DamagedPlate, PlateCompletion, PlateGoodBefore}
@@ -59,14 +59,14 @@ use Rattle.demands.proofs.Answers.{read_answer_lem, body-answer, row-answer, ref
 -- an outcome whose refusal at a record comes from damage
 module _ {A : Type 0} (why : Refusal) (Damage : Type 0) where
   abbrev BrokenBy : Outcome A → Type 0
-  BrokenBy o = o ≡ refused why → AtRecord why.number → Damage
+  BrokenBy o = o ≡ Err why → AtRecord why.number → Damage
 
-  broken-accepted : (a : A) → BrokenBy (accepted a)
+  broken-accepted : (a : A) → BrokenBy (Ok a)
   broken-accepted a e at = let z : ◌≡◌ {A = ℕ} 0 1 = cc in absurd (omega arith)
 
   -- another number is not that of a record
   broken-other : (number place : ℕ) → (eqb number input_ends || eqb number record_crosses) ≡ false
-      → BrokenBy (refused (refusal number place))
+      → BrokenBy (Err (refusal number place))
   broken-other number place neither e at = absurd (go at)
     where
       not-one : (eqb number input_ends ≡ false) × (eqb number record_crosses ≡ false)
@@ -84,11 +84,11 @@ module _ (file : List ℕ) (why : Refusal) where
   Broken o = BrokenBy why (Damaged file why) o
 
   module _ (all : Bytes file) (least : header_length ≤ length file) (r : Resolution)
-      (known : chosen (resolution_number file) ≡ Known r) where
+      (known : chosen (resolution_number file) ≡ Some r) where
     body-broken : is_packed file ≡ true → length file ≤ packed_most → (o : Outcome UnpackedBody)
         → read_body file header_length tail_length (raster_of r) ≡ o → Broken (map (packed_reading file r) o)
-    body-broken is most (accepted u) e = broken-accepted why (Damaged file why) _
-    body-broken is most (refused w) e = λ same at.
+    body-broken is most (Ok u) e = broken-accepted why (Damaged file why) _
+    body-broken is most (Err w) e = λ same at.
         record {
           resolution = r;
           allowed = known;
@@ -97,7 +97,7 @@ module _ (file : List ℕ) (why : Refusal) where
           most = most;
           stops =
               refused-stops file header_length (raster_of r) tail_length why all
-              (e ∙ ap refused (ap (λ (o : Outcome Reading). refusal_of o) same)) at;
+              (e ∙ ap Err (ap (λ (o : Outcome Reading). refusal_of o) same)) at;
         }
 
     packed-broken : is_packed file ≡ true → Broken (read_packed file r)
@@ -125,7 +125,7 @@ module _ (file : List ℕ) (why : Refusal) where
       (λ _. broken-other why (Damaged file why) area_too_short 0 refl) (λ _.
       cond-ltb Opened (length file) header_length
       (λ _. broken-other why (Damaged file why) wrong_length 0 refl) (λ least.
-      with_resolution-elim Opened (resolution_number file) (λ r. accepted (header_of file r))
+      with_resolution-elim Opened (resolution_number file) (λ r. Ok (header_of file r))
       (broken-other why (Damaged file why) unknown_resolution 0 refl)
       (λ r known. opened-broken all least r known)))
 
@@ -136,7 +136,7 @@ unfolding unpack_row
 row-judged bytes width room range fits = rw (range, le-ltb room width fits)
 
 damaged-read : (file : List ℕ) (area : ℕ) (why : Refusal) → screen_bytes ≤ area → Damaged file why
-    → read_degas file area ≡ refused why
+    → read_degas file area ≡ Err why
 damaged-read file area why room d =
     let r : Resolution = d.resolution in
     read_fits file area room
@@ -146,7 +146,7 @@ damaged-read file area why room d =
 
 -- an answer with such a number is a refusal
 at-record-refused : {A : Type 0} (o : Outcome A) (why : Refusal) → refusal_of o ≡ why → AtRecord why.number
-    → o ≡ refused why
+    → o ≡ Err why
 at-record-refused o why e (inl six) = refused-by o why e (λ zero. omega arith)
 at-record-refused o why e (inr seven) = refused-by o why e (λ zero. omega arith)
 
@@ -220,9 +220,9 @@ module _ {file : List ℕ} {why : Refusal} (d : Damaged file why) {other : List 
       let g =
       judged-value (Given other c.area) (read_degas other c.area) q (degas-judged other c.area c.bytes)
       (sym (file-degas kind_degas other c.area refl) ∙ c.accepts) in
-      let word : chosen (resolution_number other) ≡ Known res =
+      let word : chosen (resolution_number other) ≡ Some res =
       ap (λ (w : ℕ). chosen (w % 4)) same_word ∙ d.allowed in
-      let known : Known g.0.resolution ≡ Known res = sym g.0.allowed ∙ word in
+      let known : Some g.0.resolution ≡ Some res = sym g.0.allowed ∙ word in
       let same : g.0.resolution ≡ res = cc in
       fits-packed g.0.resolution same g.0.fits g.1
 
@@ -287,11 +287,10 @@ module _ (file : List ℕ) (why : Refusal) where
         stops = refused-stops file macpaint.header_length plate_raster macpaint.after_body why all e at;
       }))))
 
-  plate-damaged : (area : ℕ) → plate_bytes ≤ area → DamagedPlate file why → read_plate file area ≡ refused why
+  plate-damaged : (area : ℕ) → plate_bytes ≤ area → DamagedPlate file why → read_plate file area ≡ Err why
   plate-damaged area room d =
-      let none = header-none file d.least d.most (version-complete file d.allowed) in
       read-judged file area room
-      ∙ judge-passed file _ (ap (λ (w : Refusal). w.number) none)
+      ∙ judge-passed file _ d.least d.most (version-complete file d.allowed)
       ∙ stops-refused file macpaint.header_length plate_raster macpaint.after_body d.stops
 
   plate-answer-broken : (area : ℕ) → Bytes file → (unpacked_answer (read_plate file area)).refusal ≡ why

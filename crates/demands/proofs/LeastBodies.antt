@@ -1,14 +1,14 @@
 -- Demand 3: the packed writer refuses exactly when it must, and otherwise writes a screen's least body. How long that
 -- can be: degas/proofs/LeastBody.antt, `least-bound` and `bound-attained`.
+use Rattle.std.specs.Prelude.{Ok, Some}
 use mathlib.Core.Path.{◌≡◌, refl, sym, ◌∙◌}
 use mathlib.Core.Logic.{◌↔◌}
 use mathlib.Core.List.{List}
 use Prim.Native.Nat.{ℕ, ◌≤◌}
 use lib.ListN.{length}
 use Rattle.lists.specs.Bytes.{Bytes}
-use Rattle.outcome.specs.Outcome.{accepted, refuse}
+use Rattle.outcome.specs.Outcome.{refuse}
 use Rattle.outcome.specs.Refusal.{no_packed_body}
-use Rattle.resolution.specs.declared.Chosen.TheVariants.{Known}
 use Rattle.resolution.specs.declared.Resolution.{Resolution}
 use Rattle.resolution.specs.Shapes.{screen_bytes}
 use Rattle.resolution.specs.Choice.{chosen}
@@ -22,7 +22,7 @@ use Rattle.degas.proofs.LeastBody.{packed-refused-exactly, packed-otherwise}
 use Rattle.writer.specs.Writing.{form_packed, write_file}
 use Rattle.writer.proofs.Choice.{form-packed}
 
-module _ (r : Resolution) (p : Picture) (screen : List ℕ) (out : ℕ) (known : chosen p.resolution ≡ Known r)
+module _ (r : Resolution) (p : Picture) (screen : List ℕ) (out : ℕ) (known : chosen p.resolution ≡ Some r)
     (full : screen_bytes ≤ length screen) (room : file_bytes ≤ out) where
   by_form : write_file form_packed p screen out ≡ write_degas Packed p screen out
   by_form = form-packed form_packed p screen out refl
@@ -39,7 +39,7 @@ module _ (r : Resolution) (p : Picture) (screen : List ℕ) (out : ℕ) (known :
   -- every other byte string that does has at least as many bytes. It reports that body's length and number of records,
   -- and a file length 66 above the body's."
   pub written-otherwise : WholePicture p → (write_file form_packed p screen out ≡ refuse no_packed_body → ⊥)
-      → (w : Writing) × (write_file form_packed p screen out ≡ accepted w) × WritesPacked r p screen w
+      → (w : Writing) × (write_file form_packed p screen out ≡ Ok w) × WritesPacked r p screen w
   written-otherwise whole h =
       let w =
       packed-otherwise r p screen out known full room whole (λ e. h (by_form ∙ e)) in (w.0, by_form ∙ w.1, w.2)

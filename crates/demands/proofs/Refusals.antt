@@ -4,13 +4,14 @@
 -- has its own law (report/proofs/Summary.antt, `summary-refused`). `unpack::unpack_into` and `unpack::unpack_rows`
 -- write what the whole records before a fault make, as their contracts say, and so does `bodies::read_body` into its
 -- buffer; the operations above them lend them areas of their own. `words::put_words` refuses nothing.
+use Rattle.std.specs.Prelude.{Ok, Err}
+use Rattle.outcome.specs.Outcome.{Outcome}
 use mathlib.Core.Path.{◌≡◌, refl}
 use mathlib.Core.Bool.{false}
 use mathlib.Core.List.{List}
 use Prim.Native.Nat.{ℕ}
 use lib.ListN.{length}
 use Rattle.lists.specs.Over.{over}
-use Rattle.outcome.specs.Outcome.{Outcome, accepted, refused}
 use Rattle.outcome.proofs.Outcome.{kept}
 use Rattle.packbits.specs.Row.{Row}
 use Rattle.packbits.specs.Unpack.{unpack_row}
@@ -42,24 +43,24 @@ use Rattle.demands.specs.Refusals.{Kept, RowRefusal, BodyRefusal, BodyReadRefusa
 -- ---- any outcome
 
 row-refusal : (o : Outcome Row) (out : List ℕ) → RowRefusal o out
-row-refusal (accepted r) out h = absurd (h refl)
-row-refusal (refused why) out h = (refl, refl, refl)
+row-refusal (Ok r) out h = absurd (h refl)
+row-refusal (Err why) out h = (refl, refl, refl)
 
 body-refusal : (o : Outcome PackedBody) (at : ℕ) (out : List ℕ) → BodyRefusal o at out
-body-refusal (accepted b) at out h = absurd (h refl)
-body-refusal (refused why) at out h = (refl, refl, refl)
+body-refusal (Ok b) at out h = absurd (h refl)
+body-refusal (Err why) at out h = (refl, refl, refl)
 
 body-read-refusal : (o : Outcome UnpackedBody) (area : List ℕ) → BodyReadRefusal o area
-body-read-refusal (accepted u) area h = absurd (h refl)
-body-read-refusal (refused why) area h = (refl, refl, refl)
+body-read-refusal (Ok u) area h = absurd (h refl)
+body-read-refusal (Err why) area h = (refl, refl, refl)
 
 read-refusal : (o : Outcome Reading) (area : List ℕ) → ReadRefusal o area
-read-refusal (accepted q) area h = absurd (h refl)
-read-refusal (refused why) area h = (refl, refl, refl, refl)
+read-refusal (Ok q) area h = absurd (h refl)
+read-refusal (Err why) area h = (refl, refl, refl, refl)
 
 write-refusal : (o : Outcome Writing) (out : List ℕ) → WriteRefusal o out
-write-refusal (accepted w) out h = absurd (h refl)
-write-refusal (refused why) out h = (refl, refl, refl, refl)
+write-refusal (Ok w) out h = absurd (h refl)
+write-refusal (Err why) out h = (refl, refl, refl, refl)
 
 -- ---- each public function
 

@@ -1,4 +1,5 @@
 -- Demand 2: every register of every pixel, as the lent area holds it after an accepted reading.
+use Rattle.outcome.specs.Outcome.{Outcome}
 use mathlib.Core.Path.{◌≡◌, refl, sym, ap, ◌∙◌}
 use mathlib.Core.Bool.{true, false, true≢false, false≢true}
 use mathlib.Core.List.{List}
@@ -10,7 +11,6 @@ use Rattle.lists.specs.Over.{over}
 use Rattle.lists.specs.Sum.{sum}
 use Rattle.lists.proofs.Over.{get_or-over-in}
 use Rattle.lists.proofs.Sum.{sum-ext}
-use Rattle.outcome.specs.Outcome.{Outcome}
 use Rattle.outcome.proofs.Outcome.{judged-value}
 use Rattle.words.specs.Word.{word_at}
 use Rattle.raster.specs.Offsets.{group_offset, word_offset}

@@ -1,4 +1,5 @@
 -- Demand 2: what is written is read back, in every form.
+use Rattle.std.specs.Prelude.{Ok, Err}
 use mathlib.Core.Path.{◌≡◌, refl, sym, ap, ◌∙◌, subst}
 use mathlib.Core.Logic.{◌⊎◌, inl, inr}
 use mathlib.Core.List.{List}
@@ -8,7 +9,7 @@ use lib.ListN.{length, take, drop}
 use lib.Seq.{take-append_seam, get_or-take}
 use Rattle.lists.specs.Over.{over}
 use Rattle.lists.proofs.Over.{get_or-over-in}
-use Rattle.outcome.specs.Outcome.{Outcome, accepted, refused, Judged}
+use Rattle.outcome.specs.Outcome.{Outcome, Judged}
 use Rattle.outcome.proofs.Outcome.{judged-value, judged-map}
 use Rattle.resolution.specs.declared.Resolution.{Resolution}
 use Rattle.resolution.specs.Shapes.{screen_bytes, width_of, height_of}
@@ -37,7 +38,7 @@ use Rattle.demands.proofs.Acceptance.{file-whole}
 module _ (p : Picture) (whole : WholePicture p) (screen : List ℕ) (area : ℕ) (room : screen_bytes ≤ area) where
   -- a writing's file in a form, read back
   abbrev ReadsBack : ℕ → Writing → Type 0
-  ReadsBack form w = read_file (kind_of form) w.file area ≡ accepted (read_back form p screen w.body w.records)
+  ReadsBack form w = read_file (kind_of form) w.file area ≡ Ok (read_back form p screen w.body w.records)
 
   degas-back : (form : ℕ) (f : Form) (out : ℕ) → kind_of form ≡ kind_degas
       → ((w : Writing) → degas_back f p screen w ≡ read_back form p screen w.body w.records)
@@ -45,7 +46,7 @@ module _ (p : Picture) (whole : WholePicture p) (screen : List ℕ) (area : ℕ)
   degas-back form f out k same =
       judged-map (degas-laws.ReadsBack p whole screen area room f) (ReadsBack form) (write_degas f p screen out)
       (degas-laws.degas-back p whole screen area room f out)
-      (λ w b. file-degas (kind_of form) w.file area k ∙ b ∙ ap accepted (same w))
+      (λ w b. file-degas (kind_of form) w.file area k ∙ b ∙ ap Ok (same w))
 
   neochrome-back : (out : ℕ) → Judged (ReadsBack form_neochrome) (write_neochrome p screen out)
   neochrome-back out =
@@ -54,7 +55,7 @@ module _ (p : Picture) (whole : WholePicture p) (screen : List ℕ) (area : ℕ)
       (neochrome-laws.neochrome-back p screen out whole area room)
       (λ w b. file-neochrome kind_neochrome w.file area refl ∙ b)
 
-  file-back : (form out : ℕ) → Judged (ReadsBack form) (write_file form p screen out)
+  pub file-back : (form out : ℕ) → Judged (ReadsBack form) (write_file form p screen out)
   file-back form out =
       write_file-judged form p screen out (ReadsBack form)
       (λ e. in-form Plain e (degas-back form_plain Plain out refl (λ w. refl)))
@@ -67,8 +68,8 @@ module _ (p : Picture) (whole : WholePicture p) (screen : List ℕ) (area : ℕ)
       in-form f e b = subst (λ (n : ℕ). Judged (ReadsBack n) (write_degas f p screen out)) (sym e) b
 
   -- a file that was written, read alone
-  pub written_read : (form out : ℕ) (w : Writing) → write_file form p screen out ≡ accepted w
-      → read_file (kind_of form) w.file area ≡ accepted (read_back form p screen w.body w.records)
+  pub written_read : (form out : ℕ) (w : Writing) → write_file form p screen out ≡ Ok w
+      → read_file (kind_of form) w.file area ≡ Ok (read_back form p screen w.body w.records)
   written_read form out w e = judged-value (ReadsBack form) (write_file form p screen out) w (file-back form out) e
 
 -- ---- forms 1, 2 and 4 are written whatever the screen; when form 3 is, LeastBodies says
@@ -105,17 +106,17 @@ module _ (form : ℕ) (p : Picture) (screen out area : List ℕ) where
       (ok : (write_answer written).refusal.number ≡ 0) where
     -- resolution, palette, tail and counts
     pub round_trip : reading
-        ≡ accepted (read_back form p screen (write_answer written).body (write_answer written).records)
+        ≡ Ok (read_back form p screen (write_answer written).body (write_answer written).records)
     round_trip = go written (file-back p whole screen (length area) room form (length out)) ok
       where
         go : (o : Outcome Writing) → Judged (ReadsBack p whole screen (length area) room form) o
             → (write_answer o).refusal.number ≡ 0
             → read_file (kind_of form) (file_of o) (length area)
-            ≡ accepted (read_back form p screen (write_answer o).body (write_answer o).records)
-        go (accepted w) b n =
+            ≡ Ok (read_back form p screen (write_answer o).body (write_answer o).records)
+        go (Ok w) b n =
             ap (λ (file : List ℕ). read_file (kind_of form) file (length area))
             (take-append_seam w.file (drop (length w.file) out)) ∙ b
-        go (refused why) b n = absurd (b n)
+        go (Err why) b n = absurd (b n)
 
     -- the screen that was read is whole, so the one that was written was
     full : length (take screen_bytes screen) ≡ screen_bytes

@@ -1,10 +1,8 @@
 -- How far a damaged packed DEGAS file, or a MacPaint file, is good (document 02, ticket 3: "Say which row broke";
 -- ticket 9: "row numbers are given as for DEGAS").
-use Rattle.std.specs.Prelude.{ℕ, ◌≤◌, ◌<◌, ◌≡◌, true, ◌⊎◌, List, length, take}
+use Rattle.std.specs.Prelude.{ℕ, ◌≤◌, ◌<◌, ◌≡◌, true, ◌⊎◌, List, length, take, Ok, Some}
 use Rattle.lists.specs.Bytes.{Bytes}
 use Rattle.outcome.specs.declared.Refusal.{Refusal}
-use Rattle.outcome.specs.Outcome.{accepted}
-use Rattle.resolution.specs.declared.Chosen.TheVariants.{Known}
 use Rattle.resolution.specs.declared.Resolution.{Resolution}
 use Rattle.resolution.specs.Choice.{chosen, number_of}
 use Rattle.resolution.specs.Shapes.{screen_bytes, raster_of}
@@ -23,7 +21,7 @@ use Rattle.reader.specs.Reading.{kind_degas, read_file}
 -- record at fault with this refusal, whose place is counted from the file's start
 pub record Damaged (file : List ℕ) (why : Refusal) : Type 0 where
   pub resolution : Resolution
-  pub allowed : chosen (resolution_number file) ≡ Known resolution
+  pub allowed : chosen (resolution_number file) ≡ Some resolution
   pub packed : is_packed file ≡ true
   pub least : header_length ≤ length file
   pub most : length file ≤ packed_most
@@ -35,7 +33,7 @@ pub record Completion (file : List ℕ) (why : Refusal) (other : List ℕ) (q : 
   pub bytes : Bytes other
   pub same : take why.place other ≡ take why.place file
   pub area : ℕ
-  pub accepts : read_file kind_degas other area ≡ accepted q
+  pub accepts : read_file kind_degas other area ≡ Ok q
 
 -- `GoodBefore file why`: how far the map is good. All completions have the file's resolution, and the same first plane
 -- rows, as many as the refusal's plane row says, and of the plane row after them the same first bytes, as many as its
@@ -44,7 +42,7 @@ pub record Completion (file : List ℕ) (why : Refusal) (other : List ℕ) (q : 
 -- exactly is `Damaged`.
 pub record GoodBefore (file : List ℕ) (why : Refusal) : Type 0 where
   pub resolution : Resolution
-  pub allowed : chosen (resolution_number file) ≡ Known resolution
+  pub allowed : chosen (resolution_number file) ≡ Some resolution
   pub same : {other : List ℕ} {q : Reading} → Completion file why other q
       → q.picture.resolution ≡ number_of resolution
   pub rows : {other another : List ℕ} {p q : Reading} → Completion file why other p → Completion file why another q
@@ -71,7 +69,7 @@ pub record PlateCompletion (file : List ℕ) (why : Refusal) (other : List ℕ) 
   pub bytes : Bytes other
   pub same : take why.place file ≡ take why.place other
   pub area : ℕ
-  pub accepts : read_plate other area ≡ accepted u
+  pub accepts : read_plate other area ≡ Ok u
 
 -- `PlateGoodBefore file why`: how far the plate is good, as `GoodBefore` says it of a screen. Where exactly the body
 -- stops is said by `DamagedPlate`.

@@ -2,12 +2,14 @@
 use picture::FILE_BYTES;
 use resolution::SCREEN_BYTES;
 use std::io;
-use writer::FORM_NEOCHROME;
+use writer::Form;
 
 // Writes a label and the colour of a register at high resolution, of an ST.
 fn show_high(rt: &impl Print, label: &str, register: u8) -> io::Result<()> {
-    let shown = colour::colour(2, 1, [0x0123u16; 16], register);
-    println!(rt; "{label}: {} {} {}", shown.red, shown.green, shown.blue)
+    match colour::colour(2, 1, [0x0123u16; 16], register) {
+        Ok(rgb) => println!(rt; "{label}: {} {} {}", rgb.red, rgb.green, rgb.blue),
+        Err(refusal) => println!(rt; "{label}: refused, {}", refusal.number),
+    }
 }
 
 // Writes a word after a blank.
@@ -28,9 +30,11 @@ fn neochrome_header(rt: &impl Print) -> io::Result<()> {
     let screen = [0u8; SCREEN_BYTES];
     let mut out = [1u8; FILE_BYTES];
     let picture = picture::without_tail(1, [0x0123u16; 16]);
-    writer::write(FORM_NEOCHROME, picture, &screen, &mut out);
     print!(rt; "form 4, words from the name on:")?;
-    show_middle(rt, &out)?;
+    match writer::write(Form::Neochrome.number(), picture, &screen, &mut out) {
+        Ok(_) => show_middle(rt, &out)?,
+        Err(refusal) => print!(rt; " refused, {}", refusal.number)?,
+    }
     println!(rt)
 }
 

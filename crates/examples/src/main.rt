@@ -9,18 +9,22 @@ use picture::FILE_BYTES;
 use report::SUMMARY_BYTES;
 use resolution::{Resolution, SCREEN_BYTES};
 use std::io;
-use writer::FORM_PACKED;
+use writer::Form;
 
 mod house;
 mod orders;
 
+// The form of a packed DEGAS file.
+const PACKED: Form = Form::Degas(degas::Form::Packed);
+
 // Writes a label and the summary of a file.
 fn show(rt: &impl Print, label: &str, file: &[u8]) -> io::Result<()> {
     let mut text = [0u8; SUMMARY_BYTES];
-    let answer = report::summarise(file, &mut text);
-    let end = answer.length;
     print!(rt; "{label}: ")?;
-    rt.write_all(&text[..end])
+    match report::summarise(file, &mut text) {
+        Ok(end) => rt.write_all(&text[..end]),
+        Err(refusal) => println!(rt; "no summary, {}", refusal.number),
+    }
 }
 
 // The plane rows of a low screen.
@@ -30,10 +34,8 @@ const LOW_ROWS: usize = 800;
 fn put_blank_rows(file: &mut [u8], at: usize)
     requires { at + 1600 ≤ length file.old }
 {
-    let mut n: usize = 0;
-    while n < LOW_ROWS {
+    for n in 0..LOW_ROWS {
         file[at + n * 2] = 0xD9;
-        n += 1;
     }
 }
 
@@ -88,10 +90,8 @@ fn row_of(equal: usize) -> [u8; 40]
     ensures { 40 ≡ length result }
 {
     let mut row = [0u8; 40];
-    let mut c: usize = 0;
-    while c < 40 {
-        row[c] = row_byte(equal, c);
-        c += 1;
+    for (c, byte) in row.iter_mut().enumerate() {
+        *byte = row_byte(equal, c);
     }
     row
 }
@@ -107,10 +107,8 @@ fn row_least(row: &[u8]) -> usize
 fn put_rows(screen: &mut [u8], first: usize) {
     let low = Resolution::Low.raster();
     let row = row_of(3);
-    let mut n: usize = 0;
-    while n < LOW_ROWS {
+    for n in 0..LOW_ROWS {
         raster::put_row(screen, low, n, &row);
-        n += 1;
     }
     let front = row_of(first);
     raster::put_row(screen, low, 0, &front);
@@ -122,12 +120,12 @@ fn rows_of_three(rt: &impl Print, label: &str, first: usize) -> io::Result<()> {
     put_rows(&mut screen, first);
     let picture = picture::without_tail(0, [0u16; 16]);
     let mut out = [0u8; FILE_BYTES];
-    let answer = writer::write(FORM_PACKED, picture, &screen, &mut out);
+    let (number, body) = match writer::write(PACKED.number(), picture, &screen, &mut out) {
+        Ok(written) => (0, written.body),
+        Err(refusal) => (refusal.number, 0),
+    };
     let least = row_least(&row_of(first)) + (LOW_ROWS - 1) * row_least(&row_of(3));
-    println!(rt;
-        "{label}: least body {least}, number {}, body {}",
-        answer.refusal.number, answer.body
-    )
+    println!(rt; "{label}: least body {least}, number {number}, body {body}")
 }
 
 fn main(rt: HostRuntime) -> io::Result<()> {

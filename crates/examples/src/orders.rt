@@ -2,11 +2,10 @@
 use legend::Legend;
 use outcome::Refusal;
 use picture::FILE_BYTES;
-use reader::{KIND_DEGAS, KIND_NEOCHROME};
+use reader::Kind;
 use resolution::SCREEN_BYTES;
 use std::io;
 use tally::Rectangle;
-use writer::FORM_PACKED;
 
 // A kind and a form that no file has.
 const UNKNOWN: u8 = 9;
@@ -14,8 +13,13 @@ const UNKNOWN: u8 = 9;
 // A resolution that no screen has.
 const RESOLUTION: u16 = 3;
 
-// Writes a label and why an input was refused.
-fn show_refusal(rt: &impl Print, label: &str, refusal: Refusal) -> io::Result<()> {
+// Writes a label and why an input was refused; 0 at 0 where it was not.
+fn show_refusal<T: Drop>(
+    rt: &impl Print,
+    label: &str,
+    judged: Result<T, Refusal>,
+) -> io::Result<()> {
+    let refusal = judged.err().unwrap_or(outcome::none());
     println!(rt; "{label}: {} at {}", refusal.number, refusal.place)
 }
 
@@ -27,8 +31,7 @@ fn show_read(
     file: &[u8],
     area: &mut [u8],
 ) -> io::Result<()> {
-    let answer = reader::read(kind, file, area);
-    show_refusal(rt, label, answer.refusal)
+    show_refusal(rt, label, reader::read(kind, file, area))
 }
 
 // Read: 1, 2, 3. The area and the file are each too short.
@@ -59,7 +62,7 @@ fn read_neochrome(rt: &impl Print) -> io::Result<()> {
     show_read(
         rt,
         "read, NEOchrome of 32,127 bytes, flag 257",
-        KIND_NEOCHROME,
+        Kind::Neochrome as u8,
         &cut,
         &mut area,
     )?;
@@ -67,7 +70,7 @@ fn read_neochrome(rt: &impl Print) -> io::Result<()> {
     show_read(
         rt,
         "read, NEOchrome, flag 257, resolution 257",
-        KIND_NEOCHROME,
+        Kind::Neochrome as u8,
         &whole,
         &mut area,
     )
@@ -80,7 +83,7 @@ fn read_degas(rt: &impl Print) -> io::Result<()> {
     show_read(
         rt,
         "read, DEGAS of 33 bytes, resolution 3",
-        KIND_DEGAS,
+        Kind::Degas as u8,
         &cut,
         &mut area,
     )?;
@@ -88,7 +91,7 @@ fn read_degas(rt: &impl Print) -> io::Result<()> {
     show_read(
         rt,
         "read, raw DEGAS of 35 bytes, resolution 3",
-        KIND_DEGAS,
+        Kind::Degas as u8,
         &raw,
         &mut area,
     )
@@ -104,8 +107,7 @@ fn show_write(
 ) -> io::Result<()> {
     let screen = [0u8; SCREEN_BYTES];
     let picture = picture::without_tail(resolution, [0u16; 16]);
-    let answer = writer::write(form, picture, &screen, out);
-    show_refusal(rt, label, answer.refusal)
+    show_refusal(rt, label, writer::write(form, picture, &screen, out))
 }
 
 // Write: 1, 2, 5.
@@ -121,7 +123,7 @@ fn write_order(rt: &impl Print) -> io::Result<()> {
     show_write(
         rt,
         "write, short output, resolution 3",
-        FORM_PACKED,
+        crate::PACKED.number(),
         RESOLUTION,
         &mut short,
     )?;
@@ -143,8 +145,7 @@ fn show_unpack(
     width: usize,
     out: &mut [u8],
 ) -> io::Result<()> {
-    let answer = unpack::unpack_row(packed, width, out);
-    show_refusal(rt, label, answer.refusal)
+    show_refusal(rt, label, unpack::unpack_row(packed, width, out))
 }
 
 // Row pack: 10, 1. Row unpack: 10, 1, and then the records; in one record the row's end before missing input.
@@ -152,7 +153,7 @@ fn row_orders(rt: &impl Print) -> io::Result<()> {
     let row = [0u8; 129];
     let mut short = [0u8; 2];
     let packed = pack::pack_row(&row, &mut short);
-    show_refusal(rt, "row pack, 129 bytes, short output", packed.refusal)?;
+    show_refusal(rt, "row pack, 129 bytes, short output", packed)?;
     show_unpack(
         rt,
         "row unpack, width 129, short output",
@@ -232,14 +233,10 @@ fn tally_order(rt: &impl Print) -> io::Result<()> {
     };
     let cut = [0u8; 31999];
     let short = tally::tally(&cut, RESOLUTION, rectangle);
-    show_refusal(rt, "tally, short screen, resolution 3", short.refusal)?;
+    show_refusal(rt, "tally, short screen, resolution 3", short)?;
     let screen = [0u8; SCREEN_BYTES];
     let unknown = tally::tally(&screen, RESOLUTION, rectangle);
-    show_refusal(
-        rt,
-        "tally, resolution 3, rectangle too wide",
-        unknown.refusal,
-    )
+    show_refusal(rt, "tally, resolution 3, rectangle too wide", unknown)
 }
 
 // Pond reading: 1, 5, 10. Colour: 5, 10.
@@ -257,32 +254,27 @@ fn index_orders(rt: &impl Print) -> io::Result<()> {
         confidences: [101u8; 16],
     };
     let pond = pond::read_pond(&screen, RESOLUTION, rectangle, 1, 0, 101, legend);
-    show_refusal(
-        rt,
-        "pond reading, resolution 3, confidence 101",
-        pond.refusal,
-    )?;
+    show_refusal(rt, "pond reading, resolution 3, confidence 101", pond)?;
     let colour = colour::colour(RESOLUTION, 3, [0u16; 16], 16);
-    show_refusal(
-        rt,
-        "colour, resolution 3, machine 3, register 16",
-        colour.refusal,
-    )?;
+    show_refusal(rt, "colour, resolution 3, machine 3, register 16", colour)?;
     let on_another = colour::colour(0, 3, [0u16; 16], 0);
-    show_refusal(rt, "colour, machine 3", on_another.refusal)
+    show_refusal(rt, "colour, machine 3", on_another)
 }
 
 // An entry set and released: 10, 19.
 fn legend_orders(rt: &impl Print) -> io::Result<()> {
-    let ours = legend::set_entry(legend::new_legend(), 1, 0, 7, 90);
-    let set = legend::set_entry(ours.legend, 2, 0, 256, 90);
-    show_refusal(rt, "set, class 256, another's entry", set.refusal)?;
-    let anothers = legend::set_entry(ours.legend, 2, 0, 7, 90);
-    show_refusal(rt, "set, another's entry", anothers.refusal)?;
-    let release = legend::release_entry(ours.legend, 3, 0);
-    show_refusal(rt, "release, party 3, another's entry", release.refusal)?;
-    let free = legend::release_entry(ours.legend, 1, 1);
-    show_refusal(rt, "release, free entry", free.refusal)
+    let free = legend::set_entry(legend::new_legend(), 1, 0, 7, 90);
+    let Ok(ours) = free else {
+        return show_refusal(rt, "set, free entry", free);
+    };
+    let set = legend::set_entry(ours, 2, 0, 256, 90);
+    show_refusal(rt, "set, class 256, another's entry", set)?;
+    let anothers = legend::set_entry(ours, 2, 0, 7, 90);
+    show_refusal(rt, "set, another's entry", anothers)?;
+    let release = legend::release_entry(ours, 3, 0);
+    show_refusal(rt, "release, party 3, another's entry", release)?;
+    let free = legend::release_entry(ours, 1, 1);
+    show_refusal(rt, "release, free entry", free)
 }
 
 // All of them.

@@ -1,32 +1,22 @@
 -- Laws of filling over any step that makes a measure less, and of a size that each step fills a part of.
+use Rattle.std.specs.Prelude.{Ok, Err}
+use Rattle.outcome.specs.Outcome.{Outcome}
 use mathlib.Core.Path.{◌≡◌, refl, sym, ap, ◌∙◌}
 use Prim.Native.Nat.{ℕ, zero, suc, ◌+◌, ◌-◌, ◌*◌, ◌≤◌, ◌<◌}
 use native.Mathlib.Omega.{arith}
 use native.Mathlib.Nat.{add-mul, zero-mul}
 use lib.ListN.{length, length-append}
 use Rattle.outcome.specs.declared.Refusal.{Refusal}
-use Rattle.outcome.specs.Outcome.{Outcome, accepted, refused}
-use Rattle.filling.specs.declared.Ended.TheVariants.{At, Refused}
-use Rattle.filling.specs.Ended.{ended}
 use Rattle.filling.specs.Filling.{Step, Filling, stopped, after, proceed, fill_within, fill}
 
--- what the code's answer says of the outcome
-pub ended_at : (o : Outcome ℕ) (at : ℕ) → ended o ≡ At at → o ≡ accepted at
-ended_at (accepted a) at e = cc
-ended_at (refused why) at e = cc
-
-pub ended-refused : (o : Outcome ℕ) (why : Refusal) → ended o ≡ Refused why → o ≡ refused why
-ended-refused (accepted a) why e = cc
-ended-refused (refused w) why e = cc
-
 -- what follows a step, where it agrees on the accepted one
-proceed-same : (o : Outcome Step) (f g : Step → Filling) → ((s : Step) → o ≡ accepted s → f s ≡ g s)
+proceed-same : (o : Outcome Step) (f g : Step → Filling) → ((s : Step) → o ≡ Ok s → f s ≡ g s)
     → proceed o f ≡ proceed o g
-proceed-same (accepted s) f g e = ap (after s.made) (e s refl)
-proceed-same (refused why) f g e = refl
+proceed-same (Ok s) f g e = ap (after s.made) (e s refl)
+proceed-same (Err why) f g e = refl
 
 module _ (judge : ℕ → ℕ → Outcome Step) (measure : ℕ → ℕ → ℕ)
-    (less : (at left : ℕ) (s : Step) → 0 < left → judge at left ≡ accepted s
+    (less : (at left : ℕ) (s : Step) → 0 < left → judge at left ≡ Ok s
     → measure s.next (left - s.filled) < measure at left) where
   -- the bound does not matter where it is enough
   enough : (b d at left : ℕ) → measure at left < b → measure at left < d
@@ -43,7 +33,7 @@ module _ (judge : ℕ → ℕ → Outcome Step) (measure : ℕ → ℕ → ℕ)
 
   -- ---- the first step
 
-  pub fill-full : (at left : ℕ) → left ≡ 0 → fill judge measure at left ≡ stopped (accepted at)
+  pub fill-full : (at left : ℕ) → left ≡ 0 → fill judge measure at left ≡ stopped (Ok at)
   unfolding fill fill_within
   fill-full at left e = rw e
 
@@ -58,27 +48,27 @@ module _ (judge : ℕ → ℕ → Outcome Step) (measure : ℕ → ℕ → ℕ)
       enough (measure at (suc left)) (suc (measure s.next (suc left - s.filled))) s.next
       (suc left - s.filled) fewer (omega arith))
 
-  pub fill_step : (at left : ℕ) (s : Step) → 0 < left → judge at left ≡ accepted s
+  pub fill_step : (at left : ℕ) (s : Step) → 0 < left → judge at left ≡ Ok s
       → fill judge measure at left ≡ after s.made (fill judge measure s.next (left - s.filled))
   fill_step at left s h ok = fill_one at left h ∙ rw ok
 
-  pub fill-fault : (at left : ℕ) (why : Refusal) → 0 < left → judge at left ≡ refused why
-      → fill judge measure at left ≡ stopped (refused why)
+  pub fill-fault : (at left : ℕ) (why : Refusal) → 0 < left → judge at left ≡ Err why
+      → fill judge measure at left ≡ stopped (Err why)
   fill-fault at left why h e = fill_one at left h ∙ rw e
 
   -- ---- induction over the steps
 
-  module _ (P : ℕ → ℕ → Filling → Type 0) (full : (at : ℕ) → P at 0 (stopped (accepted at)))
-      (fault : (at left : ℕ) (why : Refusal) → 0 < left → judge at left ≡ refused why
-      → P at left (stopped (refused why)))
-      (step : (at left : ℕ) (s : Step) (f : Filling) → 0 < left → judge at left ≡ accepted s
+  module _ (P : ℕ → ℕ → Filling → Type 0) (full : (at : ℕ) → P at 0 (stopped (Ok at)))
+      (fault : (at left : ℕ) (why : Refusal) → 0 < left → judge at left ≡ Err why
+      → P at left (stopped (Err why)))
+      (step : (at left : ℕ) (s : Step) (f : Filling) → 0 < left → judge at left ≡ Ok s
       → P s.next (left - s.filled) f → P at left (after s.made f)) where
     turn : (b at left : ℕ) (o : Outcome Step) → judge at (suc left) ≡ o
-        → ((s : Step) → o ≡ accepted s
+        → ((s : Step) → o ≡ Ok s
         → P s.next (suc left - s.filled) (fill_within judge b s.next (suc left - s.filled)))
         → P at (suc left) (proceed o (λ s. fill_within judge b s.next (suc left - s.filled)))
-    turn b at left (accepted s) e further = step at (suc left) s _ (omega arith) e (further s refl)
-    turn b at left (refused why) e further = fault at (suc left) why (omega arith) e
+    turn b at left (Ok s) e further = step at (suc left) s _ (omega arith) e (further s refl)
+    turn b at left (Err why) e further = fault at (suc left) why (omega arith) e
 
     within : (b at left : ℕ) → measure at left < b → P at left (fill_within judge b at left)
     unfolding fill_within
@@ -96,7 +86,7 @@ module _ (judge : ℕ → ℕ → Outcome Step) (measure : ℕ → ℕ → ℕ)
   -- ---- sizes: each step fills no more than is left, with `unit` bytes for each
 
   module _ (unit : ℕ)
-      (sized : (at left : ℕ) (s : Step) → 0 < left → judge at left ≡ accepted s
+      (sized : (at left : ℕ) (s : Step) → 0 < left → judge at left ≡ Ok s
       → (s.filled ≤ left) × (length s.made ≡ s.filled * unit)) where
     split : (filled left : ℕ) → filled ≤ left → left * unit ≡ filled * unit + (left - filled) * unit
     split filled left h =
@@ -114,10 +104,10 @@ module _ (judge : ℕ → ℕ → Outcome Step) (measure : ℕ → ℕ → ℕ)
         omega (arith, length-append s.made f.made, z.1, rest, split s.filled left z.0))
 
     -- and where all is filled as many
-    pub made_all : (at left end : ℕ) → (fill judge measure at left).ends ≡ accepted end
+    pub made_all : (at left end : ℕ) → (fill judge measure at left).ends ≡ Ok end
         → length (fill judge measure at left).made ≡ left * unit
     made_all at left end =
-        by-steps (λ at left f. f.ends ≡ accepted end → length f.made ≡ left * unit)
+        by-steps (λ at left f. f.ends ≡ Ok end → length f.made ≡ left * unit)
         (λ at e. sym (zero-mul unit))
         (λ at left why h no e. let z : ◌≡◌ {A = ℕ} 0 1 = cc in absurd (omega arith))
         (λ at left s f h ok rest e.

@@ -1,12 +1,12 @@
 -- Records fill exactly as the relations say, where a record is judged as they say: all is filled where `Makes` holds,
 -- and filling stops where `Stops` does.
+use Rattle.std.specs.Prelude.{Ok, Err}
 use mathlib.Core.Path.{◌≡◌, refl, sym, ap, ap₂, ◌∙◌, subst}
 use mathlib.Core.List.{List, []}
 use Prim.Native.Nat.{ℕ, ◌+◌, ◌-◌, ◌≤◌, ◌<◌}
 use native.Mathlib.Omega.{arith}
 use lib.ListN.{length, drop, length-drop}
 use Rattle.outcome.specs.declared.Refusal.{Refusal}
-use Rattle.outcome.specs.Outcome.{accepted, refused}
 use Rattle.filling.specs.Filling.{Filling, stopped, after}
 use Rattle.filling.specs.Makes.{Makes, Stops}
 use Rattle.filling.proofs.Records.{Records, fill_records, by-records, records-full, records-step, records-fault}
@@ -24,14 +24,14 @@ length-stands file at s = omega (arith, ap length s.bytes, length-drop at file, 
 pub record FullAt (file : List ℕ) (f : Filling) (rest made : List ℕ) : Type 0 where
   pub end : ℕ
   pub stands : Stands file end rest
-  pub fills : f ≡ record { made = made; ends = accepted end }
+  pub fills : f ≡ record { made = made; ends = Ok end }
 
 -- filling stops with this number, and these bytes stand there
 pub record HaltsAt (file : List ℕ) (refusal_at : ℕ → ℕ → Refusal) (f : Filling) (number : ℕ) (rest : List ℕ)
     : Type 0 where
   pub place : ℕ
   pub stands : Stands file place rest
-  pub ends : f.ends ≡ refused (refusal_at number place)
+  pub ends : f.ends ≡ Err (refusal_at number place)
 
 -- the number at which filling stops is that of a record at fault
 pub stops-fault : {Whole : List ℕ → List ℕ → List ℕ → Type 0} {Faulty : ℕ → List ℕ → ℕ → Type 0} {room number : ℕ}
@@ -68,10 +68,10 @@ module _ {file : List ℕ} (r : Records file) (Whole : List ℕ → List ℕ →
   abbrev Exact : ℕ → ℕ → Filling → Type 0
   Exact at room f =
       at ≤ length file
-      → ((end : ℕ) → f.ends ≡ accepted end → Makes Whole room (drop at file) (drop end file) f.made)
-      × ((why : Refusal) → f.ends ≡ refused why → StoppedAt at room why)
+      → ((end : ℕ) → f.ends ≡ Ok end → Makes Whole room (drop at file) (drop end file) f.made)
+      × ((why : Refusal) → f.ends ≡ Err why → StoppedAt at room why)
 
-  exact-full : (at : ℕ) → Exact at 0 (stopped (accepted at))
+  exact-full : (at : ℕ) → Exact at 0 (stopped (Ok at))
   exact-full at h = (
     (λ end e.
         let same : at ≡ end = cc in
@@ -81,7 +81,7 @@ module _ {file : List ℕ} (r : Records file) (Whole : List ℕ → List ℕ →
 
   module _ (sound : Sound) where
     exact-fault : (at room : ℕ) → 0 < room → (r.fault at room ≡ 0 → ⊥)
-        → Exact at room (stopped (refused (r.refusal_at (r.fault at room) at)))
+        → Exact at room (stopped (Err (r.refusal_at (r.fault at room) at)))
     exact-fault at room h bad k = (
       (λ end e. let z : ◌≡◌ {A = ℕ} 0 1 = cc in absurd (omega arith)),
       (λ why e.
@@ -122,12 +122,12 @@ module _ {file : List ℕ} (r : Records file) (Whole : List ℕ → List ℕ →
     exact = by-records r Exact exact-full exact-fault exact-step
 
     -- where all is filled
-    pub fill-makes : (at room end : ℕ) → at ≤ length file → (fill_records r at room).ends ≡ accepted end
+    pub fill-makes : (at room end : ℕ) → at ≤ length file → (fill_records r at room).ends ≡ Ok end
         → Makes Whole room (drop at file) (drop end file) (fill_records r at room).made
     fill-makes at room end h = (exact at room h).0 end
 
     -- and where it stops
-    pub fill_stops : (at room : ℕ) (why : Refusal) → at ≤ length file → (fill_records r at room).ends ≡ refused why
+    pub fill_stops : (at room : ℕ) (why : Refusal) → at ≤ length file → (fill_records r at room).ends ≡ Err why
         → StoppedAt at room why
     fill_stops at room why h = (exact at room h).1 why
 
@@ -179,7 +179,7 @@ module _ {file : List ℕ} (r : Records file) (Whole : List ℕ → List ℕ →
           stands = a;
           ends =
               ap (λ (g : Filling). g.ends) (records-fault r at room h bad)
-              ∙ ap (λ (k : ℕ). refused (r.refusal_at k at)) j.0;
+              ∙ ap (λ (k : ℕ). Err (r.refusal_at k at)) j.0;
         }
     stops-fill at {room} a (Stops.and_record bytes h w fits further) =
         let s = steps-to at room a h w fits in

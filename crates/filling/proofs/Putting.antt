@@ -1,5 +1,6 @@
 -- The loop that puts what each step makes behind what is made, over the front of an output: its invariant, its turn and
 -- its end.
+use Rattle.outcome.specs.Outcome.{Outcome}
 use mathlib.Core.Path.{◌≡◌, refl, ap, ◌∙◌, subst}
 use mathlib.Core.List.{List}
 use Prim.Native.Nat.{ℕ, ◌+◌, ◌-◌, ◌≤◌}
@@ -7,7 +8,6 @@ use lib.ListN.{length, take, drop}
 use borrow.Rule.Slice.PartMut.{put_mid}
 use Rattle.lists.specs.Over.{over}
 use Rattle.lists.proofs.Pieces.{PartlyWritten, writing_start, writing-end, piece-fits, writing_more}
-use Rattle.outcome.specs.Outcome.{Outcome}
 use Rattle.filling.specs.Filling.{Filling, stopped, after}
 
 -- `to` bytes of `out` are put, `rest` is what filling still comes to, `whole` what it comes to in all, and out₀ what

@@ -1,4 +1,6 @@
 -- Records at the offsets of a file, each judged by a refusal number, as steps that fill.
+use Rattle.std.specs.Prelude.{Ok, Err}
+use Rattle.outcome.specs.Outcome.{Outcome}
 use mathlib.Core.Path.{◌≡◌, sym, ◌∙◌}
 use mathlib.Core.Bool.{cond}
 use mathlib.Core.List.{List}
@@ -10,23 +12,22 @@ use lib.Dec.{eqb}
 use borrow.Author.Tests.{eq-eqb, ne_eqb}
 use Rattle.lists.proofs.Cond.{cond-eqb}
 use Rattle.outcome.specs.declared.Refusal.{Refusal}
-use Rattle.outcome.specs.Outcome.{Outcome, accepted, refused}
 use Rattle.filling.specs.Filling.{Step, Filling, stopped, after, fill}
 use Rattle.filling.proofs.Filling.{fill-full, fill_step, fill-fault, by-steps, made-most, made_all}
 
 -- ---- a judgement by a refusal number, or by what follows where that is 0
 
 module _ (number : ℕ) (why : Refusal) (further : Outcome Step) where
-  pub without-fault : number ≡ 0 → cond (eqb number 0) further (refused why) ≡ further
+  pub without-fault : number ≡ 0 → cond (eqb number 0) further (Err why) ≡ further
   without-fault e = rw (eq-eqb number 0 e)
 
-  pub with-fault : (number ≡ 0 → ⊥) → cond (eqb number 0) further (refused why) ≡ refused why
+  pub with-fault : (number ≡ 0 → ⊥) → cond (eqb number 0) further (Err why) ≡ Err why
   with-fault e = rw (ne_eqb number 0 e)
 
-  pub accepted-fault : (s : Step) → cond (eqb number 0) further (refused why) ≡ accepted s
-      → (number ≡ 0) × (further ≡ accepted s)
+  pub accepted-fault : (s : Step) → cond (eqb number 0) further (Err why) ≡ Ok s
+      → (number ≡ 0) × (further ≡ Ok s)
   accepted-fault s =
-      cond-eqb (λ o. o ≡ accepted s → (number ≡ 0) × (further ≡ accepted s)) number 0 (λ h e. (h, e))
+      cond-eqb (λ o. o ≡ Ok s → (number ≡ 0) × (further ≡ Ok s)) number 0 (λ h e. (h, e))
       (λ h e. let z : ◌≡◌ {A = ℕ} 0 1 = cc in absurd (omega arith))
 
 -- ---- records
@@ -55,7 +56,7 @@ module _ {file : List ℕ} (r : Records file) where
   -- the record at an offset, judged
   abbrev pub judge : ℕ → ℕ → Outcome Step
   judge at room =
-      cond (eqb (r.fault at room) 0) (accepted (r.step at)) (refused (r.refusal_at (r.fault at room) at))
+      cond (eqb (r.fault at room) 0) (Ok (r.step at)) (Err (r.refusal_at (r.fault at room) at))
 
   -- the records from an offset on
   abbrev pub fill_records : ℕ → ℕ → Filling
@@ -63,26 +64,26 @@ module _ {file : List ℕ} (r : Records file) where
 
   -- ---- one record
 
-  judge-accepted : (at room : ℕ) (s : Step) → judge at room ≡ accepted s
+  judge-accepted : (at room : ℕ) (s : Step) → judge at room ≡ Ok s
       → (r.fault at room ≡ 0) × (s ≡ r.step at)
   judge-accepted at room s ok =
-      let f = accepted-fault (r.fault at room) _ (accepted (r.step at)) s ok in
-      let same : accepted (r.step at) ≡ accepted s = f.1 in
+      let f = accepted-fault (r.fault at room) _ (Ok (r.step at)) s ok in
+      let same : Ok (r.step at) ≡ Ok s = f.1 in
       (f.0, cc)
 
-  judge-refused : (at room : ℕ) (why : Refusal) → judge at room ≡ refused why
+  judge-refused : (at room : ℕ) (why : Refusal) → judge at room ≡ Err why
       → (r.fault at room ≡ 0 → ⊥) × (why ≡ r.refusal_at (r.fault at room) at)
   judge-refused at room why =
-      cond-eqb (λ o. o ≡ refused why → (r.fault at room ≡ 0 → ⊥) × (why ≡ r.refusal_at (r.fault at room) at))
+      cond-eqb (λ o. o ≡ Err why → (r.fault at room ≡ 0 → ⊥) × (why ≡ r.refusal_at (r.fault at room) at))
       (r.fault at room) 0
       (λ h e. let z : ◌≡◌ {A = ℕ} 0 1 = cc in absurd (omega arith))
       (λ h e. (h, cc))
 
-  judge-less : (at room : ℕ) (s : Step) → 0 < room → judge at room ≡ accepted s
+  judge-less : (at room : ℕ) (s : Step) → 0 < room → judge at room ≡ Ok s
       → r.measure s.next (room - s.filled) < r.measure at room
   judge-less at room s h ok = let e = judge-accepted at room s ok in rw e.1 (r.less at room h e.0)
 
-  sized : (at room : ℕ) (s : Step) → 0 < room → judge at room ≡ accepted s
+  sized : (at room : ℕ) (s : Step) → 0 < room → judge at room ≡ Ok s
       → (s.filled ≤ room) × (length s.made ≡ s.filled * 1)
   sized at room s h ok =
       let e = judge-accepted at room s ok in
@@ -91,7 +92,7 @@ module _ {file : List ℕ} (r : Records file) where
 
   -- ---- all of them
 
-  pub records-full : (at room : ℕ) → room ≡ 0 → fill_records at room ≡ stopped (accepted at)
+  pub records-full : (at room : ℕ) → room ≡ 0 → fill_records at room ≡ stopped (Ok at)
   records-full = fill-full judge r.measure judge-less
 
   pub records-step : (at room : ℕ) → 0 < room → r.fault at room ≡ 0 → fill_records at room
@@ -100,14 +101,14 @@ module _ {file : List ℕ} (r : Records file) where
       fill_step judge r.measure judge-less at room (r.step at) h (without-fault (r.fault at room) _ _ e)
 
   pub records-fault : (at room : ℕ) → 0 < room → (r.fault at room ≡ 0 → ⊥)
-      → fill_records at room ≡ stopped (refused (r.refusal_at (r.fault at room) at))
+      → fill_records at room ≡ stopped (Err (r.refusal_at (r.fault at room) at))
   records-fault at room h e =
       fill-fault judge r.measure judge-less at room _ h (with-fault (r.fault at room) _ _ e)
 
   -- induction over them
-  module _ (P : ℕ → ℕ → Filling → Type 0) (full : (at : ℕ) → P at 0 (stopped (accepted at)))
+  module _ (P : ℕ → ℕ → Filling → Type 0) (full : (at : ℕ) → P at 0 (stopped (Ok at)))
       (fault : (at room : ℕ) → 0 < room → (r.fault at room ≡ 0 → ⊥)
-      → P at room (stopped (refused (r.refusal_at (r.fault at room) at))))
+      → P at room (stopped (Err (r.refusal_at (r.fault at room) at))))
       (step : (at room : ℕ) (f : Filling) → 0 < room → r.fault at room ≡ 0
       → P (r.step at).next (room - (r.step at).filled) f → P at room (after (r.step at).made f)) where
     pub by-records : (at room : ℕ) → P at room (fill_records at room)
@@ -120,15 +121,15 @@ module _ {file : List ℕ} (r : Records file) where
   pub records-most : (at room : ℕ) → length (fill_records at room).made ≤ room
   records-most at room = omega (arith, made-most judge r.measure judge-less 1 sized at room, mul-one room)
 
-  pub records-all : (at room end : ℕ) → (fill_records at room).ends ≡ accepted end
+  pub records-all : (at room end : ℕ) → (fill_records at room).ends ≡ Ok end
       → length (fill_records at room).made ≡ room
   records-all at room end e = made_all judge r.measure judge-less 1 sized at room end e ∙ mul-one room
 
   -- and the last record ends in the file
-  pub records-inside : (at room end : ℕ) → at ≤ length file → (fill_records at room).ends ≡ accepted end
+  pub records-inside : (at room end : ℕ) → at ≤ length file → (fill_records at room).ends ≡ Ok end
       → end ≤ length file
   records-inside at room end =
-      by-records (λ at room f. at ≤ length file → f.ends ≡ accepted end → end ≤ length file)
+      by-records (λ at room f. at ≤ length file → f.ends ≡ Ok end → end ≤ length file)
       (λ at h e. let same : at ≡ end = cc in omega arith)
       (λ at room h bad k e. let z : ◌≡◌ {A = ℕ} 0 1 = cc in absurd (omega arith))
       (λ at room f h ok rest k e. rest (r.whole at room ok).has e)

@@ -1,7 +1,7 @@
 -- Something of a known size, filled step by step from an offset of a file on: a line by its records, a picture by its
 -- lines. It is finished the moment nothing is left to fill.
-use Rattle.std.specs.Prelude.{ℕ, zero, suc, ◌-◌, List, [], ◌++◌}
-use Rattle.outcome.specs.Outcome.{Outcome, accepted, refused}
+use Rattle.outcome.specs.Outcome.{Outcome}
+use Rattle.std.specs.Prelude.{ℕ, zero, suc, ◌-◌, List, [], ◌++◌, Ok, Err}
 
 -- A step that is accepted.
 pub record Step : Type 0 where
@@ -29,15 +29,15 @@ after made f = record { made = made ++ f.made; ends = f.ends }
 
 -- an accepted step, and what `next` makes of what it leaves; a refused one stops
 abbrev pub proceed : Outcome Step → (Step → Filling) → Filling
-proceed (accepted s) next = after s.made (next s)
-proceed (refused why) next = stopped (refused why)
+proceed (Ok s) next = after s.made (next s)
+proceed (Err why) next = stopped (Err why)
 
 -- Steps judged at an offset, with so much left to fill.
 module _ (judge : ℕ → ℕ → Outcome Step) where
   -- at most `bound` steps; with a bound as in `fill` the first case is never reached
   unfoldable pub fill_within : ℕ → ℕ → ℕ → Filling
-  fill_within zero at left = stopped (accepted at)
-  fill_within (suc bound) at zero = stopped (accepted at)
+  fill_within zero at left = stopped (Ok at)
+  fill_within (suc bound) at zero = stopped (Ok at)
   fill_within (suc bound) at (suc left) =
       proceed (judge at (suc left)) (λ s. fill_within bound s.next (suc left - s.filled))
 

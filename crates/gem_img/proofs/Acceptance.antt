@@ -1,4 +1,5 @@
 -- A GEM IMG file is accepted exactly where `AcceptsImg` holds, and refused, and why, exactly where `RefusesImg` does.
+use Rattle.std.specs.Prelude.{Ok, Err, ⊤}
 use mathlib.Core.Path.{◌≡◌, refl, sym, ap, ◌∙◌, subst}
 use mathlib.Core.Bool.{Bool, true, false}
 use mathlib.Core.Logic.{◌⊎◌, inl, inr}
@@ -6,20 +7,19 @@ use mathlib.Core.List.{List, []}
 use Prim.Native.Nat.{ℕ, ◌-◌, ◌≤◌, ◌<◌}
 use native.Mathlib.Omega.{arith}
 use lib.ListN.{length, drop, length-drop, drop_of_length-le}
-use lib.Dec.{ltb, eqb}
-use borrow.Author.Tests.{ltb-true, ltb-false, eqb-true, eqb-false}
+use lib.Dec.{ltb}
+use borrow.Author.Tests.{ltb-true, ltb-false}
 use Rattle.lists.specs.Bytes.{Bytes}
 use Rattle.lists.proofs.Cond.{cond-ltb}
 use Rattle.outcome.specs.declared.Refusal.{Refusal}
-use Rattle.outcome.specs.Outcome.{Outcome, accepted, refused, refusal}
-use Rattle.outcome.specs.Refusal.{wrong_length, outside_profile}
+use Rattle.outcome.specs.Outcome.{Outcome, refusal}
 use Rattle.filling.specs.Filling.{Filling}
 use Rattle.gem_img_records.specs.Line.{refusal_at}
 use Rattle.gem_img_records.proofs.MakesLine.{Stands}
 use Rattle.gem_img.specs.Header.{least_header_bytes, header_bytes, pattern, width, lines, in_profile, bytes_per_line}
 use Rattle.gem_img.specs.MakesLines.{MakesLines}
 use Rattle.gem_img.specs.StopsLines.{StopsLines}
-use Rattle.gem_img.specs.Reading.{area_bytes, Image, fill_image, read_lines, header_refusal, read_img}
+use Rattle.gem_img.specs.Reading.{area_bytes, Image, fill_image, read_lines, header_judged, read_img}
 use Rattle.gem_img.specs.Accepts.{Profiled, AcceptsImg}
 use Rattle.gem_img.specs.Refuses.{RefusesImg, area_short, file_short, header_cut, not_profiled, bad_run, at_record}
 use Rattle.gem_img.specs.Refuses.{bytes_behind}
@@ -30,13 +30,13 @@ use Rattle.gem_img.proofs.Reading.{lines-read}
 use Rattle.gem_img.proofs.MakesLines.{lines-made, lines-halted, makes-lines}
 use Rattle.gem_img.proofs.MakesLines.{stops-lines, stops-number}
 
-accepted-same : {A : Type 0} (a b : A) → ◌≡◌ {A = Outcome A} (accepted a) (accepted b) → a ≡ b
+accepted-same : {A : Type 0} (a b : A) → ◌≡◌ {A = Outcome A} (Ok a) (Ok b) → a ≡ b
 accepted-same a b e = cc
 
-refused-same : {A : Type 0} (v w : Refusal) → ◌≡◌ {A = Outcome A} (refused v) (refused w) → v ≡ w
+refused-same : {A : Type 0} (v w : Refusal) → ◌≡◌ {A = Outcome A} (Err v) (Err w) → v ≡ w
 refused-same v w e = cc
 
-not-both : {A : Type 0} (a : A) (why : Refusal) → ◌≡◌ {A = Outcome A} (accepted a) (refused why) → ⊥
+not-both : {A : Type 0} (a : A) (why : Refusal) → ◌≡◌ {A = Outcome A} (Ok a) (Err why) → ⊥
 not-both a why e = let z : ◌≡◌ {A = ℕ} 0 1 = cc in omega arith
 
 image-is : (w l : ℕ) (bytes : List ℕ) (i : Image) → i.width ≡ w → i.lines ≡ l → bytes ≡ i.bytes
@@ -63,10 +63,8 @@ module _ (file : List ℕ) where
   headed-from has p =
       record { long = omega (arith, p.words); has = has; profile = in-profile file p }
 
-  from-header : header_bytes file ≤ length file → Profiled file → (header_refusal file).number ≡ 0
-  from-header has p =
-      let h = headed-from has p in
-      ap (λ (w : Refusal). w.number) (profile-right file h.long h.has h.profile)
+  from-header : header_bytes file ≤ length file → Profiled file → header_judged file ≡ Ok tt
+  from-header has p = let h = headed-from has p in profile-right file h.long h.has h.profile
 
   body-stands : header_bytes file ≤ length file → Stands file (header_bytes file) body
   body-stands has = record { bytes = refl; inside = has }
@@ -74,7 +72,7 @@ module _ (file : List ℕ) where
   -- ---- the function from the relations
 
   pub img-accepted : (area : ℕ) (image : Image) → area_bytes ≤ area → AcceptsImg file image
-      → read_img file area ≡ accepted image
+      → read_img file area ≡ Ok image
   img-accepted area image room a =
       let p = a.profiled in
       let t = makes-lines (pattern file) per_line file (line-least file p) (header_bytes file)
@@ -82,37 +80,28 @@ module _ (file : List ℕ) where
       let left : length file ≤ t.end = omega (arith, ap length t.stands.bytes, length-drop t.end file) in
       header-right file area room (from-header a.header p)
       ∙ lines-read file t.end (ap (λ (f : Filling). f.ends) t.fills) left
-      ∙ ap accepted
+      ∙ ap Ok
       (image-is (width file) (lines file) (fill_image file).made image a.shown_width a.shown_lines
       (ap (λ (f : Filling). f.made) t.fills))
 
   -- a line that stops, as the whole reading's refusal
   stops-read : (area number : ℕ) (rest : List ℕ) → area_bytes ≤ area → header_bytes file ≤ length file
       → Profiled file → StopsLines (pattern file) per_line (lines file) body number rest
-      → read_img file area ≡ refused (refusal_at number (length file - length rest))
+      → read_img file area ≡ Err (refusal_at number (length file - length rest))
   stops-read area number rest room has p s =
       let t = stops-lines (pattern file) per_line file (line-least file p) (header_bytes file) (body-stands has) s in
       header-right file area room (from-header has p)
       ∙ lines-refused file (refusal_at number t.place) t.ends
-      ∙ ap (λ (k : ℕ). refused (refusal_at number k)) (sym (offset file rest t.place t.stands))
+      ∙ ap (λ (k : ℕ). Err (refusal_at number k)) (sym (offset file rest t.place t.stands))
 
-  pub img-refused : (area : ℕ) (why : Refusal) → RefusesImg file area why → read_img file area ≡ refused why
+  pub img-refused : (area : ℕ) (why : Refusal) → RefusesImg file area why → read_img file area ≡ Err why
   img-refused area why (area_short h) = area-short file area h
   img-refused area why (file_short room h) =
-      let e = below-least file h in
-      header_refused file area room
-      (λ z. let y : wrong_length ≡ 0 = sym (ap (λ (w : Refusal). w.number) e) ∙ z in omega arith)
-      ∙ ap refused e
+      header_refused file area room _ (below-least file h)
   img-refused area why (header_cut room long h) =
-      let e = below-header file long h in
-      header_refused file area room
-      (λ z. let y : wrong_length ≡ 0 = sym (ap (λ (w : Refusal). w.number) e) ∙ z in omega arith)
-      ∙ ap refused e
+      header_refused file area room _ (below-header file long h)
   img-refused area why (not_profiled room long has bad) =
-      let e = profile-wrong file long has (outside bad) in
-      header_refused file area room
-      (λ z. let y : outside_profile ≡ 0 = sym (ap (λ (w : Refusal). w.number) e) ∙ z in omega arith)
-      ∙ ap refused e
+      header_refused file area room _ (profile-wrong file long has (outside bad))
     where
       outside : (Profiled file → ⊥) → in_profile file ≡ false
       outside bad = go (in_profile file) refl
@@ -122,14 +111,14 @@ module _ (file : List ℕ) where
           go false e = e
   img-refused area why (bad_run {rest} room has p s) = stops-read area 22 rest room has p s
   img-refused area why (at_record {number} {rest} room has p k s) =
-      stops-read area number rest room has p s ∙ ap refused (placed_at number (length file - length rest) k)
+      stops-read area number rest room has p s ∙ ap Err (placed_at number (length file - length rest) k)
   img-refused area why (bytes_behind {rest} {made} room has p m some) =
       let t = makes-lines (pattern file) per_line file (line-least file p) (header_bytes file) (body-stands has) m in
       let more : t.end < length file =
       omega (arith, ap length t.stands.bytes, length-drop t.end file, t.stands.inside) in
       header-right file area room (from-header has p)
       ∙ bytes_left file t.end (ap (λ (f : Filling). f.ends) t.fills) more
-      ∙ ap (λ (k : ℕ). refused (refusal 8 k)) (sym (offset file rest t.end t.stands))
+      ∙ ap (λ (k : ℕ). Err (refusal 8 k)) (sym (offset file rest t.end t.stands))
 
   -- ---- the relations from the function
 
@@ -140,15 +129,15 @@ module _ (file : List ℕ) where
       has : header_bytes file ≤ length file
       fits : Profiled file
 
-    from-headed : (area : ℕ) → area_bytes ≤ area → (header_refusal file).number ≡ 0 → Begun area
+    from-headed : (area : ℕ) → area_bytes ≤ area → header_judged file ≡ Ok tt → Begun area
     from-headed area room e = let h = headed file e in record
         { room = room; has = h.has; fits = profiled file h.profile }
 
     -- what the lines of a file come to
-    lines-accept : (area : ℕ) (image : Image) → Begun area → read_lines file ≡ accepted image → AcceptsImg file image
+    lines-accept : (area : ℕ) (image : Image) → Begun area → read_lines file ≡ Ok image → AcceptsImg file image
     lines-accept area image b e = go (fill_image file).ends refl
       where
-        done : (end : ℕ) → (fill_image file).ends ≡ accepted end → length file ≤ end → AcceptsImg file image
+        done : (end : ℕ) → (fill_image file).ends ≡ Ok end → length file ≤ end → AcceptsImg file image
         done end f g =
             let is = accepted-same _ image (sym (lines-read file end f g) ∙ e) in
             let m = lines-made (pattern file) per_line file all (line-least file b.fits) (header_bytes file)
@@ -167,15 +156,15 @@ module _ (file : List ℕ) where
             }
 
         go : (o : Outcome ℕ) → (fill_image file).ends ≡ o → AcceptsImg file image
-        go (refused why) f = absurd (not-both image why (sym e ∙ lines-refused file why f))
-        go (accepted end) f =
+        go (Err why) f = absurd (not-both image why (sym e ∙ lines-refused file why f))
+        go (Ok end) f =
             cond-ltb {A = ℕ} (λ u. AcceptsImg file image) {a = 0} {b = 0} end (length file)
             (λ h. absurd (not-both image _ (sym e ∙ bytes_left file end f h))) (done end f)
 
-    lines-refuse : (area : ℕ) (why : Refusal) → Begun area → read_lines file ≡ refused why → RefusesImg file area why
+    lines-refuse : (area : ℕ) (why : Refusal) → Begun area → read_lines file ≡ Err why → RefusesImg file area why
     lines-refuse area why b e = go (fill_image file).ends refl
       where
-        halted : (w : Refusal) → (fill_image file).ends ≡ refused w → RefusesImg file area w
+        halted : (w : Refusal) → (fill_image file).ends ≡ Err w → RefusesImg file area w
         halted w f =
             let t = lines-halted (pattern file) per_line file all (line-least file b.fits) (header_bytes file)
             (lines file) w b.has f in
@@ -195,10 +184,10 @@ module _ (file : List ℕ) where
                 rw (k, ← at) (at_record b.room b.has b.fits (inr refl) (rw k at s))
 
         go : (o : Outcome ℕ) → (fill_image file).ends ≡ o → RefusesImg file area why
-        go (refused w) f =
+        go (Err w) f =
             subst (λ (v : Refusal). RefusesImg file area v)
             (refused-same {A = Image} w why (sym (lines-refused file w f) ∙ e)) (halted w f)
-        go (accepted end) f =
+        go (Ok end) f =
             cond-ltb {A = ℕ} (λ u. RefusesImg file area why) {a = 0} {b = 0} end (length file)
             (λ h.
             let m = lines-made (pattern file) per_line file all (line-least file b.fits) (header_bytes file)
@@ -214,69 +203,67 @@ module _ (file : List ℕ) where
             (λ h. absurd (not-both _ why (sym (lines-read file end f h) ∙ e)))
 
     -- a header that is refused
-    header-refuses : (area : ℕ) → area_bytes ≤ area → ((header_refusal file).number ≡ 0 → ⊥)
-        → RefusesImg file area (header_refusal file)
-    header-refuses area room bad =
+    header-refuses : (area : ℕ) (why : Refusal) → area_bytes ≤ area → header_judged file ≡ Err why
+        → RefusesImg file area why
+    header-refuses area why room is =
         go (ltb (length file) least_header_bytes) (ltb (length file) (header_bytes file)) (in_profile file) refl refl refl
       where
+        same : (v : Refusal) → header_judged file ≡ Err v → RefusesImg file area v → RefusesImg file area why
+        same v e r = subst (λ (w : Refusal). RefusesImg file area w) (refused-same {A = ⊤} v why (sym e ∙ is)) r
+
         go : (a b d : Bool) → ltb (length file) least_header_bytes ≡ a → ltb (length file) (header_bytes file) ≡ b
-            → in_profile file ≡ d → RefusesImg file area (header_refusal file)
+            → in_profile file ≡ d → RefusesImg file area why
         go true b d e f g =
             let h : length file < least_header_bytes = ltb-true (length file) least_header_bytes e in
-            rw (below-least file h) (file_short room h)
+            same _ (below-least file h) (file_short room h)
         go false true d e f g =
             let long : least_header_bytes ≤ length file = ltb-false (length file) least_header_bytes e in
             let h : length file < header_bytes file = ltb-true (length file) (header_bytes file) f in
-            rw (below-header file long h) (header_cut room long h)
+            same _ (below-header file long h) (header_cut room long h)
         go false false false e f g =
             let long : least_header_bytes ≤ length file = ltb-false (length file) least_header_bytes e in
             let has : header_bytes file ≤ length file = ltb-false (length file) (header_bytes file) f in
-            rw (profile-wrong file long has g)
+            same _ (profile-wrong file long has g)
             (not_profiled room long has
             (λ p. let z : true ≡ false = sym (in-profile file p) ∙ g in let y : ◌≡◌ {A = ℕ} 0 1 = cc in omega arith))
         go false false true e f g =
             let long : least_header_bytes ≤ length file = ltb-false (length file) least_header_bytes e in
             let has : header_bytes file ≤ length file = ltb-false (length file) (header_bytes file) f in
-            absurd (bad (ap (λ (w : Refusal). w.number) (profile-right file long has g)))
+            absurd (not-both tt why (sym (profile-right file long has g) ∙ is))
 
     -- accepted, and what it gives
-    pub img-accepts : (area : ℕ) (image : Image) → read_img file area ≡ accepted image
+    pub img-accepts : (area : ℕ) (image : Image) → read_img file area ≡ Ok image
         → (area_bytes ≤ area) × AcceptsImg file image
     img-accepts area image e = go (ltb area area_bytes) refl
       where
-        inside : area_bytes ≤ area → (b : Bool) → eqb (header_refusal file).number 0 ≡ b
+        inside : area_bytes ≤ area → (o : Outcome ⊤) → header_judged file ≡ o
             → (area_bytes ≤ area) × AcceptsImg file image
-        inside room true f =
-            let ok : (header_refusal file).number ≡ 0 = eqb-true (header_refusal file).number 0 f in
-            (room, lines-accept area image (from-headed area room ok) (sym (header-right file area room ok) ∙ e))
-        inside room false f =
-            absurd (not-both image _
-            (sym e ∙ header_refused file area room (eqb-false (header_refusal file).number 0 f)))
+        inside room (Ok t) f =
+            (room, lines-accept area image (from-headed area room f) (sym (header-right file area room f) ∙ e))
+        inside room (Err why) f = absurd (not-both image why (sym e ∙ header_refused file area room why f))
 
         go : (b : Bool) → ltb area area_bytes ≡ b → (area_bytes ≤ area) × AcceptsImg file image
         go true f = absurd (not-both image _ (sym e ∙ area-short file area (ltb-true area area_bytes f)))
-        go false f = inside (ltb-false area area_bytes f) (eqb (header_refusal file).number 0) refl
+        go false f = inside (ltb-false area area_bytes f) (header_judged file) refl
 
     -- refused, and why
-    pub img-refuses : (area : ℕ) (why : Refusal) → read_img file area ≡ refused why → RefusesImg file area why
+    pub img-refuses : (area : ℕ) (why : Refusal) → read_img file area ≡ Err why → RefusesImg file area why
     img-refuses area why e = go (ltb area area_bytes) refl
       where
-        inside : area_bytes ≤ area → (b : Bool) → eqb (header_refusal file).number 0 ≡ b → RefusesImg file area why
-        inside room true f =
-            let ok : (header_refusal file).number ≡ 0 = eqb-true (header_refusal file).number 0 f in
-            lines-refuse area why (from-headed area room ok) (sym (header-right file area room ok) ∙ e)
-        inside room false f =
-            let bad = eqb-false (header_refusal file).number 0 f in
+        inside : area_bytes ≤ area → (o : Outcome ⊤) → header_judged file ≡ o → RefusesImg file area why
+        inside room (Ok t) f =
+            lines-refuse area why (from-headed area room f) (sym (header-right file area room f) ∙ e)
+        inside room (Err w) f =
             subst (λ (v : Refusal). RefusesImg file area v)
-            (refused-same {A = Image} _ why (sym (header_refused file area room bad) ∙ e))
-            (header-refuses area room bad)
+            (refused-same {A = Image} w why (sym (header_refused file area room w f) ∙ e))
+            (header-refuses area w room f)
 
         go : (b : Bool) → ltb area area_bytes ≡ b → RefusesImg file area why
         go true f =
             let h : area < area_bytes = ltb-true area area_bytes f in
             subst (λ (v : Refusal). RefusesImg file area v)
             (refused-same {A = Image} _ why (sym (area-short file area h) ∙ e)) (area_short h)
-        go false f = inside (ltb-false area area_bytes f) (eqb (header_refusal file).number 0) refl
+        go false f = inside (ltb-false area area_bytes f) (header_judged file) refl
 
   -- a refusal has a number
   pub refuses-number : (area : ℕ) (why : Refusal) → RefusesImg file area why → why.number ≡ 0 → ⊥

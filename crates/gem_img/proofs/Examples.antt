@@ -1,10 +1,11 @@
 -- Worked examples of each rule of ticket 11, computed.
+use Rattle.std.specs.Prelude.{Ok, Err}
 use mathlib.Core.Path.{◌≡◌, refl}
 use mathlib.Core.List.{List, [], ◌∷◌, ◌++◌}
 use Prim.Native.Nat.{ℕ}
 use lib.ListN.{replicate}
 use Rattle.lists.specs.Repeated.{repeated}
-use Rattle.outcome.specs.Outcome.{Outcome, accepted, refused, refusal, none}
+use Rattle.outcome.specs.Outcome.{Outcome, refusal, none}
 use Rattle.words.specs.Word.{word_at}
 use Rattle.filling.specs.Filling.{fill_within, fill}
 use Rattle.gem_img_records.specs.Records.{control, record_at, solid_byte, fault_at}
@@ -24,10 +25,10 @@ read width lines body = read_img (header 1 8 1 2 width lines ++ body) 32000
 
 -- refused with this number at this place
 abbrev no : ℕ → ℕ → Outcome Image
-no number place = refused (refusal number place)
+no number place = Err (refusal number place)
 
 abbrev yes : ℕ → ℕ → List ℕ → Outcome Image
-yes width lines bytes = accepted (record { width = width; lines = lines; bytes = bytes })
+yes width lines bytes = Ok (record { width = width; lines = lines; bytes = bytes })
 
 pub headers : (read_img [] 31999 ≡ no 1 0)
     × (read_img (replicate 15 0) 32000 ≡ no 3 0)

@@ -1,6 +1,6 @@
 -- Laws of the header: each test picks a case, and what a header in the profile has.
 use mathlib.Core.Path.{◌≡◌, refl}
-use mathlib.Core.Bool.{true, false, not}
+use mathlib.Core.Bool.{true, not}
 use mathlib.Core.List.{List}
 use Prim.Native.Nat.{ℕ, ◌+◌, ◌*◌, ◌/◌, ◌≤◌, ◌<◌}
 use native.Mathlib.Omega.{arith}
@@ -17,10 +17,6 @@ use Rattle.gem_img.specs.Accepts.{Profiled}
 -- ---- from 1 to the most
 
 module _ (most n : ℕ) where
-  pub up-to-none : n ≡ 0 → up_to most n ≡ false
-  unfolding up_to
-  up-to-none h = rw (eq-eqb n 0 h)
-
   pub up-to-some : (n ≡ 0 → ⊥) → up_to most n ≡ leb n most
   unfolding up_to
   up-to-some h = rw (ne_eqb n 0 h)

@@ -1,4 +1,5 @@
 -- Laws of lines with scanline runs, as steps that fill the picture.
+use Rattle.std.specs.Prelude.{Ok, Err}
 use mathlib.Core.Path.{◌≡◌, refl, sym, ap, ◌∙◌}
 use mathlib.Core.Bool.{Bool, true, false, not, ◌&&◌}
 use mathlib.Core.List.{List}
@@ -11,19 +12,17 @@ use Rattle.lists.specs.Repeated.{repeated}
 use Rattle.lists.proofs.Cond.{cond-elim, cond-ltb}
 use Rattle.lists.proofs.Repeated.{length-repeated}
 use Rattle.outcome.specs.declared.Refusal.{Refusal}
-use Rattle.outcome.specs.Outcome.{Outcome, accepted, refused, map}
+use Rattle.outcome.specs.Outcome.{Outcome, map}
 use Rattle.outcome.specs.Refusal.{input_ends, wrong_scanline_run}
-use Rattle.filling.specs.declared.Ended.{Ended}
-use Rattle.filling.specs.declared.Ended.TheVariants.{At, Refused}
-use Rattle.filling.specs.Ended.{ended}
 use Rattle.filling.specs.Filling.{Step, Filling, stopped, after}
-use Rattle.filling.proofs.Filling.{fill-full, fill_step, fill-fault, made-most, made_all, ended_at, ended-refused}
+use Rattle.filling.proofs.Filling.{fill-full, fill_step, fill-fault, made-most, made_all}
 use Rattle.gem_img_records.specs.Records.{record_at, scanline_run_len, fault_at}
 use Rattle.gem_img_records.specs.Line.{refusal_at, fill_line}
 use Rattle.gem_img_records.proofs.Records.{scanline-known}
-use Rattle.gem_img_records.proofs.Line.{without-fault, with-fault, accepted-fault, line-all}
+use Rattle.gem_img_records.proofs.Line.{without-fault, with-fault, accepted-fault, line-all, line-inside}
 use Rattle.gem_img.specs.Lines.{scanline_flag, run_allowed, has_run, run_flag, run_count, run_fault, records_from}
-use Rattle.gem_img.specs.Lines.{times_used, line_step, lines_left, fill_lines}
+use Rattle.gem_img.specs.Lines.{times_used, line_start, start_line, line_step, lines_left, fill_lines}
+use Rattle.gem_img.specs.declared.LineStart.{LineStart}
 
 -- ---- a scanline run
 
@@ -159,42 +158,42 @@ module _ (pattern bytes : ℕ) (file : List ℕ) where
 
   module _ (at left : ℕ) where
     pub run-refused : (run_fault file at left ≡ 0 → ⊥)
-        → line_step pattern bytes file at left ≡ refused (refusal_at (run_fault file at left) at)
+        → line_step pattern bytes file at left ≡ Err (refusal_at (run_fault file at left) at)
     unfolding line_step
     run-refused e = with-fault (run_fault file at left) at _ e
 
     module _ (ok : run_fault file at left ≡ 0) where
-      pub line_refused : (why : Refusal) → (line_at at).ends ≡ refused why
-          → line_step pattern bytes file at left ≡ refused why
+      pub line_refused : (why : Refusal) → (line_at at).ends ≡ Err why
+          → line_step pattern bytes file at left ≡ Err why
       unfolding line_step
       line_refused why e = without-fault (run_fault file at left) at _ ok ∙ rw e
 
-      pub line-accepted : (next : ℕ) → (line_at at).ends ≡ accepted next
-          → line_step pattern bytes file at left ≡ accepted (step_to at next)
+      pub line-accepted : (next : ℕ) → (line_at at).ends ≡ Ok next
+          → line_step pattern bytes file at left ≡ Ok (step_to at next)
       unfolding line_step
       line-accepted next e = without-fault (run_fault file at left) at _ ok ∙ rw e
 
     -- an accepted step
     pub record Begun (s : Step) : Type 0 where
       pub ok : run_fault file at left ≡ 0
-      pub ends : (line_at at).ends ≡ accepted s.next
+      pub ends : (line_at at).ends ≡ Ok s.next
       pub is : s ≡ step_to at s.next
 
-    mapped : (o : Outcome ℕ) (s : Step) → map (step_to at) o ≡ accepted s
-        → (o ≡ accepted s.next) × (s ≡ step_to at s.next)
-    mapped (accepted next) s e =
+    mapped : (o : Outcome ℕ) (s : Step) → map (step_to at) o ≡ Ok s
+        → (o ≡ Ok s.next) × (s ≡ step_to at s.next)
+    mapped (Ok next) s e =
         let same : step_to at next ≡ s = cc in
-        (ap (λ (t : Step). accepted t.next) same, sym same ∙ ap (λ (t : Step). step_to at t.next) same)
-    mapped (refused why) s e = let z : ◌≡◌ {A = ℕ} 0 1 = cc in absurd (omega arith)
+        (ap (λ (t : Step). Ok t.next) same, sym same ∙ ap (λ (t : Step). step_to at t.next) same)
+    mapped (Err why) s e = let z : ◌≡◌ {A = ℕ} 0 1 = cc in absurd (omega arith)
 
-    pub begun : (s : Step) → line_step pattern bytes file at left ≡ accepted s → Begun s
+    pub begun : (s : Step) → line_step pattern bytes file at left ≡ Ok s → Begun s
     unfolding line_step
     begun s e =
         let f = accepted-fault (run_fault file at left) at (map (step_to at) (line_at at).ends) s e in
         let m = mapped (line_at at).ends s f.1 in
         record { ok = f.0; ends = m.0; is = m.1 }
 
-  pub step_less : (at left : ℕ) (s : Step) → 0 < left → line_step pattern bytes file at left ≡ accepted s
+  pub step_less : (at left : ℕ) (s : Step) → 0 < left → line_step pattern bytes file at left ≡ Ok s
       → lines_left pattern bytes file s.next (left - s.filled) < lines_left pattern bytes file at left
   step_less at left s h e =
       let b = begun at left s e in
@@ -202,13 +201,13 @@ module _ (pattern bytes : ℕ) (file : List ℕ) where
       omega (arith, t.0, ap (λ (u : Step). u.filled) b.is)
 
   -- the bytes of a line used as often as its run says
-  pub length-made : (at next : ℕ) → (line_at at).ends ≡ accepted next
+  pub length-made : (at next : ℕ) → (line_at at).ends ≡ Ok next
       → length (repeated (times_used file at) (line_at at).made) ≡ times_used file at * bytes
   length-made at next e =
       length-repeated (times_used file at) (line_at at).made
       ∙ ap (λ (k : ℕ). times_used file at * k) (line-all pattern file (records_from file at) bytes next e)
 
-  sized : (at left : ℕ) (s : Step) → 0 < left → line_step pattern bytes file at left ≡ accepted s
+  sized : (at left : ℕ) (s : Step) → 0 < left → line_step pattern bytes file at left ≡ Ok s
       → (s.filled ≤ left) × (length s.made ≡ s.filled * bytes)
   sized at left s h e =
       let b = begun at left s e in
@@ -217,27 +216,27 @@ module _ (pattern bytes : ℕ) (file : List ℕ) where
 
   -- ---- the lines
 
-  pub lines-full : (at left : ℕ) → left ≡ 0 → fill_lines pattern bytes file at left ≡ stopped (accepted at)
+  pub lines-full : (at left : ℕ) → left ≡ 0 → fill_lines pattern bytes file at left ≡ stopped (Ok at)
   unfolding fill_lines
   lines-full = fill-full (line_step pattern bytes file) (lines_left pattern bytes file) step_less
 
   module _ (at left : ℕ) (h : 0 < left) where
     pub lines-run-fault : (run_fault file at left ≡ 0 → ⊥)
-        → fill_lines pattern bytes file at left ≡ stopped (refused (refusal_at (run_fault file at left) at))
+        → fill_lines pattern bytes file at left ≡ stopped (Err (refusal_at (run_fault file at left) at))
     unfolding fill_lines
     lines-run-fault e =
         fill-fault (line_step pattern bytes file) (lines_left pattern bytes file) step_less at left _ h
         (run-refused at left e)
 
     module _ (ok : run_fault file at left ≡ 0) where
-      pub lines-record-fault : (why : Refusal) → (line_at at).ends ≡ refused why
-          → fill_lines pattern bytes file at left ≡ stopped (refused why)
+      pub lines-record-fault : (why : Refusal) → (line_at at).ends ≡ Err why
+          → fill_lines pattern bytes file at left ≡ stopped (Err why)
       unfolding fill_lines
       lines-record-fault why e =
           fill-fault (line_step pattern bytes file) (lines_left pattern bytes file) step_less at left why h
           (line_refused at left ok why e)
 
-      pub lines_step : (next : ℕ) → (line_at at).ends ≡ accepted next
+      pub lines_step : (next : ℕ) → (line_at at).ends ≡ Ok next
           → fill_lines pattern bytes file at left
           ≡ after (repeated (times_used file at) (line_at at).made)
           (fill_lines pattern bytes file next (left - times_used file at))
@@ -251,23 +250,56 @@ module _ (pattern bytes : ℕ) (file : List ℕ) where
   unfolding fill_lines
   lines-most = made-most (line_step pattern bytes file) (lines_left pattern bytes file) step_less bytes sized
 
-  pub lines-all : (at left end : ℕ) → (fill_lines pattern bytes file at left).ends ≡ accepted end
+  pub lines-all : (at left end : ℕ) → (fill_lines pattern bytes file at left).ends ≡ Ok end
       → length (fill_lines pattern bytes file at left).made ≡ left * bytes
   unfolding fill_lines
   lines-all = made_all (line_step pattern bytes file) (lines_left pattern bytes file) step_less bytes sized
 
-  -- ---- the line as the code has it: from `first` on, as long as the buffer `line`, and where unpacking it ended
+  -- ---- a turn of the loop: the line that starts at an offset, and its records
 
-  module _ (at first : ℕ) (line : List ℕ) (wide : length line ≡ bytes) (start : first ≡ records_from file at) where
-    pub same_line : fill_line pattern file first (length line) ≡ line_at at
-    same_line = rw (wide, start)
+  -- it starts
+  pub record Started (at left : ℕ) (s : LineStart) : Type 0 where
+    pub ok : run_fault file at left ≡ 0
+    pub is : line_start file at ≡ s
+    pub some : 0 < s.times
+    pub few : s.times ≤ left
 
-    module _ (r : Ended) (is : r ≡ ended (fill_line pattern file first (length line)).ends) where
-      ends_so : r ≡ ended (line_at at).ends
-      ends_so = is ∙ ap (λ (f : Filling). ended f.ends) same_line
+  module _ (at left : ℕ) (h : 0 < left) where
+    -- it does not
+    pub lines-unstarted : (why : Refusal) → start_line file at left ≡ Err why
+        → fill_lines pattern bytes file at left ≡ stopped (Err why)
+    lines-unstarted why e =
+        let s : Outcome LineStart = Ok (line_start file at) in
+        let bad : run_fault file at left ≡ 0 → ⊥ =
+        λ z. (let both : s ≡ Err why = sym (without-fault (run_fault file at left) at s z) ∙ e in cc) in
+        let same : refusal_at (run_fault file at left) at ≡ why =
+        (let both : Err (refusal_at (run_fault file at left) at) ≡ Err why =
+        sym (with-fault (run_fault file at left) at s bad) ∙ e in cc) in
+        lines-run-fault at left h bad ∙ ap (λ (w : Refusal). stopped (Err w)) same
 
-      pub line-stopped : (why : Refusal) → r ≡ Refused why → (line_at at).ends ≡ refused why
-      line-stopped why e = ended-refused (line_at at).ends why (sym ends_so ∙ e)
+    pub started : (s : LineStart) → start_line file at left ≡ Ok s → Started at left s
+    started s e =
+        let f = accepted-fault (run_fault file at left) at (Ok (line_start file at)) s e in
+        let same : Ok (line_start file at) ≡ Ok s = f.1 in
+        let is : line_start file at ≡ s = cc in
+        let t = times-bounds file at left h f.0 in
+        record { ok = f.0; is = is; some = rw (← is) t.0; few = rw (← is) t.1 }
 
-      pub line-ended : (next : ℕ) → r ≡ At next → (line_at at).ends ≡ accepted next
-      line-ended next e = ended_at (line_at at).ends next (sym ends_so ∙ e)
+    module _ (s : LineStart) (b : Started at left s) where
+      abbrev pub records : Filling
+      records = fill_line pattern file s.first bytes
+
+      pub lines-broken : (why : Refusal) → records.ends ≡ Err why
+          → fill_lines pattern bytes file at left ≡ stopped (Err why)
+      lines-broken why e = lines-record-fault at left h b.ok why (rw (← b.is) at e)
+
+      module _ (next : ℕ) (e : records.ends ≡ Ok next) where
+        pub lines-turn : fill_lines pattern bytes file at left
+            ≡ after (repeated s.times records.made) (fill_lines pattern bytes file next (left - s.times))
+        lines-turn = rw (← b.is) (lines_step at left h b.ok next (rw (← b.is) at e))
+
+        pub turn-length : length (repeated s.times records.made) ≡ s.times * bytes
+        turn-length = rw (← b.is) (length-made at next (rw (← b.is) at e))
+
+        pub turn-inside : at ≤ length file → next ≤ length file
+        turn-inside i = line-inside pattern file _ bytes next (from-inside file at left i b.ok) (rw (← b.is) at e)

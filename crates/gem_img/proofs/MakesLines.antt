@@ -1,5 +1,7 @@
 -- Lines are unpacked exactly as the relations say: all made where `MakesLines` holds, and stopped where `StopsLines`
 -- does.
+use Rattle.std.specs.Prelude.{Ok, Err}
+use Rattle.outcome.specs.Outcome.{Outcome}
 use mathlib.Core.Path.{◌≡◌, refl, sym, ap, ap₂, ◌∙◌, subst}
 use mathlib.Core.Bool.{Bool, true, false}
 use mathlib.Core.Logic.{◌⊎◌, inl}
@@ -15,7 +17,6 @@ use Rattle.lists.specs.Bytes.{Bytes}
 use Rattle.lists.specs.Repeated.{repeated}
 use Rattle.lists.proofs.Cond.{cond-ltb}
 use Rattle.outcome.specs.declared.Refusal.{Refusal}
-use Rattle.outcome.specs.Outcome.{Outcome, accepted, refused}
 use Rattle.outcome.specs.Refusal.{input_ends, wrong_scanline_run}
 use Rattle.filling.specs.Filling.{Step, Filling, stopped, after}
 use Rattle.filling.proofs.Filling.{by-steps}
@@ -148,7 +149,7 @@ module _ (pattern bytes : ℕ) (file : List ℕ) (all : Bytes file) (wide : 0 < 
 
   -- of its other records
   record-halted : (at n : ℕ) (why : Refusal) → 0 < n → at ≤ length file → run_fault file at n ≡ 0
-      → (line_at pattern bytes file at).ends ≡ refused why → HaltedAt at n why
+      → (line_at pattern bytes file at).ends ≡ Err why → HaltedAt at n why
   record-halted at n why h inside ok e = go (has_run file at) refl
     where
       t : StoppedAt pattern file all (records_from file at) bytes why
@@ -183,13 +184,13 @@ module _ (pattern bytes : ℕ) (file : List ℕ) (all : Bytes file) (wide : 0 < 
 
   -- a line that is made, before others
   line_made : (at n next : ℕ) → 0 < n → at ≤ length file → run_fault file at n ≡ 0
-      → (line_at pattern bytes file at).ends ≡ accepted next
+      → (line_at pattern bytes file at).ends ≡ Ok next
       → MakesLine pattern bytes (drop (records_from file at) file) (drop next file) (line_at pattern bytes file at).made
   line_made at n next h inside ok e =
       line-makes pattern file all (records_from file at) bytes next (from-inside file at n inside ok) e
 
   made-before : (at n next end : ℕ) (made : List ℕ) → 0 < n → at ≤ length file → run_fault file at n ≡ 0
-      → (line_at pattern bytes file at).ends ≡ accepted next
+      → (line_at pattern bytes file at).ends ≡ Ok next
       → MakesLines pattern bytes (n - times_used file at) (drop next file) (drop end file) made
       → MakesLines pattern bytes n (drop at file) (drop end file)
       (repeated (times_used file at) (line_at pattern bytes file at).made ++ made)
@@ -222,7 +223,7 @@ module _ (pattern bytes : ℕ) (file : List ℕ) (all : Bytes file) (wide : 0 < 
           (times (line_at pattern bytes file at).made b.1 (all (at + 3)) b.2 m r)
 
   halted-before : (at n next : ℕ) (why : Refusal) → 0 < n → at ≤ length file → run_fault file at n ≡ 0
-      → (line_at pattern bytes file at).ends ≡ accepted next → HaltedAt next (n - times_used file at) why
+      → (line_at pattern bytes file at).ends ≡ Ok next → HaltedAt next (n - times_used file at) why
       → HaltedAt at n why
   halted-before at n next why h inside ok e t = go (has_run file at) refl
     where
@@ -267,10 +268,10 @@ module _ (pattern bytes : ℕ) (file : List ℕ) (all : Bytes file) (wide : 0 < 
   abbrev LinesExact : ℕ → ℕ → Filling → Type 0
   LinesExact at n f =
       at ≤ length file
-      → ((end : ℕ) → f.ends ≡ accepted end → MakesLines pattern bytes n (drop at file) (drop end file) f.made)
-      × ((why : Refusal) → f.ends ≡ refused why → HaltedAt at n why)
+      → ((end : ℕ) → f.ends ≡ Ok end → MakesLines pattern bytes n (drop at file) (drop end file) f.made)
+      × ((why : Refusal) → f.ends ≡ Err why → HaltedAt at n why)
 
-  exact-full : (at : ℕ) → LinesExact at 0 (stopped (accepted at))
+  exact-full : (at : ℕ) → LinesExact at 0 (stopped (Ok at))
   exact-full at h = (
     (λ end e.
         let same : at ≡ end = cc in
@@ -280,10 +281,10 @@ module _ (pattern bytes : ℕ) (file : List ℕ) (all : Bytes file) (wide : 0 < 
 
   -- a step that is refused, at its run or at another record
   step-halted : (at n : ℕ) (why : Refusal) → 0 < n → at ≤ length file
-      → line_step pattern bytes file at n ≡ refused why → HaltedAt at n why
+      → line_step pattern bytes file at n ≡ Err why → HaltedAt at n why
   step-halted at n why h inside e = go (eqb (run_fault file at n) 0) refl (line_at pattern bytes file at).ends refl
     where
-      same : (v w : Refusal) → ◌≡◌ {A = Outcome Step} (refused v) (refused w) → v ≡ w
+      same : (v w : Refusal) → ◌≡◌ {A = Outcome Step} (Err v) (Err w) → v ≡ w
       same v w p = cc
 
       go : (b : Bool) → eqb (run_fault file at n) 0 ≡ b → (o : Outcome ℕ) → (line_at pattern bytes file at).ends ≡ o
@@ -297,25 +298,25 @@ module _ (pattern bytes : ℕ) (file : List ℕ) (all : Bytes file) (wide : 0 < 
             is = sym (same _ why (sym (run-refused pattern bytes file at n bad) ∙ e));
             stops = run-halted at n h inside bad;
           }
-      go true f (accepted next) g =
+      go true f (Ok next) g =
           let ok : run_fault file at n ≡ 0 = eqb-true (run_fault file at n) 0 f in
-          let y : accepted (step_to pattern bytes file at next) ≡ refused why =
+          let y : Ok (step_to pattern bytes file at next) ≡ Err why =
           sym (line-accepted pattern bytes file at n ok next g) ∙ e in
           let z : ◌≡◌ {A = ℕ} 0 1 = cc in
           absurd (omega arith)
-      go true f (refused w) g =
+      go true f (Err w) g =
           let ok : run_fault file at n ≡ 0 = eqb-true (run_fault file at n) 0 f in
           let is : w ≡ why = same w why (sym (line_refused pattern bytes file at n ok w g) ∙ e) in
           subst (λ (v : Refusal). HaltedAt at n v) is (record-halted at n w h inside ok g)
 
-  exact-fault : (at n : ℕ) (why : Refusal) → 0 < n → line_step pattern bytes file at n ≡ refused why
-      → LinesExact at n (stopped (refused why))
+  exact-fault : (at n : ℕ) (why : Refusal) → 0 < n → line_step pattern bytes file at n ≡ Err why
+      → LinesExact at n (stopped (Err why))
   exact-fault at n why h e inside = (
     (λ end f. let z : ◌≡◌ {A = ℕ} 0 1 = cc in absurd (omega arith)),
     (λ w f. let same : why ≡ w = cc in subst (λ (v : Refusal). HaltedAt at n v) same (step-halted at n why h inside e)),
   )
 
-  exact-step : (at n : ℕ) (s : Step) (f : Filling) → 0 < n → line_step pattern bytes file at n ≡ accepted s
+  exact-step : (at n : ℕ) (s : Step) (f : Filling) → 0 < n → line_step pattern bytes file at n ≡ Ok s
       → LinesExact s.next (n - s.filled) f → LinesExact at n (after s.made f)
   exact-step at n s f h ok rest inside =
       let g = begun pattern bytes file at n s ok in
@@ -342,12 +343,12 @@ module _ (pattern bytes : ℕ) (file : List ℕ) (all : Bytes file) (wide : 0 < 
       by-steps (line_step pattern bytes file) (lines_left pattern bytes file) (step_less pattern bytes file) LinesExact
       exact-full exact-fault exact-step
 
-  pub lines-made : (at n end : ℕ) → at ≤ length file → (fill_lines pattern bytes file at n).ends ≡ accepted end
+  pub lines-made : (at n end : ℕ) → at ≤ length file → (fill_lines pattern bytes file at n).ends ≡ Ok end
       → MakesLines pattern bytes n (drop at file) (drop end file) (fill_lines pattern bytes file at n).made
   lines-made at n end h = (lines-exact at n h).0 end
 
   pub lines-halted : (at n : ℕ) (why : Refusal) → at ≤ length file
-      → (fill_lines pattern bytes file at n).ends ≡ refused why → HaltedAt at n why
+      → (fill_lines pattern bytes file at n).ends ≡ Err why → HaltedAt at n why
   lines-halted at n why h = (lines-exact at n h).1 why
 
 -- ---- the function from the relations
@@ -409,14 +410,14 @@ module _ (pattern bytes : ℕ) (file : List ℕ) (wide : 0 < bytes) where
   -- a scanline run that is a bad one
   run-bad : (at n flag count : ℕ) {rest : List ℕ} → Stands file at (0 ∷ 0 ∷ flag ∷ count ∷ rest) → 0 < n
       → run_allowed flag count n ≡ false
-      → (fill_lines pattern bytes file at n).ends ≡ refused (refusal_at wrong_scanline_run at)
+      → (fill_lines pattern bytes file at n).ends ≡ Err (refusal_at wrong_scanline_run at)
   run-bad at n flag count {rest} a h bad =
       let r = run-bytes file at flag count rest a.bytes in
       let not-allowed : run_allowed (run_flag file at) (run_count file at) n ≡ false = rw (r.flag_is, r.count-is) bad in
       let e : run_fault file at n ≡ wrong_scanline_run = run-wrong file at r.run n r.has not-allowed in
       let some : run_fault file at n ≡ 0 → ⊥ = λ z. let y : wrong_scanline_run ≡ 0 = sym e ∙ z in omega arith in
       ap (λ (f : Filling). f.ends) (lines-run-fault pattern bytes file at n h some)
-      ∙ ap (λ (k : ℕ). refused (refusal_at k at)) e
+      ∙ ap (λ (k : ℕ). Err (refusal_at k at)) e
 
   -- a line of the relation, used so many times
   record LineAt (at n count : ℕ) (next line : List ℕ) : Type 0 where
@@ -430,7 +431,7 @@ module _ (pattern bytes : ℕ) (file : List ℕ) (wide : 0 < bytes) where
       → MakesLine pattern bytes input next line → LineAt at n count next line
   line-at at n count from {input} {next} {line} h ok start used a m =
       let f = makes-line pattern file from a m in
-      let same : line_at pattern bytes file at ≡ record { made = line; ends = accepted f.end } =
+      let same : line_at pattern bytes file at ≡ record { made = line; ends = Ok f.end } =
       ap (λ (k : ℕ). fill_line pattern file k bytes) start ∙ f.fills in
       record {
         to = f.end;
@@ -457,7 +458,7 @@ module _ (pattern bytes : ℕ) (file : List ℕ) (wide : 0 < bytes) where
   pub record MadeAt (at n : ℕ) (rest made : List ℕ) : Type 0 where
     pub end : ℕ
     pub stands : Stands file end rest
-    pub fills : fill_lines pattern bytes file at n ≡ record { made = made; ends = accepted end }
+    pub fills : fill_lines pattern bytes file at n ≡ record { made = made; ends = Ok end }
 
   pub makes-lines : (at : ℕ) {n : ℕ} {input rest made : List ℕ} → Stands file at input
       → MakesLines pattern bytes n input rest made → MadeAt at n rest made
@@ -482,7 +483,7 @@ module _ (pattern bytes : ℕ) (file : List ℕ) (wide : 0 < bytes) where
   pub record StopsAt (at n number : ℕ) (rest : List ℕ) : Type 0 where
     pub place : ℕ
     pub stands : Stands file place rest
-    pub ends : (fill_lines pattern bytes file at n).ends ≡ refused (refusal_at number place)
+    pub ends : (fill_lines pattern bytes file at n).ends ≡ Err (refusal_at number place)
 
   -- a line that stops, from where its records begin
   stops-from : (at n number from : ℕ) {input rest : List ℕ} → 0 < n → run_fault file at n ≡ 0
@@ -490,7 +491,7 @@ module _ (pattern bytes : ℕ) (file : List ℕ) (wide : 0 < bytes) where
       → StopsAt at n number rest
   stops-from at n number from h ok start a s =
       let t = stops-line pattern file from a s in
-      let e : (line_at pattern bytes file at).ends ≡ refused (refusal_at number t.place) =
+      let e : (line_at pattern bytes file at).ends ≡ Err (refusal_at number t.place) =
       ap (λ (k : ℕ). (fill_line pattern file k bytes).ends) start ∙ t.ends in
       record {
         place = t.place;
@@ -512,7 +513,7 @@ module _ (pattern bytes : ℕ) (file : List ℕ) (wide : 0 < bytes) where
             stands = t.1;
             ends =
                 ap (λ (f : Filling). f.ends) (lines-run-fault pattern bytes file at n h some)
-                ∙ ap (λ (k : ℕ). refused (refusal_at k at)) (e ∙ sym t.0);
+                ∙ ap (λ (k : ℕ). Err (refusal_at k at)) (e ∙ sym t.0);
           }
 
       go : (b : Bool) → has_run file at ≡ b → StopsAt at n number rest

@@ -1,10 +1,10 @@
 -- The size of an accepted image, and the area it is read into.
+use Rattle.std.specs.Prelude.{Ok}
 use mathlib.Core.Path.{◌≡◌, refl, sym, ap, ◌∙◌}
 use mathlib.Core.List.{List}
 use Prim.Native.Nat.{ℕ, ◌+◌, ◌*◌, ◌/◌, ◌≤◌, ◌<◌}
 use lib.ListN.{length, get_or}
 use Rattle.lists.proofs.Over.{get_or-over-in, get_or-over-past}
-use Rattle.outcome.specs.Outcome.{accepted}
 use Rattle.filling.specs.Filling.{Filling}
 use Rattle.gem_img.specs.Header.{header_bytes, pattern, width, lines, bytes_per_line}
 use Rattle.gem_img.specs.Reading.{Image, read_img, img_area}
@@ -27,10 +27,10 @@ module _ (file : List ℕ) (image : Image) (a : AcceptsImg file image) where
       ∙ rw (a.shown_width, a.shown_lines, line-bytes (width file))
 
   -- the area then holds its bytes at the front, and what it held behind them
-  pub area-front : (area : List ℕ) (k : ℕ) → read_img file (length area) ≡ accepted image → k < length image.bytes
+  pub area-front : (area : List ℕ) (k : ℕ) → read_img file (length area) ≡ Ok image → k < length image.bytes
       → get_or (img_area (read_img file (length area)) area) k 0 ≡ get_or image.bytes k 0
   area-front area k e h = rw e (get_or-over-in image.bytes area k 0 h)
 
-  pub area-later : (area : List ℕ) (k : ℕ) → read_img file (length area) ≡ accepted image → length image.bytes ≤ k
+  pub area-later : (area : List ℕ) (k : ℕ) → read_img file (length area) ≡ Ok image → length image.bytes ≤ k
       → get_or (img_area (read_img file (length area)) area) k 0 ≡ get_or area k 0
   area-later area k e h = rw e (get_or-over-past image.bytes area k 0 h)

@@ -1,11 +1,12 @@
 -- The lines of a GEM IMG file, with scanline runs (source 002; document 02, ticket 11).
-use Rattle.std.specs.Prelude.{ℕ, ◌+◌, ◌-◌, Bool, cond, not, ◌&&◌, List, length, get_or, ltb, leb, eqb}
+use Rattle.std.specs.Prelude.{ℕ, ◌+◌, ◌-◌, Bool, cond, not, ◌&&◌, List, length, get_or, ltb, leb, eqb, Ok}
 use Rattle.lists.specs.Repeated.{repeated}
 use Rattle.outcome.specs.Outcome.{Outcome, map}
 use Rattle.outcome.specs.Refusal.{input_ends, wrong_scanline_run}
 use Rattle.filling.specs.Filling.{Step, Filling, fill}
 use Rattle.gem_img_records.specs.Records.{record_at, is_scanline_run, scanline_run_len}
 use Rattle.gem_img_records.specs.Line.{unless_fault, fill_line}
+use Rattle.gem_img.specs.declared.LineStart.{LineStart}
 
 -- the byte behind the 00 00 of a scanline run
 abbrev pub scanline_flag : ℕ
@@ -42,6 +43,13 @@ module _ (file : List ℕ) (at : ℕ) where
   -- how many times the line is used
   unfoldable pub times_used : ℕ
   times_used = cond has_run run_count 1
+
+  abbrev pub line_start : LineStart
+  line_start = record { first = records_from; times = times_used }
+
+  -- the line at an offset begun, where so many lines are left
+  abbrev pub start_line : ℕ → Outcome LineStart
+  start_line left = unless_fault (run_fault left) at (Ok line_start)
 
 -- a line of `bytes` bytes
 module _ (pattern bytes : ℕ) (file : List ℕ) where

@@ -1,10 +1,10 @@
 -- Reading a GEM IMG file: the whole judgement and what an accepted file gives (document 02, ticket 11).
-use Rattle.std.specs.Prelude.{ℕ, cond, not, List, length, ltb}
+use Rattle.std.specs.Prelude.{ℕ, cond, not, List, length, ltb, Ok, Err, ⊤}
 use Rattle.lists.specs.Over.{over}
-use Rattle.outcome.specs.declared.Refusal.{Refusal}
-use Rattle.outcome.specs.Outcome.{Outcome, accepted, refused, refusal, none, refuse_if, bind, later, refusal_of}
+use Rattle.outcome.specs.Outcome.{Outcome, refusal, none, refuse_if, map, bind, later}
 use Rattle.outcome.specs.Refusal.{area_too_short, wrong_length, wrong_tail, outside_profile}
 use Rattle.filling.specs.Filling.{Filling}
+use Rattle.gem_img.specs.declared.ImgSize.{ImgSize}
 use Rattle.gem_img.specs.declared.ImgAnswer.{ImgAnswer}
 use Rattle.gem_img.specs.Header.{least_header_bytes, header_bytes, pattern, width, lines, in_profile, bytes_per_line}
 use Rattle.gem_img.specs.Lines.{fill_lines}
@@ -26,8 +26,8 @@ fill_image file = fill_lines (pattern file) (bytes_per_line (width file)) file (
 -- no byte may be left behind the last line
 abbrev pub judge_end : List ℕ → Filling → ℕ → Outcome Image
 judge_end file f end =
-    cond (ltb end (length file)) (refused (refusal wrong_tail end))
-    (accepted (record { width = width file; lines = lines file; bytes = f.made }))
+    cond (ltb end (length file)) (Err (refusal wrong_tail end))
+    (Ok (record { width = width file; lines = lines file; bytes = f.made }))
 
 -- a file whose header is judged
 unfoldable pub read_lines : List ℕ → Outcome Image
@@ -41,9 +41,9 @@ judge_header file further =
     (refuse_if (not (in_profile file)) outside_profile
     further))
 
--- why length or profile is refused, or none
-unfoldable pub header_refusal : List ℕ → Refusal
-header_refusal file = refusal_of {A = Unit {0}} (judge_header file (accepted tt))
+-- length and profile judged
+unfoldable pub header_judged : List ℕ → Outcome ⊤
+header_judged file = judge_header file (Ok tt)
 
 -- a file into an area of `area` bytes
 unfoldable pub read_img : List ℕ → ℕ → Outcome Image
@@ -52,10 +52,17 @@ read_img file area =
     (judge_header file
     (read_lines file))
 
--- a refusal gives 0 in all else
+-- what is given of an image besides its bytes
+abbrev pub img_size : Image → ImgSize
+img_size i = record { width = i.width; lines = i.lines }
+
+-- C's answer of what is given: a refusal gives 0 in all else
+abbrev pub given_img_answer : Outcome ImgSize → ImgAnswer
+given_img_answer (Ok s) = record { refusal = none; width = s.width; lines = s.lines }
+given_img_answer (Err why) = record { refusal = why; width = 0; lines = 0 }
+
 abbrev pub img_answer : Outcome Image → ImgAnswer
-img_answer (accepted i) = record { refusal = none; width = i.width; lines = i.lines }
-img_answer (refused why) = record { refusal = why; width = 0; lines = 0 }
+img_answer o = given_img_answer (map img_size o)
 
 -- the area's later content: the lines over its front; after a refusal as it was
 abbrev pub img_area : Outcome Image → List ℕ → List ℕ

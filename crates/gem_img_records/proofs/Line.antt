@@ -1,4 +1,6 @@
 -- Laws of a line's records as steps that fill it.
+use Rattle.std.specs.Prelude.{Ok, Err}
+use Rattle.outcome.specs.Outcome.{Outcome}
 use mathlib.Core.Path.{◌≡◌, sym, ap, ◌∙◌}
 use mathlib.Core.List.{List}
 use Prim.Native.Nat.{ℕ, ◌+◌, ◌-◌, ◌*◌, ◌≤◌, ◌<◌}
@@ -7,7 +9,6 @@ use native.Mathlib.Nat.{mul-one}
 use lib.ListN.{length}
 use borrow.Author.Tests.{eq-eqb, ne_eqb}
 use Rattle.lists.proofs.Cond.{cond-eqb}
-use Rattle.outcome.specs.Outcome.{Outcome, accepted, refused}
 use Rattle.filling.specs.Filling.{Step, stopped, after}
 use Rattle.filling.proofs.Filling.{fill-full, fill_step, fill-fault, by-steps, made-most, made_all}
 use Rattle.gem_img_records.specs.Records.{record_at, packed_len, line_len, line_bytes, fault_at}
@@ -16,18 +17,17 @@ use Rattle.gem_img_records.proofs.Records.{Whole, whole}
 
 -- ---- what a fault does to a step
 
-pub without-fault : (number at : ℕ) (further : Outcome Step) → number ≡ 0 → unless_fault number at further ≡ further
-without-fault number at further e = rw (eq-eqb number 0 e)
+module _ {A : Type 0} (number at : ℕ) (further : Outcome A) where
+  pub without-fault : number ≡ 0 → unless_fault number at further ≡ further
+  without-fault e = rw (eq-eqb number 0 e)
 
-pub with-fault : (number at : ℕ) (further : Outcome Step) → (number ≡ 0 → ⊥)
-    → unless_fault number at further ≡ refused (refusal_at number at)
-with-fault number at further e = rw (ne_eqb number 0 e)
+  pub with-fault : (number ≡ 0 → ⊥) → unless_fault number at further ≡ Err (refusal_at number at)
+  with-fault e = rw (ne_eqb number 0 e)
 
-pub accepted-fault : (number at : ℕ) (further : Outcome Step) (s : Step) → unless_fault number at further ≡ accepted s
-    → (number ≡ 0) × (further ≡ accepted s)
-accepted-fault number at further s =
-    cond-eqb (λ o. o ≡ accepted s → (number ≡ 0) × (further ≡ accepted s)) number 0 (λ h e. (h, e))
-    (λ h e. let z : ◌≡◌ {A = ℕ} 0 1 = cc in absurd (omega arith))
+  pub accepted-fault : (a : A) → unless_fault number at further ≡ Ok a → (number ≡ 0) × (further ≡ Ok a)
+  accepted-fault a =
+      cond-eqb (λ o. o ≡ Ok a → (number ≡ 0) × (further ≡ Ok a)) number 0 (λ h e. (h, e))
+      (λ h e. let z : ◌≡◌ {A = ℕ} 0 1 = cc in absurd (omega arith))
 
 -- ---- a record as a step
 
@@ -41,35 +41,35 @@ module _ (pattern : ℕ) (file : List ℕ) where
   }
 
   pub step-whole : (at room : ℕ) → fault_at pattern file at room ≡ 0
-      → record_step pattern file at room ≡ accepted (step_of at)
+      → record_step pattern file at room ≡ Ok (step_of at)
   unfolding record_step
-  step-whole at room e = without-fault (fault_at pattern file at room) at (accepted (step_of at)) e
+  step-whole at room e = without-fault (fault_at pattern file at room) at (Ok (step_of at)) e
 
   pub step-fault : (at room : ℕ) → (fault_at pattern file at room ≡ 0 → ⊥)
-      → record_step pattern file at room ≡ refused (refusal_at (fault_at pattern file at room) at)
+      → record_step pattern file at room ≡ Err (refusal_at (fault_at pattern file at room) at)
   unfolding record_step
-  step-fault at room e = with-fault (fault_at pattern file at room) at (accepted (step_of at)) e
+  step-fault at room e = with-fault (fault_at pattern file at room) at (Ok (step_of at)) e
 
-  pub step-accepted : (at room : ℕ) (s : Step) → record_step pattern file at room ≡ accepted s
+  pub step-accepted : (at room : ℕ) (s : Step) → record_step pattern file at room ≡ Ok s
       → (fault_at pattern file at room ≡ 0) × (s ≡ step_of at)
   unfolding record_step
   step-accepted at room s e =
-      let f = accepted-fault (fault_at pattern file at room) at (accepted (step_of at)) s e in
-      let same : accepted (step_of at) ≡ accepted s = f.1 in
+      let f = accepted-fault (fault_at pattern file at room) at (Ok (step_of at)) s e in
+      let same : Ok (step_of at) ≡ Ok s = f.1 in
       (f.0, cc)
 
   pub whole_here : (at room : ℕ) → fault_at pattern file at room ≡ 0 → Whole pattern file at room (record_at file at)
   unfolding fault_at
   whole_here at room e = whole pattern file at room (record_at file at) e
 
-  pub step_less : (at room : ℕ) (s : Step) → 0 < room → record_step pattern file at room ≡ accepted s
+  pub step_less : (at room : ℕ) (s : Step) → 0 < room → record_step pattern file at room ≡ Ok s
       → bytes_ahead pattern file s.next (room - s.filled) < bytes_ahead pattern file at room
   step_less at room s h ok =
       let f = step-accepted at room s ok in
       let w = whole_here at room f.0 in
       omega (arith, w.has, w.takes, ap (λ (t : Step). t.next) f.1)
 
-  sized : (at room : ℕ) (s : Step) → 0 < room → record_step pattern file at room ≡ accepted s
+  sized : (at room : ℕ) (s : Step) → 0 < room → record_step pattern file at room ≡ Ok s
       → (s.filled ≤ room) × (length s.made ≡ s.filled * 1)
   sized at room s h ok =
       let f = step-accepted at room s ok in
@@ -78,7 +78,7 @@ module _ (pattern : ℕ) (file : List ℕ) where
 
   -- ---- a line
 
-  pub line-full : (at room : ℕ) → room ≡ 0 → fill_line pattern file at room ≡ stopped (accepted at)
+  pub line-full : (at room : ℕ) → room ≡ 0 → fill_line pattern file at room ≡ stopped (Ok at)
   unfolding fill_line
   line-full = fill-full (record_step pattern file) (bytes_ahead pattern file) step_less
 
@@ -92,7 +92,7 @@ module _ (pattern : ℕ) (file : List ℕ) where
       (step-whole at room e)
 
   pub line-fault : (at room : ℕ) → 0 < room → (fault_at pattern file at room ≡ 0 → ⊥)
-      → fill_line pattern file at room ≡ stopped (refused (refusal_at (fault_at pattern file at room) at))
+      → fill_line pattern file at room ≡ stopped (Err (refusal_at (fault_at pattern file at room) at))
   unfolding fill_line
   line-fault at room h e =
       fill-fault (record_step pattern file) (bytes_ahead pattern file) step_less at room _ h (step-fault at room e)
@@ -107,19 +107,19 @@ module _ (pattern : ℕ) (file : List ℕ) where
         mul-one room,
       )
 
-  pub line-all : (at room end : ℕ) → (fill_line pattern file at room).ends ≡ accepted end
+  pub line-all : (at room end : ℕ) → (fill_line pattern file at room).ends ≡ Ok end
       → length (fill_line pattern file at room).made ≡ room
   unfolding fill_line
   line-all at room end e =
       made_all (record_step pattern file) (bytes_ahead pattern file) step_less 1 sized at room end e ∙ mul-one room
 
   -- and it ends in the file
-  pub line-inside : (at room end : ℕ) → at ≤ length file → (fill_line pattern file at room).ends ≡ accepted end
+  pub line-inside : (at room end : ℕ) → at ≤ length file → (fill_line pattern file at room).ends ≡ Ok end
       → end ≤ length file
   unfolding fill_line
   line-inside at room end =
       by-steps (record_step pattern file) (bytes_ahead pattern file) step_less
-      (λ at room f. at ≤ length file → f.ends ≡ accepted end → end ≤ length file)
+      (λ at room f. at ≤ length file → f.ends ≡ Ok end → end ≤ length file)
       (λ at h e. let same : at ≡ end = cc in omega arith)
       (λ at room why h bad k e. let z : ◌≡◌ {A = ℕ} 0 1 = cc in absurd (omega arith))
       (λ at room s f h ok rest k e.

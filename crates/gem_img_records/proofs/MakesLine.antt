@@ -1,4 +1,6 @@
 -- A line is unpacked exactly as the relations say: full where `MakesLine` holds, and stopped where `StopsLine` does.
+use Rattle.std.specs.Prelude.{Ok, Err}
+use Rattle.outcome.specs.Outcome.{Outcome}
 use mathlib.Core.Path.{◌≡◌, refl, sym, ap, ap₂, ◌∙◌, subst}
 use mathlib.Core.List.{List, []}
 use Prim.Native.Nat.{ℕ, ◌+◌, ◌-◌, ◌≤◌, ◌<◌}
@@ -7,7 +9,6 @@ use lib.ListN.{length, drop}
 use lib.Seq.{get_or-drop, drop-drop}
 use Rattle.lists.specs.Bytes.{Bytes}
 use Rattle.outcome.specs.declared.Refusal.{Refusal}
-use Rattle.outcome.specs.Outcome.{Outcome, accepted, refused}
 use Rattle.filling.specs.Filling.{Step, Filling, stopped, after}
 use Rattle.filling.proofs.Filling.{by-steps}
 use Rattle.gem_img_records.specs.declared.Record.{Record}
@@ -63,10 +64,10 @@ module _ (pattern : ℕ) (file : List ℕ) (bytes : Bytes file) where
   abbrev LineExact : ℕ → ℕ → Filling → Type 0
   LineExact at room f =
       at ≤ length file
-      → ((end : ℕ) → f.ends ≡ accepted end → MakesLine pattern room (drop at file) (drop end file) f.made)
-      × ((why : Refusal) → f.ends ≡ refused why → StoppedAt at room why)
+      → ((end : ℕ) → f.ends ≡ Ok end → MakesLine pattern room (drop at file) (drop end file) f.made)
+      × ((why : Refusal) → f.ends ≡ Err why → StoppedAt at room why)
 
-  exact-full : (at : ℕ) → LineExact at 0 (stopped (accepted at))
+  exact-full : (at : ℕ) → LineExact at 0 (stopped (Ok at))
   exact-full at h = (
     (λ end e.
         let same : at ≡ end = cc in
@@ -74,13 +75,13 @@ module _ (pattern : ℕ) (file : List ℕ) (bytes : Bytes file) where
     (λ why e. let z : ◌≡◌ {A = ℕ} 0 1 = cc in absurd (omega arith)),
   )
 
-  exact-fault : (at room : ℕ) (why : Refusal) → 0 < room → record_step pattern file at room ≡ refused why
-      → LineExact at room (stopped (refused why))
+  exact-fault : (at room : ℕ) (why : Refusal) → 0 < room → record_step pattern file at room ≡ Err why
+      → LineExact at room (stopped (Err why))
   exact-fault at room why h e k = (
     (λ end f. let z : ◌≡◌ {A = ℕ} 0 1 = cc in absurd (omega arith)),
     (λ w f.
         let bad : fault_at pattern file at room ≡ 0 → ⊥ =
-        λ z. let y : accepted (step_of pattern file at) ≡ refused why = sym (step-whole pattern file at room z) ∙ e in
+        λ z. let y : Ok (step_of pattern file at) ≡ Err why = sym (step-whole pattern file at room z) ∙ e in
         let x : ◌≡◌ {A = ℕ} 0 1 = cc in omega arith in
         let same : why ≡ w = cc in
         let is : refusal_at (fault_at pattern file at room) at ≡ why =
@@ -94,10 +95,10 @@ module _ (pattern : ℕ) (file : List ℕ) (bytes : Bytes file) where
         }),
   )
     where
-      refused-same : (v w : Refusal) → ◌≡◌ {A = Outcome Step} (refused v) (refused w) → v ≡ w
+      refused-same : (v w : Refusal) → ◌≡◌ {A = Outcome Step} (Err v) (Err w) → v ≡ w
       refused-same v w p = cc
 
-  exact-step : (at room : ℕ) (s : Step) (f : Filling) → 0 < room → record_step pattern file at room ≡ accepted s
+  exact-step : (at room : ℕ) (s : Step) (f : Filling) → 0 < room → record_step pattern file at room ≡ Ok s
       → LineExact s.next (room - s.filled) f → LineExact at room (after s.made f)
   exact-step at room s f h ok rest k =
       let g = step-accepted pattern file at room s ok in
@@ -132,13 +133,13 @@ module _ (pattern : ℕ) (file : List ℕ) (bytes : Bytes file) where
       exact-fault exact-step
 
   -- a line that is full
-  pub line-makes : (at room end : ℕ) → at ≤ length file → (fill_line pattern file at room).ends ≡ accepted end
+  pub line-makes : (at room end : ℕ) → at ≤ length file → (fill_line pattern file at room).ends ≡ Ok end
       → MakesLine pattern room (drop at file) (drop end file) (fill_line pattern file at room).made
   line-makes at room end h = (line-exact at room h).0 end
 
   -- and one that is refused
   pub line-stops : (at room : ℕ) (why : Refusal) → at ≤ length file
-      → (fill_line pattern file at room).ends ≡ refused why → StoppedAt at room why
+      → (fill_line pattern file at room).ends ≡ Err why → StoppedAt at room why
   line-stops at room why h = (line-exact at room h).1 why
 
 -- ---- the function from the relations
@@ -183,7 +184,7 @@ module _ (pattern : ℕ) (file : List ℕ) where
   pub record FullAt (at room : ℕ) (rest line : List ℕ) : Type 0 where
     pub end : ℕ
     pub stands : Stands file end rest
-    pub fills : fill_line pattern file at room ≡ record { made = line; ends = accepted end }
+    pub fills : fill_line pattern file at room ≡ record { made = line; ends = Ok end }
 
   pub makes-line : (at : ℕ) {room : ℕ} {input rest line : List ℕ} → Stands file at input
       → MakesLine pattern room input rest line → FullAt at room rest line
@@ -196,7 +197,7 @@ module _ (pattern : ℕ) (file : List ℕ) where
   pub record HaltsAt (at room number : ℕ) (rest : List ℕ) : Type 0 where
     pub place : ℕ
     pub stands : Stands file place rest
-    pub ends : (fill_line pattern file at room).ends ≡ refused (refusal_at number place)
+    pub ends : (fill_line pattern file at room).ends ≡ Err (refusal_at number place)
 
   pub stops-line : (at : ℕ) {room number : ℕ} {input rest : List ℕ} → Stands file at input
       → StopsLine pattern room input number rest → HaltsAt at room number rest
@@ -211,7 +212,7 @@ module _ (pattern : ℕ) (file : List ℕ) where
         stands = a;
         ends =
             ap (λ (g : Filling). g.ends) (line-fault pattern file at room h bad)
-            ∙ ap (λ (k : ℕ). refused (refusal_at k at)) n;
+            ∙ ap (λ (k : ℕ). Err (refusal_at k at)) n;
       }
   stops-line at {room} a (stops.and_record bytes h w fits further) =
       let s = steps-to at room a h w fits in

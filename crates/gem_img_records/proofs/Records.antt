@@ -1,10 +1,11 @@
 -- Laws of a record: its kinds by its first two bytes, and what a whole one takes and makes.
-use mathlib.Core.Path.{◌≡◌, refl, ap, ◌∙◌}
+use mathlib.Core.Path.{◌≡◌, refl, sym, ap, ◌∙◌}
 use mathlib.Core.Bool.{true, false}
 use mathlib.Core.List.{List}
-use Prim.Native.Nat.{ℕ, ◌+◌, ◌-◌, ◌*◌, ◌≤◌, ◌<◌}
+use Prim.Native.Nat.{ℕ, ◌+◌, ◌-◌, ◌*◌, ◌^◌, ◌≤◌, ◌<◌, min}
+use native.Mathlib.Decide.{dec_lt}
 use native.Mathlib.Omega.{arith}
-use lib.ListN.{length, get_or, take, drop, length-drop, length-replicate}
+use lib.ListN.{length, get_or, take, drop, length-drop, length-replicate, get_or-eq_default}
 use lib.Seq.{length-take-le}
 use borrow.Author.Tests.{eq-eqb, ne_eqb, lt-ltb, le-ltb}
 use Rattle.lists.proofs.Cond.{cond-ltb, cond-eqb}
@@ -42,11 +43,17 @@ pub solid-set : (x : ℕ) → 128 ≤ x → solid_byte x ≡ 255
 unfolding solid_byte
 solid-set x h = rw (le-ltb x 128 h)
 
--- by the two bytes at an offset
-pub record-control : (file : List ℕ) (at x n : ℕ) (r : Record) → x ≡ get_or file at 0 → n ≡ get_or file (at + 1) 0
-    → r ≡ control x n → r ≡ record_at file at
+-- by its two bytes as the code reads them: at the largest number no byte stands
+pub record-read : (file : List ℕ) (at x n next : ℕ) (r : Record) → length file < 2 ^ 64 → x ≡ get_or file at 0
+    → next ≡ min (at + 1) (2 ^ 64 - 1) → n ≡ get_or file next 0 → r ≡ control x n → r ≡ record_at file at
 unfolding record_at
-record-control file at x n r e f is = rw (is, e, f)
+record-read file at x n next r most e f g is =
+    is ∙ ap (λ (k : ℕ). control k n) e ∙ ap (control (get_or file at 0)) (g ∙ behind (dec_lt (at + 1) (2 ^ 64 - 1)))
+  where
+    behind : Dec (at + 1 < 2 ^ 64 - 1) → get_or file next 0 ≡ get_or file (at + 1) 0
+    behind (yes h) = let same : next ≡ at + 1 = omega arith in ap (λ (k : ℕ). get_or file k 0) same
+    behind (no h) =
+        get_or-eq_default file 0 {n = next} (omega arith) ∙ sym (get_or-eq_default file 0 {n = at + 1} (omega arith))
 
 -- a scanline run's two bytes
 pub scanline-zeros : (file : List ℕ) (at : ℕ) → record_at file at ≡ ScanlineRun

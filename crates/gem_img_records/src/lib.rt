@@ -1,16 +1,14 @@
 // The records of a GEM IMG file, and a line of them unpacked (document 02, ticket 11; source 002). Definitions: specs/.
 #![tactic(auto)]
 
-ghost use Rattle.std.specs.Prelude.{◌≡◌, ◌+◌, ◌-◌, ◌*◌, ◌≤◌, length, get_or, take, drop, replicate};
+ghost use Rattle.std.specs.Prelude.{◌≡◌, ◌+◌, ◌≤◌, length};
 ghost use Rattle.lists.specs.Over.{over};
-ghost use Rattle.lists.specs.Repeated.{repeated};
-ghost use Rattle.filling.specs.Ended.{ended};
+ghost use Rattle.outcome.specs.Refusal.{number_of, number_if};
 ghost use Rattle.gem_img_records.specs.Records.{control, record_at, is_scanline_run, solid_len, solid_byte, packed_len};
 ghost use Rattle.gem_img_records.specs.Records.{line_len, line_bytes, misplaced_fault, fit_fault, fault};
 ghost use Rattle.gem_img_records.specs.Line.{refusal_at, fill_line};
 
-use filling::Ended;
-use outcome::{INPUT_ENDS, RECORD_CROSSES, Refusal, WRONG_SCANLINE_RUN};
+use outcome::{Reason, Refusal};
 
 // The byte that begins a pattern or scanline run, and the one that begins a literal; any other begins a solid run.
 const RUN_CONTROL: u8 = 0;
@@ -24,7 +22,7 @@ const SET_BIT: u8 = 128;
 pub const SCANLINE_RUN_LEN: usize = 4;
 
 // What stands at an offset of a file.
-#[derive(Clone, Copy)]
+#[derive(Clone, Copy, Debug, PartialEq, Eq)]
 pub enum Record {
     // The line that it begins is used as often as its count says.
     ScanlineRun,
@@ -38,58 +36,34 @@ pub enum Record {
 
 // ---- a record
 
-// The byte at an offset; past the end 0.
-fn byte_at(file: &[u8], at: usize) -> u8
-    ensures { result ≡ get_or file.now at 0 }
-{
-    if at < file.len() { file[at] } else { 0 }
-}
-
-// The byte behind an offset; past the end 0.
-fn byte_behind(file: &[u8], at: usize) -> u8
-    ensures { result ≡ get_or file.now (at + 1) 0 }
-{
-    if at < file.len() {
-        return byte_at(file, at + 1);
-    }
-    0
-}
-
 // The record that byte x begins, n being the byte behind it.
+#[tactic(auto, unfolding(crate::specs::Records::control))]
 fn control(x: u8, n: u8) -> Record
     ensures { result ≡ control x n }
 {
-    if x == RUN_CONTROL {
-        if n == 0 {
-            return Record::ScanlineRun;
-        }
-        return Record::PatternRun(n);
+    match (x, n) {
+        (RUN_CONTROL, 0) => Record::ScanlineRun,
+        (RUN_CONTROL, n) => Record::PatternRun(n),
+        (LITERAL_CONTROL, n) => Record::Literal(n),
+        _ => Record::SolidRun(x),
     }
-    if x == LITERAL_CONTROL {
-        return Record::Literal(n);
-    }
-    Record::SolidRun(x)
 }
 
 // The record at an offset; a byte past the end counts as 0.
 pub fn record_at(file: &[u8], at: usize) -> Record
     ensures { result ≡ record_at file.now at }
 {
-    let x = byte_at(file, at);
-    let n = byte_behind(file, at);
-    control(x, n)
+    control(
+        words::byte_at(file, at),
+        words::byte_at(file, at.saturating_add(1)),
+    )
 }
 
 // Whether it is a scanline run.
 pub fn is_scanline_run(r: Record) -> bool
     ensures { result ≡ is_scanline_run r }
 {
-    match r {
-        Record::ScanlineRun => true,
-        Record::PatternRun(_) => false,
-        Record::Literal(_) => false,
-        Record::SolidRun(_) => false,
-    }
+    matches!(r, Record::ScanlineRun)
 }
 
 // The length of a solid run.
@@ -100,13 +74,11 @@ fn solid_len(x: u8) -> usize
 }
 
 // The byte that it repeats.
+#[tactic(auto, unfolding(crate::specs::Records::solid_byte))]
 fn solid_byte(x: u8) -> u8
     ensures { result ≡ solid_byte x }
 {
-    if x < SET_BIT {
-        return 0x00;
-    }
-    0xFF
+    if x < SET_BIT { 0x00 } else { 0xFF }
 }
 
 // How many bytes of the file a record takes up, with patterns of so many bytes.
@@ -134,88 +106,51 @@ fn line_len(r: Record, pattern: u16) -> usize
 }
 
 // Whether a record makes more bytes than there is room for, and then whether the file ends before it does.
-fn fit_fault(r: Record, pattern: u16, left: usize, room: usize) -> u8
-    ensures { result ≡ fit_fault pattern r left room }
+fn fit_fault(r: Record, pattern: u16, left: usize, room: usize) -> Option<Reason>
+    ensures { number_if result ≡ fit_fault pattern r left room }
 {
     if room < line_len(r, pattern) {
-        return RECORD_CROSSES;
+        return Some(Reason::RecordCrosses);
     }
     if left < packed_len(r, pattern) {
-        return INPUT_ENDS;
+        return Some(Reason::InputEnds);
     }
-    0
+    None
 }
 
-// The refusal number of a scanline run where none may stand: cut short, or out of place.
-fn misplaced_fault(left: usize) -> u8
-    ensures { result ≡ misplaced_fault left }
+// Why a scanline run is refused where none may stand: cut short, or out of place.
+fn misplaced_fault(left: usize) -> Reason
+    ensures { number_of result ≡ misplaced_fault left }
 {
     if left < SCANLINE_RUN_LEN {
-        return INPUT_ENDS;
+        return Reason::InputEnds;
     }
-    WRONG_SCANLINE_RUN
+    Reason::WrongScanlineRun
 }
 
-// The refusal number of a record, or 0, with `left` bytes of the file from its first byte on and `room` bytes of the
-// line to make.
-fn fault_of(r: Record, pattern: u16, left: usize, room: usize) -> u8
-    ensures { result ≡ fault pattern r left room }
+// Why a record is refused, if it is, with `left` bytes of the file from its first byte on and `room` bytes of the line
+// to make.
+fn fault_of(r: Record, pattern: u16, left: usize, room: usize) -> Option<Reason>
+    ensures { number_if result ≡ fault pattern r left room }
 {
     if is_scanline_run(r) {
-        return misplaced_fault(left);
+        return Some(misplaced_fault(left));
     }
     fit_fault(r, pattern, left, room)
 }
 
 // The refusal of a record at an offset: a wrong scanline run has no place.
-pub fn refusal_at(number: u8, at: usize) -> Refusal
-    ensures { result ≡ refusal_at number at }
+// The refusal itself: callers put it into `Err`.
+pub fn refusal_at(reason: Reason, at: usize) -> Refusal
+    ensures { result ≡ refusal_at (number_of reason) at }
 {
-    if number == WRONG_SCANLINE_RUN {
-        return outcome::refuse(number);
+    if reason == Reason::WrongScanlineRun {
+        return outcome::refuse(reason);
     }
-    outcome::refuse_at(number, at)
+    outcome::refuse_at(reason, at)
 }
 
 // ---- what a record makes
-
-// Copies n bytes from an offset of a source to the front of an output.
-fn put_part(source: &[u8], from: usize, n: usize, out: &mut [u8])
-    requires n_in_bounds { from + n ≤ length source.now }
-    requires n_in_bounds_2 { n ≤ length out.old }
-    ensures { out.new ≡ over (take n (drop from source.now)) out.old }
-{
-    let end = from + n;
-    byte_copy::copy(&source[from..end], out);
-}
-
-// Writes one byte n times to the front of an output.
-fn put_solid(byte: u8, n: usize, out: &mut [u8])
-    requires { n ≤ length out.old }
-    ensures { out.new ≡ over (replicate n byte) out.old }
-{
-    let mut k: usize = 0;
-    while k < n {
-        out[k] = byte;
-        k += 1;
-    }
-}
-
-// Writes n bytes from an offset of a source, so many times, to the front of an output.
-fn put_pattern(source: &[u8], from: usize, n: usize, times: usize, out: &mut [u8])
-    requires n_in_bounds { from + n ≤ length source.now }
-    requires n_in_bounds_2 { times * n ≤ length out.old }
-    ensures { out.new
-        ≡ over (repeated times (take n (drop from source.now))) out.old }
-{
-    let mut to: usize = 0;
-    let mut k: usize = 0;
-    while k < times {
-        put_part(source, from, n, &mut out[to..]);
-        to += n;
-        k += 1;
-    }
-}
 
 // Writes the bytes of the line that a whole record at an offset makes to the front of an output.
 fn put_line_bytes(file: &[u8], at: usize, r: Record, pattern: u16, out: &mut [u8])
@@ -225,43 +160,38 @@ fn put_line_bytes(file: &[u8], at: usize, r: Record, pattern: u16, out: &mut [u8
 {
     match r {
         Record::ScanlineRun => {}
-        Record::PatternRun(n) => put_pattern(file, at + 2, pattern as usize, n as usize, out),
-        Record::Literal(n) => put_part(file, at + 2, n as usize, out),
-        Record::SolidRun(x) => put_solid(solid_byte(x), solid_len(x), out),
+        Record::PatternRun(n) => copies::put_times(
+            &file[at + 2..at + 2 + pattern as usize],
+            n as usize,
+            out,
+        ),
+        Record::Literal(n) => copies::put_part(file, at + 2, n as usize, out),
+        Record::SolidRun(x) => copies::put_run(solid_byte(x), solid_len(x), out),
     }
 }
 
 // ---- a line
 
-// The bytes of a file from an offset on.
-fn left_from(len: usize, at: usize) -> usize
-    ensures { result ≡ len - at }
-{
-    if len < at {
-        return 0;
-    }
-    len - at
-}
-
-// Unpacks a line as long as the whole output, from an offset of a file. After a refusal the output holds what the
-// records before it make: a caller that must leave an output as it was lends a buffer of its own.
-pub fn unpack_line(file: &[u8], at: usize, pattern: u16, line: &mut [u8]) -> Ended
-    ensures answer { result ≡ ended (fill_line pattern file.now at (length line.old)).ends }
+// Unpacks a line as long as the whole output, from an offset of a file; answers where its records end. After a refusal
+// the output holds what the records before it make: a caller that must leave an output as it was lends a buffer of its
+// own.
+pub fn unpack_line(file: &[u8], at: usize, pattern: u16, line: &mut [u8]) -> Result<usize, Refusal>
+    ensures answer { result ≡ (fill_line pattern file.now at (length line.old)).ends }
     ensures line { line.new
         ≡ over (fill_line pattern file.now at (length line.old)).made line.old }
 {
     let width = line.len();
     let mut from = at;
     let mut to: usize = 0;
+    // By while: the step is a record.
     while to < width {
         let r = record_at(file, from);
-        let number = fault_of(r, pattern, left_from(file.len(), from), width - to);
-        if number != 0 {
-            return Ended::Refused(refusal_at(number, from));
+        if let Some(reason) = fault_of(r, pattern, file.len().saturating_sub(from), width - to) {
+            return Err(refusal_at(reason, from));
         }
         put_line_bytes(file, from, r, pattern, &mut line[to..]);
         from += packed_len(r, pattern);
         to += line_len(r, pattern);
     }
-    Ended::At(from)
+    Ok(from)
 }

@@ -1,5 +1,6 @@
 -- Document 02, ticket 8: over any sequence of calls from a new legend, each given the legend that the last one left,
 -- what a party's own successful calls determine, and what the other party can change.
+use Rattle.std.specs.Prelude.{Ok, Err}
 use mathlib.Core.Path.{◌≡◌, refl, sym, ap, ◌∙◌}
 use mathlib.Core.Bool.{Bool, true, false, not, cond, ◌&&◌}
 use mathlib.Core.List.{List, [], ◌∷◌}
@@ -9,7 +10,7 @@ use lib.Dec.{leb, eqb}
 use lib.ListN.{length}
 use borrow.Author.Tests.{eqb-false, ne_eqb, lt-ltb, ltb-true, not-true}
 use Rattle.lists.proofs.Cond.{and-true}
-use Rattle.outcome.specs.Outcome.{Outcome, accepted, refused, refuse, refusal, refuse_if, map, refusal_of}
+use Rattle.outcome.specs.Outcome.{Outcome, refuse, refusal, refuse_if, map, refusal_of}
 use Rattle.outcome.specs.Refusal.{out_of_range, not_owned}
 use Rattle.tally.specs.declared.Rectangle.{Rectangle}
 use Rattle.tally.specs.Rectangles.{judge_rectangle}
@@ -116,8 +117,8 @@ module _ (party : ℕ) (none : is_party party ≡ false) (l : Legend) where
   no-reading s resolution a class floor = rw none
 
 refusal-map : {A B : Type 0} (f : A → B) (o : Outcome A) → refusal_of (map f o) ≡ refusal_of o
-refusal-map f (accepted a) = refl
-refusal-map f (refused why) = refl
+refusal-map f (Ok a) = refl
+refusal-map f (Err why) = refl
 
 module _ (calls : List Call) (party : ℕ) where
   -- what is the same of a legend and of the part that the party owns, and of any two legends where the number is no
@@ -181,8 +182,8 @@ unfit-step l unfit c = go c.request
     no-fit false = refl
 
     unread : (o : Outcome PondCounts) → legend_after l (map (λ counts. l) o) ≡ l
-    unread (accepted p) = refl
-    unread (refused why) = refl
+    unread (Ok p) = refl
+    unread (Err why) = refl
 
     go : (request : Request) → legend_after l (outcome_of l c.party request) ≡ l
     go (set_entry v class confidence) = rw (no-fit (set_in_range c.party v class confidence))
@@ -242,7 +243,7 @@ set-number calls party v class confidence =
     (with_entry (reached calls) v party class confidence))
   where
     go : (b c : Bool) (next : Legend)
-        → refusal_of (refuse_if (not b) out_of_range (refuse_if c not_owned (accepted next)))
+        → refusal_of (refuse_if (not b) out_of_range (refuse_if c not_owned (Ok next)))
         ≡ refusal (cond b (cond c not_owned 0) out_of_range) 0
     go true true next = refl
     go true false next = refl

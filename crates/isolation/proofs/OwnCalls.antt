@@ -1,5 +1,6 @@
 -- A party's calls on the part of the legend that it owns: a reading and a release come to the same, and so does a set
 -- of an entry that is not another's; on the own part none is.
+use Rattle.std.specs.Prelude.{Ok}
 use mathlib.Core.Path.{◌≡◌, refl, sym, ap, ◌∙◌}
 use mathlib.Core.Bool.{Bool, true, false, not, cond, ◌&&◌}
 use mathlib.Core.List.{List}
@@ -9,7 +10,7 @@ use lib.ListN.{get_or}
 use borrow.Author.Tests.{ne_eqb}
 use Rattle.lists.specs.Sum.{sum}
 use Rattle.lists.proofs.Sum.{sum-ext}
-use Rattle.outcome.specs.Outcome.{Outcome, accepted, refuse_if, map}
+use Rattle.outcome.specs.Outcome.{Outcome, refuse_if, map}
 use Rattle.outcome.specs.Refusal.{out_of_range, not_owned}
 use Rattle.tally.specs.declared.Rectangle.{Rectangle}
 use Rattle.tally.specs.Counts.{tallied, tally_answer}
@@ -18,7 +19,7 @@ use Rattle.legend.specs.Entries.{entries, free, is_party, owns, is_anothers, own
 use Rattle.legend.specs.Entries.{with_entry}
 use Rattle.legend.specs.Setting.{call_fits, set_fits, setting, releasing}
 use Rattle.legend.proofs.Entries.{party-some}
-use Rattle.legend.proofs.Setting.{call_fits-fitting, set_fits-fitting}
+use Rattle.legend.proofs.Setting.{call_fitting, set_fitting}
 use Rattle.pond.specs.declared.PondCounts.{PondCounts}
 use Rattle.pond.specs.Entries.{is_sure, is_unsure, is_other}
 use Rattle.pond.specs.Reading.{entry_counts, pond_from, pond_reading}
@@ -59,18 +60,18 @@ module _ (party : ℕ) (known : is_party party ≡ true) (l : Legend) (good : Go
   unfolding releasing
   releasing-own v = rw fits-own (go (call_fits l party v) refl)
     where
-      freed : v < entries → (b : Bool) → refuse_if (not b) not_owned (accepted (with_entry own v free 0 0))
-          ≡ map (own_part party) (refuse_if (not b) not_owned (accepted (with_entry l v free 0 0)))
-      freed below true = ap accepted (sym (own-freed party l good.whole v below (party-some party known)))
+      freed : v < entries → (b : Bool) → refuse_if (not b) not_owned (Ok (with_entry own v free 0 0))
+          ≡ map (own_part party) (refuse_if (not b) not_owned (Ok (with_entry l v free 0 0)))
+      freed below true = ap Ok (sym (own-freed party l good.whole v below (party-some party known)))
       freed below false = refl
 
       go : (b : Bool) → call_fits l party v ≡ b
           → refuse_if (not b) out_of_range
-          (refuse_if (not (owns own party v)) not_owned (accepted (with_entry own v free 0 0)))
+          (refuse_if (not (owns own party v)) not_owned (Ok (with_entry own v free 0 0)))
           ≡ map (own_part party)
-          (refuse_if (not b) out_of_range (refuse_if (not (owns l party v)) not_owned (accepted (with_entry l v free 0 0))))
+          (refuse_if (not b) out_of_range (refuse_if (not (owns l party v)) not_owned (Ok (with_entry l v free 0 0))))
       go true e =
-          let below = (call_fits-fitting l party v e).below in rw (owns-own v below) (freed below (owns l party v))
+          let below = (call_fitting l party v e).below in rw (owns-own v below) (freed below (owns l party v))
       go false e = refl
 
   pub setting-own : (v class confidence : ℕ) → is_anothers l party v ≡ false
@@ -80,14 +81,14 @@ module _ (party : ℕ) (known : is_party party ≡ true) (l : Legend) (good : Go
       rw (fits-own, k) (go (set_fits l party v class confidence) refl)
     where
       next : Legend → Outcome Legend
-      next m = accepted (with_entry m v party class confidence)
+      next m = Ok (with_entry m v party class confidence)
 
       go : (b : Bool) → set_fits l party v class confidence ≡ b
           → refuse_if (not b) out_of_range (refuse_if (is_anothers own party v) not_owned (next own))
           ≡ map (own_part party) (refuse_if (not b) out_of_range (next l))
       go true e =
-          let below = (set_fits-fitting l party v class confidence e).call.below in
-          rw (anothers-own v below) (ap accepted (sym (own-set party l good.whole v below class confidence)))
+          let below = (set_fitting l party v class confidence e).call.below in
+          rw (anothers-own v below) (ap Ok (sym (own-set party l good.whole v below class confidence)))
       go false e = refl
 
   -- ---- readings

@@ -1,12 +1,13 @@
 -- One call: it leaves a legend that fits; a successful call of a party changes its own part as it would alone, and
 -- every other call leaves that part as it was.
+use Rattle.std.specs.Prelude.{Ok, Err}
 use mathlib.Core.Path.{◌≡◌, refl, sym, ap, ◌∙◌}
 use mathlib.Core.Bool.{Bool, true, false, false≢true}
 use Prim.Native.Nat.{ℕ}
 use lib.Dec.{eqb}
 use borrow.Author.Tests.{eq-eqb, ne_eqb, eqb-true, eqb-false}
 use Rattle.lists.proofs.Cond.{and-true}
-use Rattle.outcome.specs.Outcome.{Outcome, accepted, refused, map}
+use Rattle.outcome.specs.Outcome.{Outcome, map}
 use Rattle.legend.specs.declared.Legend.{Legend}
 use Rattle.legend.specs.Entries.{free, is_party, owns, is_anothers, owner_of, with_entry}
 use Rattle.legend.specs.Setting.{setting, legend_after}
@@ -32,8 +33,8 @@ module _ (P : Legend → Type 0) (l : Legend) (party : ℕ) (stays : P l)
   Left o = P (legend_after l o)
 
   left-reading : (o : Outcome PondCounts) → Left (map (λ counts. l) o)
-  left-reading (accepted a) = stays
-  left-reading (refused why) = stays
+  left-reading (Ok a) = stays
+  left-reading (Err why) = stays
 
   left-elim : (request : Request) → Left (outcome_of l party request)
   unfolding outcome_of
@@ -101,8 +102,8 @@ module _ (party : ℕ) (known : is_party party ≡ true) (l : Legend) (good : Go
       (go (pond_reading s resolution a party class floor l))
     where
       go : (o : Outcome PondCounts) → map (λ counts. own_part party l) o ≡ map (own_part party) (map (λ counts. l) o)
-      go (accepted a) = refl
-      go (refused why) = refl
+      go (Ok a) = refl
+      go (Err why) = refl
 
   -- a successful call of the party succeeds on its own part, and changes it as it changes the whole
   pub own-step : (c : Call) → is_own_success party l c ≡ true
@@ -116,16 +117,16 @@ module _ (party : ℕ) (known : is_party party ≡ true) (l : Legend) (good : Go
       go : (o : Outcome Legend) → is_accepted o ≡ true
           → (is_accepted (map (own_part party) o) ≡ true)
           × (legend_after (own_part party l) (map (own_part party) o) ≡ own_part party (legend_after l o))
-      go (accepted next) k = (refl, refl)
-      go (refused why) k = absurd (false≢true k)
+      go (Ok next) k = (refl, refl)
+      go (Err why) k = absurd (false≢true k)
 
   -- every other call leaves it as it was
   pub kept_step : (c : Call) → is_own_success party l c ≡ false → own_part party (step l c) ≡ own_part party l
   kept_step c e = go (eqb c.party party) refl
     where
       refused-left : (o : Outcome Legend) → is_accepted o ≡ false → legend_after l o ≡ l
-      refused-left (accepted a) k = absurd (false≢true (sym k))
-      refused-left (refused why) k = refl
+      refused-left (Ok a) k = absurd (false≢true (sym k))
+      refused-left (Err why) k = refl
 
       go : (b : Bool) → eqb c.party party ≡ b → own_part party (step l c) ≡ own_part party l
       go true k = ap (own_part party) (refused-left (outcome_of l c.party c.request) (rw k at e))

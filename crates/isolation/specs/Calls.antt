@@ -1,6 +1,6 @@
 -- Calls of the parties that share a legend, each given the legend that the last one left (document 02, ticket 8).
-use Rattle.std.specs.Prelude.{ℕ, ◌≡◌, Bool, true, false, cond, ◌&&◌, List, [], ◌∷◌, eqb}
-use Rattle.outcome.specs.Outcome.{Outcome, accepted, refused, map}
+use Rattle.std.specs.Prelude.{ℕ, ◌≡◌, Bool, true, false, cond, ◌&&◌, List, [], ◌∷◌, eqb, Ok, Err}
+use Rattle.outcome.specs.Outcome.{Outcome, map}
 use Rattle.outcome.specs.Refusal.{out_of_range, not_owned}
 use Rattle.tally.specs.declared.Rectangle.{Rectangle}
 use Rattle.legend.specs.declared.Legend.{Legend}
@@ -44,8 +44,8 @@ reached calls = run new_legend calls
 -- ---- the successful calls of one party
 
 abbrev pub is_accepted : {A : Type 0} → Outcome A → Bool
-is_accepted (accepted a) = true
-is_accepted (refused why) = false
+is_accepted (Ok a) = true
+is_accepted (Err why) = false
 
 -- a call of the party that succeeds
 abbrev pub is_own_success : ℕ → Legend → Call → Bool

@@ -31,6 +31,7 @@ pub struct Beside {
 }
 
 // The pond reading of a question.
+// C's struct: the clauses `whole` speak of it by `answer_to`.
 pub fn ask(screen: &[u8], question: Question, legend: Legend) -> PondAnswer
     ensures { result ≡ answer_to screen.now question legend }
 {
@@ -44,6 +45,23 @@ pub fn ask(screen: &[u8], question: Question, legend: Legend) -> PondAnswer
         question.floor,
         legend,
     )
+    .into()
+}
+
+// A reading before a call of another, the call's answer, and the reading of the legend that it gives back.
+fn read_around(screen: &[u8], question: Question, legend: Legend, call: LegendAnswer) -> Beside
+    ensures { (result.before ≡ answer_to screen.now question legend)
+        × (result.call ≡ call)
+        × (result.after ≡ answer_to screen.now question call.legend) }
+{
+    let before = ask(screen, question, legend);
+    let next = call.legend;
+    let after = ask(screen, question, next);
+    Beside {
+        before,
+        call,
+        after,
+    }
 }
 
 // No set by another, accepted or refused, changes a party's reading.
@@ -61,15 +79,8 @@ pub fn read_beside_set(
         × (result.call ≡ legend_answer legend (setting legend other register class confidence))
         × (result.after ≡ answer_to screen.now question result.call.legend) }
 {
-    let before = ask(screen, question, legend);
-    let call = legend::set_entry(legend, other, register, class, confidence);
-    let next = call.legend;
-    let after = ask(screen, question, next);
-    Beside {
-        before,
-        call,
-        after,
-    }
+    let set = legend::set_entry(legend, other, register, class, confidence);
+    read_around(screen, question, legend, legend::answer(legend, set))
 }
 
 // No release by another, accepted or refused, changes a party's reading.
@@ -85,13 +96,6 @@ pub fn read_beside_release(
         × (result.call ≡ legend_answer legend (releasing legend other register))
         × (result.after ≡ answer_to screen.now question result.call.legend) }
 {
-    let before = ask(screen, question, legend);
-    let call = legend::release_entry(legend, other, register);
-    let next = call.legend;
-    let after = ask(screen, question, next);
-    Beside {
-        before,
-        call,
-        after,
-    }
+    let released = legend::release_entry(legend, other, register);
+    read_around(screen, question, legend, legend::answer(legend, released))
 }

@@ -1,4 +1,4 @@
--- Laws of a legend's owners.
+-- Laws of a legend's entries.
 use mathlib.Core.Path.{◌≡◌}
 use mathlib.Core.Bool.{true}
 use Prim.Native.Nat.{ℕ}

@@ -1,4 +1,5 @@
 -- Laws of setting and releasing: what fits of a call, and what holds of every outcome.
+use Rattle.std.specs.Prelude.{Ok}
 use mathlib.Core.Path.{◌≡◌}
 use mathlib.Core.Bool.{true, false, not, ◌&&◌}
 use Prim.Native.Nat.{ℕ, ◌≤◌, ◌<◌}
@@ -6,7 +7,7 @@ use native.Mathlib.Omega.{arith}
 use lib.Seq.{get_or-set_same, get_or-set_other}
 use borrow.Author.Tests.{ltb-true, leb-true, not-false}
 use Rattle.lists.proofs.Cond.{cond-elim, and-true}
-use Rattle.outcome.specs.Outcome.{Outcome, accepted, refuse, Judged}
+use Rattle.outcome.specs.Outcome.{Outcome, refuse, Judged}
 use Rattle.outcome.specs.Refusal.{out_of_range, not_owned}
 use Rattle.legend.specs.declared.Legend.{Legend}
 use Rattle.legend.specs.Entries.{entries, free, is_party, owns, is_anothers, register_fits, class_fits, max_class}
@@ -25,22 +26,22 @@ pub record SetFitting (party v class confidence : ℕ) : Type 0 where
   pub confidence-le : confidence ≤ max_confidence
   pub call : Fitting party v
 
-pub call_fits-fitting : (l : Legend) (party v : ℕ) → call_fits l party v ≡ true → Fitting party v
-call_fits-fitting l party v e =
+pub call_fitting : (l : Legend) (party v : ℕ) → call_fits l party v ≡ true → Fitting party v
+call_fitting l party v e =
     let p = and-true (call_in_range party v) (legend_fits l) e in
     let q = and-true (is_party party) (register_fits v) p.0 in
     record { known = q.0; below = ltb-true v entries q.1 }
 
-pub set_fits-fitting : (l : Legend) (party v class confidence : ℕ) → set_fits l party v class confidence ≡ true
+pub set_fitting : (l : Legend) (party v class confidence : ℕ) → set_fits l party v class confidence ≡ true
     → SetFitting party v class confidence
-set_fits-fitting l party v class confidence e =
+set_fitting l party v class confidence e =
     let p = and-true (set_in_range party v class confidence) (legend_fits l) e in
     let q = and-true (class_fits class) (confidence_fits confidence && call_in_range party v) p.0 in
     let r = and-true (confidence_fits confidence) (call_in_range party v) q.1 in
     record {
       class-le = leb-true class max_class q.0;
       confidence-le = leb-true confidence max_confidence r.0;
-      call = call_fits-fitting l party v (rw r.1 p.1);
+      call = call_fitting l party v (rw r.1 p.1);
     }
 
 -- what holds of both refusals, and of the legend with the entry written, holds of the outcome
@@ -48,7 +49,7 @@ module _ (P : Outcome Legend → Type 0) (out : P (refuse out_of_range)) (unowne
     (l : Legend) (party v : ℕ) where
   pub setting-elim : (class confidence : ℕ)
       → (SetFitting party v class confidence → is_anothers l party v ≡ false
-      → P (accepted (with_entry l v party class confidence)))
+      → P (Ok (with_entry l v party class confidence)))
       → P (setting l party v class confidence)
   unfolding setting
   setting-elim class confidence written =
@@ -56,9 +57,9 @@ module _ (P : Outcome Legend → Type 0) (out : P (refuse out_of_range)) (unowne
       cond-elim P (not fit) (λ e. out)
       (λ e.
       cond-elim P (is_anothers l party v) (λ d. unowned)
-      (written (set_fits-fitting l party v class confidence (not-false fit e))))
+      (written (set_fitting l party v class confidence (not-false fit e))))
 
-  pub releasing-elim : (Fitting party v → owns l party v ≡ true → P (accepted (with_entry l v free 0 0)))
+  pub releasing-elim : (Fitting party v → owns l party v ≡ true → P (Ok (with_entry l v free 0 0)))
       → P (releasing l party v)
   unfolding releasing
   releasing-elim written =
@@ -66,7 +67,7 @@ module _ (P : Outcome Legend → Type 0) (out : P (refuse out_of_range)) (unowne
       cond-elim P (not fit) (λ e. out)
       (λ e.
       cond-elim P (not (owns l party v)) (λ d. unowned)
-      (λ d. written (call_fits-fitting l party v (not-false fit e)) (not-false (owns l party v) d)))
+      (λ d. written (call_fitting l party v (not-false fit e)) (not-false (owns l party v) d)))
 
 -- ---- what an accepted call leaves
 

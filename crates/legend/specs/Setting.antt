@@ -1,6 +1,6 @@
 -- An entry of a legend set and released by a party (document 02, ticket 8).
-use Rattle.std.specs.Prelude.{ℕ, Bool, not, ◌&&◌}
-use Rattle.outcome.specs.Outcome.{Outcome, accepted, refuse_if, later, refusal_of}
+use Rattle.std.specs.Prelude.{ℕ, Bool, not, ◌&&◌, Ok}
+use Rattle.outcome.specs.Outcome.{Outcome, refuse_if, later, refusal_of}
 use Rattle.outcome.specs.Refusal.{out_of_range, not_owned}
 use Rattle.legend.specs.declared.Legend.{Legend}
 use Rattle.legend.specs.declared.LegendAnswer.{LegendAnswer}
@@ -28,14 +28,14 @@ unfoldable pub setting : Legend → ℕ → ℕ → ℕ → ℕ → Outcome Lege
 setting l party register class confidence =
     refuse_if (not (set_fits l party register class confidence)) out_of_range
     (refuse_if (is_anothers l party register) not_owned
-    (accepted (with_entry l register party class confidence)))
+    (Ok (with_entry l register party class confidence)))
 
 -- the legend in which a party has released its own entry, which is then free
 unfoldable pub releasing : Legend → ℕ → ℕ → Outcome Legend
 releasing l party register =
     refuse_if (not (call_fits l party register)) out_of_range
     (refuse_if (not (owns l party register)) not_owned
-    (accepted (with_entry l register free 0 0)))
+    (Ok (with_entry l register free 0 0)))
 
 -- the legend that a call leaves: after a refusal the one that it was given
 abbrev pub legend_after : Legend → Outcome Legend → Legend

@@ -3,12 +3,11 @@
 #![tactic(auto)]
 
 ghost use Rattle.std.specs.Prelude.{◌≡◌, ◌<◌};
-ghost use Rattle.outcome.specs.Outcome.{refuse};
 ghost use Rattle.legend.specs.Entries.{entries, is_party, owns, is_anothers, new_legend, with_entry};
 ghost use Rattle.legend.specs.Entries.{entry_fits, legend_fits};
 ghost use Rattle.legend.specs.Setting.{call_fits, set_fits, setting, releasing, legend_answer};
 
-use outcome::{NOT_OWNED, OUT_OF_RANGE, Refusal};
+use outcome::{Reason, Refusal};
 
 // The entries of a legend, one a register.
 pub const ENTRIES: usize = 16;
@@ -36,6 +35,7 @@ pub struct Legend {
 }
 
 // The answer of a set or a release, and the legend that it leaves: after a refusal the one that was given.
+// C's struct: exported functions give it back.
 #[repr(C)]
 #[derive(Clone, Copy)]
 pub struct LegendAnswer {
@@ -55,49 +55,34 @@ pub fn new_legend() -> Legend
 }
 
 // Whether a number is one of the two parties.
+#[tactic(auto, unfolding(crate::specs::Entries::is_party))]
 pub fn is_party(party: u8) -> bool
     ensures { result ≡ is_party party }
 {
-    if party == FREE {
-        return false;
-    }
-    party <= MAX_PARTY
+    party != FREE && party <= MAX_PARTY
 }
 
 // Whether an entry may stand in a legend.
+#[tactic(auto, unfolding(crate::specs::Entries::entry_fits))]
 fn entry_fits(owner: u8, class: u8, confidence: u8) -> bool
     ensures { result ≡ entry_fits owner class confidence }
 {
-    if MAX_PARTY < owner {
-        return false;
-    }
-    if MAX_CONFIDENCE < confidence {
-        return false;
-    }
-    if owner != FREE {
-        return true;
-    }
-    if class != 0 {
-        return false;
-    }
-    confidence == 0
+    owner <= MAX_PARTY
+        && confidence <= MAX_CONFIDENCE
+        && (owner != FREE || class == 0 && confidence == 0)
 }
 
 // Whether each entry of a legend fits.
+#[tactic(auto, unfolding(crate::specs::Entries::legend_fits))]
 pub fn legend_fits(legend: Legend) -> bool
     ensures { result ≡ legend_fits legend }
 {
-    let owners = legend.owners;
-    let classes = legend.classes;
-    let confidences = legend.confidences;
+    // Each entry is judged: stopping at the first that does not fit takes more stack.
     let mut fit = true;
-    let mut v: usize = 0;
-    while v < ENTRIES {
-        let entry = entry_fits(owners[v], classes[v], confidences[v]);
-        if !entry {
+    for v in 0..ENTRIES {
+        if !entry_fits(legend.owners[v], legend.classes[v], legend.confidences[v]) {
             fit = false;
         }
-        v += 1;
     }
     fit
 }
@@ -106,27 +91,14 @@ pub fn legend_fits(legend: Legend) -> bool
 fn call_fits(legend: Legend, party: u8, register: usize) -> bool
     ensures { result ≡ call_fits legend party register }
 {
-    let known = is_party(party);
-    if !known {
-        return false;
-    }
-    if ENTRIES <= register {
-        return false;
-    }
-    legend_fits(legend)
+    is_party(party) && register < ENTRIES && legend_fits(legend)
 }
 
 // Whether class and confidence, too, are as a set needs them.
 fn set_fits(legend: Legend, party: u8, register: usize, class: u16, confidence: u8) -> bool
     ensures { result ≡ set_fits legend party register class confidence }
 {
-    if MAX_CLASS < class {
-        return false;
-    }
-    if MAX_CONFIDENCE < confidence {
-        return false;
-    }
-    call_fits(legend, party, register)
+    class <= MAX_CLASS && confidence <= MAX_CONFIDENCE && call_fits(legend, party, register)
 }
 
 // Whether an entry is neither free nor the party's.
@@ -134,12 +106,7 @@ fn is_anothers(legend: Legend, party: u8, register: usize) -> bool
     requires { register < entries }
     ensures { result ≡ is_anothers legend party register }
 {
-    let owners = legend.owners;
-    let owner = owners[register];
-    if owner == FREE {
-        return false;
-    }
-    owner != party
+    legend.owners[register] != FREE && legend.owners[register] != party
 }
 
 // Whether an entry is the party's.
@@ -147,11 +114,11 @@ fn owns(legend: Legend, party: u8, register: usize) -> bool
     requires { register < entries }
     ensures { result ≡ owns legend party register }
 {
-    let owners = legend.owners;
-    owners[register] == party
+    legend.owners[register] == party
 }
 
 // A legend with one entry written anew.
+#[tactic(auto, unfolding(crate::specs::Entries::with_entry))]
 fn with_entry(legend: Legend, register: usize, owner: u8, class: u8, confidence: u8) -> Legend
     requires { register < entries }
     ensures { result ≡ with_entry legend register owner class confidence }
@@ -163,58 +130,52 @@ fn with_entry(legend: Legend, register: usize, owner: u8, class: u8, confidence:
     next
 }
 
-// The answer of a refused set or release: the legend as it was.
-fn call_refused(legend: Legend, number: u8) -> LegendAnswer
-    ensures { result ≡ legend_answer legend (refuse number) }
+// The answer that C gets of a set or a release of a legend.
+// C's struct, and no From: of a refusal it has the legend that was given, so both are needed.
+pub fn answer(legend: Legend, given: Result<Legend, Refusal>) -> LegendAnswer
+    ensures { result ≡ legend_answer legend given }
 {
-    LegendAnswer {
-        refusal: outcome::refuse(number),
-        legend,
+    match given {
+        Ok(next) => LegendAnswer {
+            refusal: outcome::none(),
+            legend: next,
+        },
+        Err(refusal) => LegendAnswer { refusal, legend },
     }
 }
 
 // A party sets a free entry or its own, which is then its own.
+#[tactic(auto, using(crate::proofs::Setting::set_fitting), unfolding(crate::specs::Setting::setting))]
 pub fn set_entry(
     legend: Legend,
     party: u8,
     register: u8,
     class: u16,
     confidence: u8,
-) -> LegendAnswer
-    ensures { result ≡ legend_answer legend (setting legend party register class confidence) }
+) -> Result<Legend, Refusal>
+    ensures { result ≡ setting legend party register class confidence }
 {
     let at = register as usize;
-    let fits = set_fits(legend, party, at, class, confidence);
-    if !fits {
-        return call_refused(legend, OUT_OF_RANGE);
+    if !set_fits(legend, party, at, class, confidence) {
+        return Err(outcome::refuse(Reason::OutOfRange));
     }
-    let anothers = is_anothers(legend, party, at);
-    if anothers {
-        return call_refused(legend, NOT_OWNED);
+    if is_anothers(legend, party, at) {
+        return Err(outcome::refuse(Reason::NotOwned));
     }
-    let next = with_entry(legend, at, party, class as u8, confidence);
-    LegendAnswer {
-        refusal: outcome::none(),
-        legend: next,
-    }
+    Ok(with_entry(legend, at, party, class as u8, confidence))
 }
 
 // A party releases its own entry, which is then free.
-pub fn release_entry(legend: Legend, party: u8, register: u8) -> LegendAnswer
-    ensures { result ≡ legend_answer legend (releasing legend party register) }
+#[tactic(auto, using(crate::proofs::Setting::call_fitting), unfolding(crate::specs::Setting::releasing))]
+pub fn release_entry(legend: Legend, party: u8, register: u8) -> Result<Legend, Refusal>
+    ensures { result ≡ releasing legend party register }
 {
     let at = register as usize;
-    let fits = call_fits(legend, party, at);
-    if !fits {
-        return call_refused(legend, OUT_OF_RANGE);
+    if !call_fits(legend, party, at) {
+        return Err(outcome::refuse(Reason::OutOfRange));
     }
-    let own = owns(legend, party, at);
-    if !own {
-        return call_refused(legend, NOT_OWNED);
+    if !owns(legend, party, at) {
+        return Err(outcome::refuse(Reason::NotOwned));
     }
-    let next = with_entry(legend, at, FREE, 0, 0);
-    LegendAnswer {
-        refusal: outcome::none(),
-        legend: next,
-    }
+    Ok(with_entry(legend, at, FREE, 0, 0))
 }

@@ -2,13 +2,15 @@
 use mathlib.Core.Path.{◌≡◌, refl, ap, ◌∙◌}
 use mathlib.Core.Bool.{Bool, ◌&&◌}
 use mathlib.Core.List.{List}
-use Prim.Native.Nat.{ℕ, ◌+◌, ◌^◌, ◌≤◌, ◌<◌}
+use Prim.Native.Nat.{ℕ, zero, suc, ◌^◌, ◌≤◌, ◌<◌}
 use native.Mathlib.Decide.{dec_lt}
 use native.Mathlib.Numerals.{add-one}
 use native.Mathlib.Omega.{arith}
 use lib.Bits.{bit_or, or_lt, or_add_and, and_le_l, and_le_r}
 use lib.Dec.{ltb}
-use lib.ListN.{get_or}
+use lib.ListN.{length, get_or, take}
+use Rattle.std.specs.List.{fold}
+use Rattle.std.proofs.lemmas.List.Sums.{fold_more}
 use lib.Pow.{pow_pos}
 use borrow.Author.Tests.{lt-ltb, le-ltb}
 use Rattle.lists.specs.All.{all_below, all_first}
@@ -28,14 +30,12 @@ or-ltb a b p = go (dec_lt a (2 ^ p)) (dec_lt b (2 ^ p))
         let l : 2 ^ p ≤ bit_or a b = omega (arith, or_add_and a b, and_le_r a b) in
         rw (le-ltb b (2 ^ p) (omega arith), le-ltb (bit_or a b) (2 ^ p) l) refl
 
--- before the loop's first turn
-pub zero_bits : (l : List ℕ) (p : ℕ) → ltb 0 (2 ^ p) ≡ all_first 0 (λ x. ltb x (2 ^ p)) l
+-- the set bits of the first n elements
+pub or-bits : (l : List ℕ) (p n : ℕ) → n ≤ length l
+    → ltb (fold bit_or 0 (take n l)) (2 ^ p) ≡ all_first n (λ x. ltb x (2 ^ p)) l
 unfolding all_below
-zero_bits l p = lt-ltb 0 (2 ^ p) (pow_pos p)
-
--- a turn of the loop
-pub more-bits : (l : List ℕ) (i bits p : ℕ) → ltb bits (2 ^ p) ≡ all_first i (λ x. ltb x (2 ^ p)) l
-    → ltb (bit_or bits (get_or l i 0)) (2 ^ p) ≡ all_first (i + 1) (λ x. ltb x (2 ^ p)) l
-unfolding all_below
-more-bits l i bits p is =
-    or-ltb bits (get_or l i 0) p ∙ rw (add-one i) (ap (λ (b : Bool). ltb (get_or l i 0) (2 ^ p) && b) is)
+or-bits l p zero h = lt-ltb 0 (2 ^ p) (pow_pos p)
+or-bits l p (suc n) h =
+    ap (λ (b : ℕ). ltb b (2 ^ p)) (rw add-one at (fold_more bit_or 0 l n 0 h))
+    ∙ or-ltb (fold bit_or 0 (take n l)) (get_or l n 0) p
+    ∙ ap (λ (b : Bool). ltb (get_or l n 0) (2 ^ p) && b) (or-bits l p n (omega arith))

@@ -4,18 +4,21 @@ use mathlib.Core.Bool.{cond}
 use mathlib.Core.List.{List}
 use mathlib.Core.Logic.{inl, inr}
 use Prim.Native.Nat.{ℕ, zero, suc, ◌+◌, ◌-◌, ◌*◌, ◌/◌, ◌%◌, ◌^◌, ◌≤◌, ◌<◌}
-use native.Mathlib.Nat.{add-zero, add_assoc, add-mul, mul_assoc, mul_comm, mod-eq_of_lt}
+use native.Mathlib.Nat.{add-zero, add_assoc, add_comm, add-mul, mul_assoc, mul_comm, suc-mul, zero-mul, mod-eq_of_lt}
 use native.Mathlib.Omega.{arith}
 use lib.Arith.{digits_lt, digits_div, digits_mod}
 use lib.Bits.{bit_or, or_block, or_shifted}
 use lib.Dec.{eqb}
 use lib.ListN.{get_or}
+use lib.Pow.{pow-add, pow_mono}
+use native.Mathlib.Decide.{dec_lt}
 use Rattle.lists.specs.Digits.{from_bytes}
-use Rattle.lists.proofs.Digits.{from_bits-ext, from_bytes-ext, from_bytes-lt, from_bytes-digit}
+use Rattle.lists.specs.Sum.{sum}
+use Rattle.lists.proofs.Digits.{from_bits-ext, from_bytes-ext, from_bytes-lt, from_bytes-digit, cat-above, cat-below}
 use Rattle.resolution.specs.declared.Resolution.{Resolution}
 use Rattle.resolution.specs.declared.Resolution.TheVariants.{Low, Medium, High}
 use Rattle.resolution.specs.Shapes.{planes_of}
-use Rattle.lines.specs.Blocks.{four_registers, eight_registers, joined_word, two_groups, four_groups, eight_groups}
+use Rattle.lines.specs.Blocks.{four_registers, eight_registers, joined_word, groups_word}
 use Rattle.lines.specs.Blocks.{is_block_width, block_word, line_word, turn, block_byte, words_byte, groups_byte}
 use Rattle.lines.specs.Columns.{byte_of, plane_byte}
 use Rattle.lines.specs.Registers.{line_byte}
@@ -72,129 +75,74 @@ nth line at g k = get_or line (at + (g * 16 + k)) 0
 abbrev Below : List ℕ → ℕ → ℕ → ℕ → Type 0
 Below line at groups limit = (g k : ℕ) → g < groups → k < 8 → nth line at g k < limit
 
-nth-later : (line : List ℕ) (at m g k : ℕ) → nth line (at + m * 16) g k ≡ nth line at (m + g) k
-nth-later line at m g k = ap (λ (o : ℕ). get_or line o 0) (omega arith)
-
-below-later : (line : List ℕ) (at m n groups limit : ℕ) → m + n ≤ groups → Below line at groups limit
-    → Below line (at + m * 16) n limit
-below-later line at m n groups limit l b g k h i =
-    let e = nth-later line at m g k in
-    let s = b (m + g) k (omega arith) i in
-    omega (arith, e, s)
-
 eight-nth : (line : List ℕ) (at o g : ℕ) → o ≡ at + g * 16 → eight_registers line o ≡ from_bytes 8 (nth line at g)
 eight-nth line at o g e =
     eight-bytes line o
     ∙ from_bytes-ext 8 (λ k. get_or line (o + k) 0) (nth line at g)
     (λ k h. ap (λ (i : ℕ). get_or line i 0) (omega (arith, e)))
 
--- the bytes of two and of four groups
-abbrev pair : ℕ → (ℕ → ℕ) → ℕ
-pair p r = r 1 * 2 ^ p + r 0
+-- numbers below 2 ^ p, the first lowest
+abbrev packed : ℕ → (ℕ → ℕ) → ℕ → ℕ
+packed p r n = sum n (λ g. r g * 2 ^ (g * p))
 
-abbrev quad : ℕ → (ℕ → ℕ) → ℕ
-quad p r = (r 3 * 2 ^ p + r 2) * 2 ^ (p * 2) + (r 1 * 2 ^ p + r 0)
+module _ (p : ℕ) (r : ℕ → ℕ) where
+  packed-more : (n : ℕ) → packed p r (suc n) ≡ r n * 2 ^ (n * p) + packed p r n
+  unfolding sum
+  packed-more n = omega arith
 
-module _ (line : List ℕ) (p : ℕ) (sq : 2 ^ p * 2 ^ p ≤ 256) where
-  pair_lt : (at : ℕ) → Below line at 2 (2 ^ p) → (k : ℕ) → k < 8 → pair p (λ g. nth line at g k) < 2 ^ p * 2 ^ p
-  pair_lt at b k h = digits_lt (b 1 k (omega arith) h) (b 0 k (omega arith) h)
+  packed-lt : (n : ℕ) → ((g : ℕ) → g < n → r g < 2 ^ p) → packed p r n < 2 ^ (n * p)
+  unfolding sum
+  packed-lt zero b = rw (zero-mul p) (omega arith)
+  packed-lt (suc n) b =
+      rw (suc-mul n p, add_comm (n * p) p, pow-add 2 p (n * p), packed-more n)
+      (digits_lt (b n (omega arith)) (packed-lt n (λ g h. b g (omega arith))))
 
-  two_bytes : (at : ℕ) → Below line at 2 (2 ^ p)
-      → two_groups line at p ≡ from_bytes 8 (λ k. pair p (λ g. nth line at g k))
-  unfolding two_groups
-  two_bytes at b =
-      ap₂ (λ (i j : ℕ). joined_word i p j)
-      (eight-nth line at (at + 16) 1 (omega arith))
-      (eight-nth line at at 0 (omega arith))
-      ∙ joined_bytes (nth line at 1) (nth line at 0) p
-      (λ k h. omega (arith, pair_lt at b k h))
-      (λ k h. b 0 k (omega arith) h)
-      (λ k h. omega (arith, pair_lt at b k h))
+  -- each of their bits
+  packed-bit : (n q : ℕ) → ((g : ℕ) → g < n → r g < 2 ^ p) → q < n * p → bit (packed p r n) q ≡ bit (r (q / p)) (q % p)
+  packed-bit zero q b h = absurd (omega (arith, zero-mul p))
+  packed-bit (suc n) q b h = go (packed-bit n q first) (dec_lt q (n * p))
+    where
+      first : (g : ℕ) → g < n → r g < 2 ^ p
+      first g l = b g (omega arith)
 
-  module _ (sqs : 2 ^ (p * 2) ≡ 2 ^ p * 2 ^ p) (two : 2 ^ (p * 2) * 2 ^ (p * 2) ≤ 256) where
-    quad-lt : (at : ℕ) → Below line at 4 (2 ^ p) → (k : ℕ) → k < 8
-        → quad p (λ g. nth line at g k) < 2 ^ (p * 2) * 2 ^ (p * 2)
-    quad-lt at b k h =
-        digits_lt
-        (rw sqs (digits_lt (b 3 k (omega arith) h) (b 2 k (omega arith) h)))
-        (rw sqs (digits_lt (b 1 k (omega arith) h) (b 0 k (omega arith) h)))
+      go : (q < n * p → bit (packed p r n) q ≡ bit (r (q / p)) (q % p)) → Dec (q < n * p)
+          → bit (packed p r (suc n)) q ≡ bit (r (q / p)) (q % p)
+      go below (yes l) =
+          ap (λ (x : ℕ). bit x q) (packed-more n)
+          ∙ cat-below (n * p) (r n) (packed p r n) q (packed-lt n first) l
+          ∙ below l
+      go below (no l) =
+          let j : ℕ = q - n * p in
+          let e : q ≡ n * p + j = omega arith in
+          let k : j < p = omega (arith, suc-mul n p) in
+          ap₂ (λ (x i : ℕ). bit x i) (packed-more n) e
+          ∙ cat-above (n * p) (r n) (packed p r n) j (packed-lt n first)
+          ∙ ap₂ (λ (g i : ℕ). bit (r g) i)
+          (sym (digits_div n k) ∙ ap (λ (i : ℕ). i / p) (sym e))
+          (sym (digits_mod n k) ∙ ap (λ (i : ℕ). i % p) (sym e))
 
-    four_bytes : (at : ℕ) → Below line at 4 (2 ^ p)
-        → four_groups line at p ≡ from_bytes 8 (λ k. quad p (λ g. nth line at g k))
-    unfolding four_groups
-    four_bytes at b =
-        let first : Below line at 2 (2 ^ p) = λ g k h i. b g k (omega arith) i in
-        let low : ℕ → ℕ = λ k. pair p (λ g. nth line at g k) in
-        let high : ℕ → ℕ = λ k. pair p (λ g. nth line at (2 + g) k) in
-        ap₂ (λ (i j : ℕ). joined_word i (p * 2) j)
-        (two_bytes (at + 32) (below-later line at 2 2 4 (2 ^ p) (omega arith) b)
-        ∙ from_bytes-ext 8 (λ k. pair p (λ g. nth line (at + 32) g k)) high
-        (λ k h. ap₂ (λ (i j : ℕ). i * 2 ^ p + j) (nth-later line at 2 1 k) (nth-later line at 2 0 k)))
-        (two_bytes at first)
-        ∙ joined_bytes high low (p * 2)
-        (λ k h. omega (arith, quad-lt at b k h))
-        (λ k h. rw sqs (pair_lt at first k h))
-        (λ k h. omega (arith, quad-lt at b k h))
-
--- the bytes of eight groups of one plane
-abbrev octet : (ℕ → ℕ) → ℕ
-octet r = quad 1 (λ g. r (4 + g)) * 16 + quad 1 r
-
-octet-bytes : (line : List ℕ) (at : ℕ) → Below line at 8 2
-    → eight_groups line at ≡ from_bytes 8 (λ k. octet (λ g. nth line at g k))
-unfolding eight_groups
-octet-bytes line at b =
-    let first : Below line at 4 2 = λ g k h i. b g k (omega arith) i in
-    let last : Below line (at + 64) 4 2 = below-later line at 4 4 8 2 (omega arith) b in
-    let low : ℕ → ℕ = λ k. quad 1 (λ g. nth line at g k) in
-    let high : ℕ → ℕ = λ k. quad 1 (λ g. nth line at (4 + g) k) in
-    let moved : (k : ℕ) → quad 1 (λ g. nth line (at + 64) g k) ≡ high k =
-    λ k.
-    omega (
-      arith,
-      nth-later line at 4 0 k,
-      nth-later line at 4 1 k,
-      nth-later line at 4 2 k,
-      nth-later line at 4 3 k,
-    ) in
-    ap₂ (λ (i j : ℕ). joined_word i 4 j)
-    (four_bytes line 1 (omega arith) refl (omega arith) (at + 64) last
-    ∙ from_bytes-ext 8 (λ k. quad 1 (λ g. nth line (at + 64) g k)) high (λ k h. moved k))
-    (four_bytes line 1 (omega arith) refl (omega arith) at first)
-    ∙ joined_bytes high low 4
-    (λ k h. omega (arith, moved k, quad-lt line 1 (omega arith) refl (omega arith) (at + 64) last k h))
-    (λ k h. quad-lt line 1 (omega arith) refl (omega arith) at first k h)
-    (λ k h. omega (arith, quad-lt line 1 (omega arith) refl (omega arith) at first k h))
-
--- ---- bits of the bytes
-
-by-eight : (P : ℕ → Type 0) → P 0 → P 1 → P 2 → P 3 → P 4 → P 5 → P 6 → P 7 → (q : ℕ) → q < 8 → P q
-by-eight P a b c d e f g h zero l = a
-by-eight P a b c d e f g h (suc zero) l = b
-by-eight P a b c d e f g h (suc (suc zero)) l = c
-by-eight P a b c d e f g h (suc (suc (suc zero))) l = d
-by-eight P a b c d e f g h (suc (suc (suc (suc zero)))) l = e
-by-eight P a b c d e f g h (suc (suc (suc (suc (suc zero))))) l = f
-by-eight P a b c d e f g h (suc (suc (suc (suc (suc (suc zero)))))) l = g
-by-eight P a b c d e f g h (suc (suc (suc (suc (suc (suc (suc zero))))))) l = h
-by-eight P a b c d e f g h (suc (suc (suc (suc (suc (suc (suc (suc q)))))))) l = absurd (omega arith)
-
-pair-bit : (r : ℕ → ℕ) → r 0 < 16 → r 1 < 16 → (q : ℕ) → q < 8 → bit (pair 4 r) q ≡ bit (r (q / 4)) (q % 4)
-pair-bit r a b =
-    by-eight (λ q. bit (pair 4 r) q ≡ bit (r (q / 4)) (q % 4)) (omega arith) (omega arith) (omega arith) (omega arith)
-    (omega arith) (omega arith) (omega arith) (omega arith)
-
-quad-bit : (r : ℕ → ℕ) → r 0 < 4 → r 1 < 4 → r 2 < 4 → r 3 < 4 → (q : ℕ) → q < 8
-    → bit (quad 2 r) q ≡ bit (r (q / 2)) (q % 2)
-quad-bit r a b c d =
-    by-eight (λ q. bit (quad 2 r) q ≡ bit (r (q / 2)) (q % 2)) (omega arith) (omega arith) (omega arith) (omega arith)
-    (omega arith) (omega arith) (omega arith) (omega arith)
-
-octet-bit : (r : ℕ → ℕ) → r 0 < 2 → r 1 < 2 → r 2 < 2 → r 3 < 2 → r 4 < 2 → r 5 < 2 → r 6 < 2 → r 7 < 2 → (q : ℕ)
-    → q < 8 → bit (octet r) q ≡ bit (r (q / 1)) (q % 1)
-octet-bit r a b c d e f g h =
-    by-eight (λ q. bit (octet r) q ≡ bit (r (q / 1)) (q % 1)) (omega arith) (omega arith) (omega arith) (omega arith)
-    (omega arith) (omega arith) (omega arith) (omega arith)
+-- the bytes of the first groups
+groups-bytes : (line : List ℕ) (p at n : ℕ) → Below line at n (2 ^ p) → n * p ≤ 8
+    → groups_word line p at n ≡ from_bytes 8 (λ k. packed p (λ g. nth line at g k) n)
+unfolding groups_word from_bytes sum
+groups-bytes line p at zero b h = refl
+groups-bytes line p at (suc n) b h =
+    let c : ℕ → ℕ = nth line at n in
+    let d : ℕ → ℕ = λ k. packed p (λ g. nth line at g k) n in
+    let m : ℕ = n * p in
+    let few : m ≤ 8 = omega (arith, suc-mul n p) in
+    let first : Below line at n (2 ^ p) = λ g k l i. b g k (omega arith) i in
+    let low : (k : ℕ) → k < 8 → d k < 2 ^ m = λ k i. packed-lt p (λ g. nth line at g k) n (λ g l. first g k l i) in
+    let all : (k : ℕ) → k < 8 → packed p (λ g. nth line at g k) (suc n) < 2 ^ (suc n * p) =
+    λ k i. packed-lt p (λ g. nth line at g k) (suc n) (λ g l. b g k l i) in
+    let most : 2 ^ (suc n * p) ≤ 2 ^ 8 = pow_mono h in
+    ap₂ (λ (i j : ℕ). joined_word i m j) (eight-nth line at (at + n * 16) n refl) (groups-bytes line p at n first few)
+    ∙ joined_bytes c d m
+    (λ k i. omega (arith, packed-more p (λ g. nth line at g k) n, all k i, most))
+    low
+    (λ k i. omega (arith, packed-more p (λ g. nth line at g k) n, all k i, most))
+    ∙ from_bytes-ext 8 (λ k. c k * 2 ^ m + d k) (λ k. packed p (λ g. nth line at g k) (suc n))
+    (λ k i. sym (packed-more p (λ g. nth line at g k) n))
 
 -- ---- planes of a word
 
@@ -203,53 +151,25 @@ abbrev HasPlanes : List ℕ → ℕ → ℕ → ℕ → Type 0
 HasPlanes line planes at w =
     (k q : ℕ) → k < 8 → q < 8 → bit w (k * 8 + q) ≡ bit (nth line at (q / planes) k) (q % planes)
 
-two-planes : (line : List ℕ) (at : ℕ) → Below line at 2 16 → HasPlanes line 4 at (two_groups line at 4)
-two-planes line at b k q h l =
-    ap (λ (w : ℕ). bit w (k * 8 + q)) (two_bytes line 4 (omega arith) at b)
-    ∙ from_bytes-digit 8 (λ k. pair 4 (λ g. nth line at g k)) (pair_lt line 4 (omega arith) at b) k q h l
-    ∙ pair-bit (λ g. nth line at g k) (b 0 k (omega arith) h) (b 1 k (omega arith) h) q l
+groups-planes : (line : List ℕ) (p at n : ℕ) → n * p ≡ 8 → Below line at n (2 ^ p)
+    → HasPlanes line p at (groups_word line p at n)
+groups-planes line p at n all b k q h l =
+    let whole : ℕ → ℕ = λ k. packed p (λ g. nth line at g k) n in
+    let below : (k : ℕ) → k < 8 → whole k < 256 =
+    λ k i. rw all at (packed-lt p (λ g. nth line at g k) n (λ g m. b g k m i)) in
+    ap (λ (w : ℕ). bit w (k * 8 + q)) (groups-bytes line p at n b (omega arith))
+    ∙ from_bytes-digit 8 whole below k q h l
+    ∙ packed-bit p (λ g. nth line at g k) n q (λ g m. b g k m h) (omega arith)
 
-four-planes : (line : List ℕ) (at : ℕ) → Below line at 4 4 → HasPlanes line 2 at (four_groups line at 2)
-four-planes line at b k q h l =
-    let r : ℕ → ℕ = λ g. nth line at g k in
-    let low : (g : ℕ) → g < 4 → r g < 4 = λ g m. b g k m h in
-    ap (λ (w : ℕ). bit w (k * 8 + q)) (four_bytes line 2 (omega arith) refl (omega arith) at b)
-    ∙ from_bytes-digit 8 (λ k. quad 2 (λ g. nth line at g k)) (quad-lt line 2 (omega arith) refl (omega arith) at b)
-    k q h l
-    ∙ quad-bit r (low 0 (omega arith)) (low 1 (omega arith)) (low 2 (omega arith)) (low 3 (omega arith)) q l
+-- the groups of a block hold eight planes
+pub block-groups : (width : ℕ) → is_block_width width → width / 16 * (128 / width) ≡ 8
+block-groups width (inl e) = rw e refl
+block-groups width (inr (inl e)) = rw e refl
+block-groups width (inr (inr e)) = rw e refl
 
-eight-planes : (line : List ℕ) (at : ℕ) → Below line at 8 2 → HasPlanes line 1 at (eight_groups line at)
-eight-planes line at b k q h l =
-    let r : ℕ → ℕ = λ g. nth line at g k in
-    let low : (g : ℕ) → g < 8 → r g < 2 = λ g m. b g k m h in
-    ap (λ (w : ℕ). bit w (k * 8 + q)) (octet-bytes line at b)
-    ∙ from_bytes-digit 8 (λ k. octet (λ g. nth line at g k)) (λ k m. octet-lt k m) k q h l
-    ∙ octet-bit r (low 0 (omega arith)) (low 1 (omega arith)) (low 2 (omega arith)) (low 3 (omega arith))
-    (low 4 (omega arith)) (low 5 (omega arith)) (low 6 (omega arith)) (low 7 (omega arith)) q l
-  where
-    octet-lt : (k : ℕ) → k < 8 → octet (λ g. nth line at g k) < 256
-    octet-lt k m =
-        omega (
-          arith,
-          b 0 k (omega arith) m,
-          b 1 k (omega arith) m,
-          b 2 k (omega arith) m,
-          b 3 k (omega arith) m,
-          b 4 k (omega arith) m,
-          b 5 k (omega arith) m,
-          b 6 k (omega arith) m,
-          b 7 k (omega arith) m,
-        )
-
-abbrev Held : List ℕ → ℕ → ℕ → Type 0
-Held line at width =
-    Below line at (width / 16) (2 ^ (128 / width)) → HasPlanes line (128 / width) at (block_word line width at)
-
-block-planes : (line : List ℕ) (at width : ℕ) → is_block_width width → Held line at width
-unfolding block_word
-block-planes line at width (inl e) = subst (Held line at) (sym e) (two-planes line at)
-block-planes line at width (inr (inl e)) = subst (Held line at) (sym e) (four-planes line at)
-block-planes line at width (inr (inr e)) = subst (Held line at) (sym e) (eight-planes line at)
+block-planes : (line : List ℕ) (at width : ℕ) → is_block_width width → Below line at (width / 16) (2 ^ (128 / width))
+    → HasPlanes line (128 / width) at (block_word line width at)
+block-planes line at width is = groups-planes line (128 / width) at (width / 16) (block-groups width is)
 
 turn-planes : (line : List ℕ) (planes at w : ℕ) → HasPlanes line planes at w → (q : ℕ) → q < 8
     → byte_of (turn w) (7 - q) ≡ plane_byte line (at + q / planes * 16) (q % planes)

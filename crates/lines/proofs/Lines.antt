@@ -1,4 +1,6 @@
 -- Laws of line out and line in: each undoes the other.
+use Rattle.std.specs.Prelude.{Ok, Some}
+use Rattle.outcome.specs.Outcome.{Outcome}
 use mathlib.Core.Path.{◌≡◌, refl, sym, ap, ap₂, ◌∙◌}
 use mathlib.Core.Bool.{Bool, true, not}
 use mathlib.Core.List.{List}
@@ -19,11 +21,9 @@ use Rattle.lists.proofs.Sum.{sum-ext}
 use Rattle.lists.proofs.Tabulate.{length-tabulate, get_or-tabulate, tabulate-ext, tabulate-take}
 use Rattle.words.specs.Word.{word_at, word_bytes}
 use Rattle.words.proofs.Word.{word_at-lt, word_bytes-word_at}
-use Rattle.outcome.specs.Outcome.{Outcome, accepted}
 use Rattle.outcome.specs.Refusal.{area_too_short, out_of_range}
 use Rattle.outcome.proofs.Outcome.{passed}
 use Rattle.raster.specs.Offsets.{group_offset, word_offset}
-use Rattle.resolution.specs.declared.Chosen.TheVariants.{Known}
 use Rattle.resolution.specs.declared.Resolution.{Resolution}
 use Rattle.resolution.specs.declared.Resolution.TheVariants.{Low, Medium, High}
 use Rattle.resolution.specs.Choice.{chosen}
@@ -204,22 +204,22 @@ module _ (s : List ℕ) (r : Resolution) (y : ℕ) (bytes : Bytes s) where
 
 -- an accepted line lies within the screen and has room
 judge_line_at-fits : {A : Type 0} (r : Resolution) (y room : ℕ) (further : Outcome A) (a : A)
-    → judge_line_at r y room further ≡ accepted a
-    → (y < height_of r) × (width_of r ≤ room) × (further ≡ accepted a)
+    → judge_line_at r y room further ≡ Ok a
+    → (y < height_of r) × (width_of r ≤ room) × (further ≡ Ok a)
 judge_line_at-fits r y room further a e =
     let p = passed (leb (height_of r) y) out_of_range _ a e in
     let q = passed (ltb room (width_of r)) area_too_short _ a p.1 in
     (leb-false (height_of r) y p.0, ltb-false room (width_of r) q.0, q.1)
 
-module _ (s : List ℕ) (number y : ℕ) (r : Resolution) (known : chosen number ≡ Known r) where
+module _ (s : List ℕ) (number y : ℕ) (r : Resolution) (known : chosen number ≡ Some r) where
   out-accepted : (room : ℕ) → screen_bytes ≤ length s → y < height_of r → width_of r ≤ room
-      → line_out s number y room ≡ accepted (scan_line s r y)
+      → line_out s number y room ≡ Ok (scan_line s r y)
   unfolding line_out
   out-accepted room long hy hw =
       rw known (simp (le-ltb (length s) screen_bytes long, lt-leb (height_of r) y hy, le-ltb room (width_of r) hw))
 
   in-accepted : (line : List ℕ) → screen_bytes ≤ length s → y < height_of r → width_of r ≤ length line
-      → EachFits r line → line_in s number y line ≡ accepted (with_line s r y line)
+      → EachFits r line → line_in s number y line ≡ Ok (with_line s r y line)
   unfolding line_in
   in-accepted line long hy hw each =
       let room = le-ltb (length line) (width_of r) hw in
@@ -231,9 +231,9 @@ module _ (s : List ℕ) (number y : ℕ) (r : Resolution) (known : chosen number
 -- ---- the two theorems
 
 -- line out of the screen that an accepted line in left gives its registers back
-pub out-after-in : (s line after : List ℕ) (number y room : ℕ) (r : Resolution) → chosen number ≡ Known r
-    → width_of r ≤ room → line_in s number y line ≡ accepted after
-    → line_out after number y room ≡ accepted (take (width_of r) line)
+pub out-after-in : (s line after : List ℕ) (number y room : ℕ) (r : Resolution) → chosen number ≡ Some r
+    → width_of r ≤ room → line_in s number y line ≡ Ok after
+    → line_out after number y room ≡ Ok (take (width_of r) line)
 unfolding line_in
 out-after-in s line after number y room r known hw e =
     let below : ℕ → Bool = λ v. ltb v (registers_of r) in
@@ -241,25 +241,25 @@ out-after-in s line after number y room r known hw e =
     let p = passed (ltb (length s) screen_bytes) area_too_short _ after e in
     let long : screen_bytes ≤ length s = ltb-false (length s) screen_bytes p.0 in
     let j = judge_line_at-fits r y (length line) _ after (rw known at p.1) in
-    let q = passed (not (registers_fit r line)) out_of_range (accepted t) after j.2 in
+    let q = passed (not (registers_fit r line)) out_of_range (Ok t) after j.2 in
     let fit = not-false (registers_fit r line) q.0 in
     let each : EachFits r line = λ x h.
     ltb-true (get_or line x 0) (registers_of r) (all_below-each _ (width_of r) fit x h) in
-    let same : accepted t ≡ accepted after = q.1 in
+    let same : Ok t ≡ Ok after = q.1 in
     let is : t ≡ after = cc in
     ap (λ (u : List ℕ). line_out u number y room) (sym is)
     ∙ out-accepted t number y r known room (omega (arith, length-with_line s r y line long j.0)) j.0 hw
-    ∙ ap accepted (scan_line-with_line s r y line long j.0 j.1 each)
+    ∙ ap Ok (scan_line-with_line s r y line long j.0 j.1 each)
 
 -- line in of what an accepted line out left is accepted and changes nothing
-pub in-after-out : (s l out : List ℕ) (number y : ℕ) → Bytes s → line_out s number y (length out) ≡ accepted l
-    → line_in s number y (over l out) ≡ accepted s
+pub in-after-out : (s l out : List ℕ) (number y : ℕ) → Bytes s → line_out s number y (length out) ≡ Ok l
+    → line_in s number y (over l out) ≡ Ok s
 unfolding line_out
 in-after-out s l out number y bytes e =
     judge_screen-fits (length s) number (λ r. line_out_at s r y (length out)) l e
     (λ r known long f.
-    let j = judge_line_at-fits r y (length out) (accepted (scan_line s r y)) l f in
-    let same : accepted (scan_line s r y) ≡ accepted l = j.2 in
+    let j = judge_line_at-fits r y (length out) (Ok (scan_line s r y)) l f in
+    let same : Ok (scan_line s r y) ≡ Ok l = j.2 in
     let is : scan_line s r y ≡ l = cc in
     let len : length l ≡ width_of r = ap length (sym is) ∙ length-scan_line s r y in
     let at : (x : ℕ) → x < width_of r → get_or (over l out) x 0 ≡ register s r x y = λ x h.
@@ -267,4 +267,4 @@ in-after-out s l out number y bytes e =
     in-accepted s number y r known (over l out) long j.0
     (omega (arith, j.1, length_over l out (omega (arith, j.1))))
     (λ x h. rw (at x h) (register-lt s r x y))
-    ∙ ap accepted (with_line-scan_line s r y bytes (over l out) at long j.0))
+    ∙ ap Ok (with_line-scan_line s r y bytes (over l out) at long j.0))

@@ -2,6 +2,7 @@
 use mathlib.Core.Path.{◌≡◌, refl, sym, ap, ap₂, ◌∙◌}
 use mathlib.Core.List.{List, ◌++◌, append_assoc}
 use Prim.Native.Nat.{ℕ, ◌+◌, ◌*◌, ◌≤◌, ◌<◌}
+use borrow.Rule.Slice.PartMut.{put_mid}
 use native.Mathlib.Nat.{suc-mul, mul-le-mul_right}
 use native.Mathlib.Numerals.{add-one}
 use native.Mathlib.Omega.{arith}
@@ -32,3 +33,7 @@ piece-within k n m h = omega (arith, suc-mul k m, mul-le-mul_right m h)
 -- the next piece begins where this one ends
 pub piece-next : (k m : ℕ) → k * m + m ≡ (k + 1) * m
 piece-next k m = omega (arith, suc-mul k m, ap (λ (n : ℕ). n * m) (add-one k))
+
+-- a part of a list copied from another
+pub part-over : (x k : ℕ) (d part s : List ℕ) → k ≡ length s → part ≡ s → put_mid x k d part ≡ over_at x s d
+part-over x k d part s e is = rw (e, is) refl

@@ -1,4 +1,5 @@
 -- Laws of screen out and screen in: a pixel's register stands at its place, and each undoes the other.
+use Rattle.std.specs.Prelude.{Ok, Some}
 use mathlib.Core.Path.{◌≡◌, refl, sym, ap, ap₂, ◌∙◌}
 use mathlib.Core.Bool.{Bool, true, not}
 use mathlib.Core.Logic.{⊎_elim}
@@ -11,7 +12,7 @@ use native.Mathlib.Omega.{arith}
 use borrow.Author.Tests.{ltb-true, ltb-false, lt-ltb, le-ltb, not-false}
 use borrow.Rule.Slice.PartMut.{put_mid}
 use lib.Dec.{ltb}
-use lib.ListN.{length, get_or, take, drop, length-drop}
+use lib.ListN.{length, get_or, take, drop}
 use lib.Seq.{length-take-le, get_or-take, get_or-drop, ext_get_or}
 use Rattle.lists.specs.Bytes.{Bytes}
 use Rattle.lists.specs.Over.{over}
@@ -23,10 +24,8 @@ use Rattle.lists.proofs.Over.{length_over, get_or-over-in}
 use Rattle.lists.proofs.Parts.{tail-part}
 use Rattle.lists.proofs.Tabulate.{length-tabulate, get_or-tabulate, map-tabulate}
 use Rattle.lists.proofs.Wide.{wide-tabulate, get_or-flatten}
-use Rattle.outcome.specs.Outcome.{accepted}
 use Rattle.outcome.specs.Refusal.{area_too_short, out_of_range}
 use Rattle.outcome.proofs.Outcome.{passed}
-use Rattle.resolution.specs.declared.Chosen.TheVariants.{Known}
 use Rattle.resolution.specs.declared.Resolution.{Resolution}
 use Rattle.resolution.specs.declared.Resolution.TheVariants.{Low, Medium, High}
 use Rattle.resolution.specs.Choice.{chosen}
@@ -39,18 +38,6 @@ use Rattle.lines.specs.Screens.{screen_out_at, screen_out, screen_in}
 use Rattle.lines.proofs.Lines.{length-with_line, register-in, register-above, with_line-scan_line}
 use Rattle.lines.proofs.Pieces.{piece-within}
 use Rattle.lines.proofs.Registers.{register-lt, length-scan_line, get_or-scan_line}
-
--- ---- places
-
-pub pixels-le : (r : Resolution) → pixels_of r ≤ 256000
-pixels-le Low = omega arith
-pixels-le Medium = omega arith
-pixels-le High = omega arith
-
--- line y lies before the last pixel's end
-pub line-place : (r : Resolution) (y width height : ℕ) → width ≡ width_of r → height ≡ height_of r → y < height
-    → y * width + width ≤ pixels_of r
-line-place r y width height e f h = omega (arith, piece-within y height width h, ap₂ (λ (a b : ℕ). a * b) f e)
 
 -- ---- the loop of screen out
 
@@ -82,15 +69,6 @@ module _ (r : Resolution) (registers : List ℕ) (y n : ℕ) (e : n ≡ y * widt
   -- the registers of line y and those behind them
   abbrev part : List ℕ
   part = take (length registers - n) (drop n registers)
-
-  pub part_room : y < height_of r → pixels_of r ≤ length registers → width_of r ≤ length part
-  part_room h l =
-      omega (
-        arith,
-        ap length (tail-part registers n),
-        length-drop n registers,
-        piece-within y (height_of r) (width_of r) h,
-      )
 
   pub part-fits : y < height_of r → all_fit r registers ≡ true → registers_fit r part ≡ true
   part-fits h fit =
@@ -208,14 +186,14 @@ with_lines-same s r registers bytes long e (suc n) h =
 
 -- ---- outcomes
 
-module _ (s : List ℕ) (number : ℕ) (r : Resolution) (known : chosen number ≡ Known r)
+module _ (s : List ℕ) (number : ℕ) (r : Resolution) (known : chosen number ≡ Some r)
     (long : screen_bytes ≤ length s) where
-  out-accepted : (room : ℕ) → pixels_of r ≤ room → screen_out s number room ≡ accepted (screen_registers s r)
+  out-accepted : (room : ℕ) → pixels_of r ≤ room → screen_out s number room ≡ Ok (screen_registers s r)
   unfolding screen_out
   out-accepted room h = rw known (simp (le-ltb (length s) screen_bytes long, le-ltb room (pixels_of r) h))
 
   in-accepted : (registers : List ℕ) → pixels_of r ≤ length registers → EachFits r registers
-      → screen_in s number registers ≡ accepted (with_lines s r registers (height_of r))
+      → screen_in s number registers ≡ Ok (with_lines s r registers (height_of r))
   unfolding screen_in
   in-accepted registers h each =
       let below : ℕ → Bool = λ v. ltb v (registers_of r) in
@@ -226,9 +204,9 @@ module _ (s : List ℕ) (number : ℕ) (r : Resolution) (known : chosen number �
 -- ---- the two theorems
 
 -- screen out of the screen that an accepted screen in left gives its registers back
-pub screen-out-after-in : (s registers after : List ℕ) (number room : ℕ) (r : Resolution) → chosen number ≡ Known r
-    → pixels_of r ≤ room → screen_in s number registers ≡ accepted after
-    → screen_out after number room ≡ accepted (take (pixels_of r) registers)
+pub screen-out-after-in : (s registers after : List ℕ) (number room : ℕ) (r : Resolution) → chosen number ≡ Some r
+    → pixels_of r ≤ room → screen_in s number registers ≡ Ok after
+    → screen_out after number room ≡ Ok (take (pixels_of r) registers)
 unfolding screen_in
 screen-out-after-in s registers after number room r known h e =
     let below : ℕ → Bool = λ v. ltb v (registers_of r) in
@@ -236,29 +214,29 @@ screen-out-after-in s registers after number room r known h e =
     let p = passed (ltb (length s) screen_bytes) area_too_short _ after e in
     let long : screen_bytes ≤ length s = ltb-false (length s) screen_bytes p.0 in
     let j = passed (ltb (length registers) (pixels_of r)) area_too_short _ after (rw known at p.1) in
-    let q = passed (not (all_fit r registers)) out_of_range (accepted t) after j.1 in
+    let q = passed (not (all_fit r registers)) out_of_range (Ok t) after j.1 in
     let fit = not-false (all_fit r registers) q.0 in
     let each : EachFits r registers = λ i l.
     ltb-true (get_or registers i 0) (registers_of r) (all_below-each _ (pixels_of r) fit i l) in
-    let same : accepted t ≡ accepted after = q.1 in
+    let same : Ok t ≡ Ok after = q.1 in
     let is : t ≡ after = cc in
     let size = length-with_lines s r registers long (height_of r) (le_refl (height_of r)) in
     ap (λ (u : List ℕ). screen_out u number room) (sym is)
     ∙ out-accepted t number r known (omega (arith, size)) room h
-    ∙ ap accepted
+    ∙ ap Ok
     (screen_registers-with_lines s r registers long (ltb-false (length registers) (pixels_of r) j.0) each)
 
 -- screen in of what an accepted screen out left is accepted and changes nothing
-pub screen-in-after-out : (s l out : List ℕ) (number : ℕ) → Bytes s → screen_out s number (length out) ≡ accepted l
-    → screen_in s number (over l out) ≡ accepted s
+pub screen-in-after-out : (s l out : List ℕ) (number : ℕ) → Bytes s → screen_out s number (length out) ≡ Ok l
+    → screen_in s number (over l out) ≡ Ok s
 unfolding screen_out
 screen-in-after-out s l out number bytes e =
     judge_screen-fits (length s) number (λ r. screen_out_at s r (length out)) l e
     (λ r known long f.
     let w : ℕ = width_of r in
-    let j = passed (ltb (length out) (pixels_of r)) area_too_short (accepted (screen_registers s r)) l f in
+    let j = passed (ltb (length out) (pixels_of r)) area_too_short (Ok (screen_registers s r)) l f in
     let room : pixels_of r ≤ length out = ltb-false (length out) (pixels_of r) j.0 in
-    let same : accepted (screen_registers s r) ≡ accepted l = j.1 in
+    let same : Ok (screen_registers s r) ≡ Ok l = j.1 in
     let is : screen_registers s r ≡ l = cc in
     let size : length l ≡ pixels_of r = ap length (sym is) ∙ length-screen_registers s r in
     let at : (x y : ℕ) → x < w → y < height_of r → get_or (over l out) (y * w + x) 0 ≡ register s r x y = λ x y hx hy.
@@ -271,4 +249,4 @@ screen-in-after-out s l out number bytes e =
     let b : get_or (over l out) i 0 ≡ register s r (i % w) (i / w) =
     ap (λ (j : ℕ). get_or (over l out) j 0) (sym (div-add-mod' i w)) ∙ a in
     rw b (register-lt s r (i % w) (i / w)))
-    ∙ ap accepted (with_lines-same s r (over l out) bytes long at (height_of r) (le_refl (height_of r))))
+    ∙ ap Ok (with_lines-same s r (over l out) bytes long at (height_of r) (le_refl (height_of r))))

@@ -3,7 +3,7 @@
 -- the first group lowest. Such a word turned over has the bytes of the planes, which line in writes
 -- (proofs/Blocks.antt, `words-groups`).
 -- Only contracts of private functions cite this file.
-use Rattle.std.specs.Prelude.{ℕ, ◌+◌, ◌-◌, ◌*◌, ◌/◌, ◌%◌, ◌^◌, cond, List, ◌⊎◌, ◌≡◌, eqb, get_or}
+use Rattle.std.specs.Prelude.{ℕ, zero, suc, ◌+◌, ◌-◌, ◌*◌, ◌/◌, ◌%◌, ◌^◌, cond, List, ◌⊎◌, ◌≡◌, eqb, get_or}
 use Rattle.std.specs.Int.Bits.{bit_and, bit_or, bit_xor}
 use Rattle.lines.specs.Columns.{byte_of, plane_byte}
 
@@ -20,24 +20,18 @@ eight_registers line at = four_registers line at + four_registers line (at + 4) 
 unfoldable pub joined_word : ℕ → ℕ → ℕ → ℕ
 joined_word above n below = bit_or (above * 2 ^ n % 2 ^ 64) below
 
--- eight registers of each of two, four or eight groups, from an offset in the first on
-unfoldable pub two_groups : List ℕ → ℕ → ℕ → ℕ
-two_groups line at planes = joined_word (eight_registers line (at + 16)) planes (eight_registers line at)
-
-unfoldable pub four_groups : List ℕ → ℕ → ℕ → ℕ
-four_groups line at planes = joined_word (two_groups line (at + 32) planes) (planes * 2) (two_groups line at planes)
-
-unfoldable pub eight_groups : List ℕ → ℕ → ℕ
-eight_groups line at = joined_word (four_groups line (at + 64) 1) 4 (four_groups line at 1)
+-- eight registers of each of the first groups, so many, from an offset in the first on: that of the first group lowest
+unfoldable pub groups_word : List ℕ → ℕ → ℕ → ℕ → ℕ
+groups_word line planes at zero = 0
+groups_word line planes at (suc g) = joined_word (eight_registers line (at + g * 16)) (g * planes) (groups_word line planes at g)
 
 -- registers of a block: 128 over the planes
 abbrev pub is_block_width : ℕ → Type 0
 is_block_width width = (width ≡ 32) ⊎ ((width ≡ 64) ⊎ (width ≡ 128))
 
 -- the word of a block of so many registers, from an offset in its first group on
-unfoldable pub block_word : List ℕ → ℕ → ℕ → ℕ
-block_word line width at =
-    cond (eqb width 32) (two_groups line at 4) (cond (eqb width 64) (four_groups line at 2) (eight_groups line at))
+abbrev pub block_word : List ℕ → ℕ → ℕ → ℕ
+block_word line width at = groups_word line (128 / width) at (width / 16)
 
 -- word i of a line: block after block, the left word and the right
 abbrev pub line_word : List ℕ → ℕ → ℕ → ℕ

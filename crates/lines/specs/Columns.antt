@@ -1,32 +1,23 @@
 -- Byte columns: column h of a scan line has one byte of each plane, and these hold its eight pixels h * 8 to h * 8 + 7.
 -- Their registers are those of Registers.antt (proofs/Columns.antt, `column_register-register`).
 -- Only contracts of private functions cite this file.
-use Rattle.std.specs.Prelude.{ℕ, ◌+◌, ◌*◌, ◌-◌, ◌/◌, ◌%◌, ◌^◌, cond, List, get_or, ltb}
+use Rattle.std.specs.Prelude.{ℕ, ◌+◌, ◌*◌, ◌-◌, ◌/◌, ◌%◌, ◌^◌, List, get_or}
 use Rattle.lists.specs.Digits.{from_bits}
+use Rattle.lists.specs.Sum.{sum}
 use Rattle.lists.specs.Tabulate.{tabulate}
-use Rattle.lines.specs.declared.PlaneBytes.{PlaneBytes}
-
--- the bytes of the column whose first byte stands at an offset, 0 for a plane that is not there
-abbrev pub plane_bytes : List ℕ → ℕ → ℕ → PlaneBytes
-plane_bytes s at planes = record {
-  first = get_or s at 0;
-  second = cond (ltb 1 planes) (get_or s (at + 2) 0) 0;
-  third = cond (ltb 2 planes) (get_or s (at + 4) 0) 0;
-  fourth = cond (ltb 3 planes) (get_or s (at + 6) 0) 0;
-}
 
 -- pixel x of a scan line in a byte of its column: the leftmost is the top bit
 abbrev pub byte_bit : ℕ → ℕ → ℕ
 byte_bit b x = b / 2 ^ (7 - x % 8) % 2
 
--- the register of pixel x of a scan line, from the bytes of its column: plane p adds 2^p
-unfoldable pub column_register : PlaneBytes → ℕ → ℕ
-column_register b x =
-    byte_bit b.first x + byte_bit b.second x * 2 + byte_bit b.third x * 4 + byte_bit b.fourth x * 8
+-- the register of pixel x of a scan line, from the bytes of its column, the first of which stands at an offset: plane p
+-- adds 2^p
+unfoldable pub column_register : List ℕ → ℕ → ℕ → ℕ → ℕ
+column_register s at planes x = sum planes (λ p. byte_bit (get_or s (at + p * 2) 0) x * 2 ^ p)
 
 -- the register of pixel k of the group whose first byte stands at an offset
 abbrev pub group_register : List ℕ → ℕ → ℕ → ℕ → ℕ
-group_register s at planes k = column_register (plane_bytes s (at + k / 8) planes) k
+group_register s at planes k = column_register s (at + k / 8) planes k
 
 -- the registers of the first `groups` groups of a scan line that begins at an offset
 unfoldable pub groups_line : List ℕ → ℕ → ℕ → ℕ → List ℕ
@@ -41,8 +32,8 @@ spread b =
     + b / 2 ^ 0 % 2 * 72057594037927936
 
 -- the registers of a column's eight pixels, one to a byte, the leftmost lowest
-unfoldable pub spread_column : PlaneBytes → ℕ
-spread_column b = spread b.first + spread b.second * 2 + spread b.third * 4 + spread b.fourth * 8
+unfoldable pub spread_column : List ℕ → ℕ → ℕ → ℕ
+spread_column s at planes = sum planes (λ p. spread (get_or s (at + p * 2) 0) * 2 ^ p)
 
 -- byte i of a number, the lowest first
 unfoldable pub byte_of : ℕ → ℕ → ℕ

@@ -1,9 +1,9 @@
 -- Screen out and screen in: line out and line in for every scan line of a screen, judged as those are.
-use Rattle.std.specs.Prelude.{ℕ, zero, suc, ◌*◌, Bool, not, ltb, length, drop}
+use Rattle.std.specs.Prelude.{ℕ, zero, suc, ◌*◌, Bool, not, ltb, length, drop, Ok}
 use mathlib.Core.List.{List, map, flatten}
 use Rattle.lists.specs.All.{all_first}
 use Rattle.lists.specs.Tabulate.{tabulate}
-use Rattle.outcome.specs.Outcome.{Outcome, accepted, refuse_if}
+use Rattle.outcome.specs.Outcome.{Outcome, refuse_if}
 use Rattle.outcome.specs.Refusal.{area_too_short, out_of_range}
 use Rattle.resolution.specs.declared.Resolution.{Resolution}
 use Rattle.resolution.specs.Shapes.{width_of, height_of, registers_of}
@@ -33,14 +33,14 @@ all_fit r registers = all_first (pixels_of r) (λ v. ltb v (registers_of r)) reg
 
 -- screen out at a resolution, into an output of `room` bytes
 abbrev pub screen_out_at : List ℕ → Resolution → ℕ → Outcome (List ℕ)
-screen_out_at s r room = refuse_if (ltb room (pixels_of r)) area_too_short (accepted (screen_registers s r))
+screen_out_at s r room = refuse_if (ltb room (pixels_of r)) area_too_short (Ok (screen_registers s r))
 
 -- screen in at a resolution: the screen's later content
 abbrev pub screen_in_at : List ℕ → Resolution → List ℕ → Outcome (List ℕ)
 screen_in_at s r registers =
     refuse_if (ltb (length registers) (pixels_of r)) area_too_short
     (refuse_if (not (all_fit r registers)) out_of_range
-    (accepted (with_lines s r registers (height_of r))))
+    (Ok (with_lines s r registers (height_of r))))
 
 -- screen out, judged whole
 unfoldable pub screen_out : List ℕ → ℕ → ℕ → Outcome (List ℕ)

@@ -1,6 +1,6 @@
 -- Laws of the pieces that a list's elements give, end to end, `flatten (map f xs)`, of the loop that writes them, and
 -- of what is read from where they stand.
-use mathlib.Core.Path.{◌≡◌, sym, ap, ◌∙◌}
+use mathlib.Core.Path.{◌≡◌, sym, ap, ap₂, ◌∙◌}
 use mathlib.Core.List.{List, [], ◌∷◌, ◌++◌, map, flatten, append_assoc, append-nil}
 use Prim.Native.Nat.{ℕ, zero, suc, ◌+◌, ◌-◌, ◌*◌, ◌<◌, suc-le-suc}
 use native.Mathlib.Nat.{not-suc-le-zero, le_of_suc-le-suc, zero-lt-suc, suc-mul}
@@ -9,8 +9,9 @@ use native.Mathlib.Omega.{arith}
 use borrow.Rule.Slice.PartMut.{put_mid}
 use lib.ListN.{length, get_or, take, drop, length-append}
 use lib.Seq.{take-suc}
-use Rattle.lists.specs.Over.{over}
-use Rattle.lists.proofs.Parts.{over-append}
+use Rattle.lists.specs.Over.{over, over_at}
+use Rattle.lists.proofs.Over.{over-more}
+use Rattle.lists.proofs.Parts.{mid_put, over-append}
 
 module _ {A B : Type 0} (f : A → List B) where
   flatten-snoc : (xs : List A) (x : A) → flatten (map f (xs ++ (x ∷ []))) ≡ flatten (map f xs) ++ f x
@@ -53,6 +54,16 @@ module _ {A B : Type 0} (f : A → List B) where
         → put_mid n (length o - n) o t ≡ over (flatten (map f (take (i + 1) xs))) d
     flatten-turn d o t n is l e =
         over-append d (flatten (map f (take i xs))) (f (get_or xs i z)) o t n is l e
+        ∙ ap (λ (l : List B). over l d) (sym flatten-take)
+
+    -- the same where the part of the next piece alone was lent, and given back as that piece
+    pub flatten-part : (d o t : List B) (n k : ℕ) → o ≡ over (flatten (map f (take i xs))) d
+        → length (flatten (map f (take i xs))) ≡ n → t ≡ f (get_or xs i z) → length t ≡ k
+        → put_mid n k o t ≡ over (flatten (map f (take (i + 1) xs))) d
+    flatten-part d o t n k is l e s =
+        mid_put o t n k s
+        ∙ ap₂ (over_at n) e is
+        ∙ over-more d (flatten (map f (take i xs))) (f (get_or xs i z)) n l
         ∙ ap (λ (l : List B). over l d) (sym flatten-take)
 
 -- ---- pieces of k elements each, read again

@@ -3,6 +3,7 @@ pub mod Bytes
 pub mod Cond
 pub mod Digits
 pub mod Flatten
+pub mod Loops
 pub mod Over
 pub mod Parts
 pub mod Pieces

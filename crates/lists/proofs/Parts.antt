@@ -20,7 +20,11 @@ module _ {A : Type 0} where
       ap (λ (l : List A). take a s ++ (t ++ l)) (Post-is a (length s) s h ∙ drop-length s)
       ∙ ap (λ (l : List A). take a s ++ l) (append-nil t)
 
-  -- the same where that part was given back with b over its front
+  -- the whole, once the part of n elements from a on is given back as t
+  pub mid_put : (s t : List A) (a n : ℕ) → length t ≡ n → put_mid a n s t ≡ over_at a t s
+  mid_put s t a n l = ap (λ (k : ℕ). take a s ++ (t ++ drop k (drop a s))) (sym l)
+
+  -- the part from a on given back with b over its front
   pub over-put : (o t b : List A) (n : ℕ) → n ≤ length o → t ≡ over b (take (length o - n) (drop n o))
       → put_mid n (length o - n) o t ≡ over_at n b o
   over-put o t b n h e = tail-put o t n h ∙ ap (λ (u : List A). take n o ++ u) (e ∙ ap (over b) (tail-part o n))

@@ -1,22 +1,15 @@
 -- Laws of `repeated`, and of the loop that writes it.
 use mathlib.Core.Path.{◌≡◌, refl, sym, ap, ◌∙◌}
 use mathlib.Core.List.{List, ◌++◌}
-use Prim.Native.Nat.{ℕ, zero, suc, ◌+◌, ◌-◌, ◌*◌, ◌≤◌, ◌<◌}
+use Prim.Native.Nat.{ℕ, zero, suc, ◌+◌, ◌-◌, ◌*◌}
 use native.Mathlib.Omega.{arith}
-use native.Mathlib.Nat.{add-mul, zero-mul, mul-le-mul_right}
+use native.Mathlib.Nat.{add-mul, zero-mul}
 use native.Mathlib.Numerals.{add-one}
-use lib.ListN.{length, take, drop, length-append}
+use lib.ListN.{length, length-append}
 use borrow.Rule.Slice.PartMut.{put_mid}
-use Rattle.lists.specs.Over.{over}
+use Rattle.lists.specs.Over.{over, over_at}
 use Rattle.lists.specs.Repeated.{repeated}
-use Rattle.lists.proofs.Parts.{over-append}
-
--- one more of k, where k are fewer than all
-pub times_more : (k times n : ℕ) → k < times → k * n + n ≤ times * n
-times_more k times n h = omega (arith, add-mul k 1 n, mul-le-mul_right {m = k + 1} {n = times} n (omega arith))
-
-pub times-next : (k n : ℕ) → k * n + n ≡ (k + 1) * n
-times-next k n = omega (arith, add-mul k 1 n)
+use Rattle.lists.proofs.Over.{over-more}
 
 module _ {A : Type 0} where
   pub length-repeated : (n : ℕ) (s : List A) → length (repeated n s) ≡ n * length s
@@ -35,10 +28,13 @@ module _ {A : Type 0} where
   unfolding repeated
   repeated-start s d = refl
 
-  -- a turn: one more after k
-  pub repeated-turn : (s d out last : List A) (k n to : ℕ) → length s ≡ n → to ≡ k * n → out ≡ over (repeated k s) d
-      → last ≡ over s (take (length out - to) (drop to out))
-      → put_mid to (length out - to) out last ≡ over (repeated (k + 1) s) d
-  repeated-turn s d out last k n to long at is put =
-      over-append d (repeated k s) s out last to is (length-repeated k s ∙ ap (λ (l : ℕ). k * l) long ∙ sym at) put
+  -- a turn: one more, which is put behind k of them
+  pub repeated-turn : (s d out last : List A) (k : ℕ) → out ≡ over (repeated k s) d → last ≡ s
+      → put_mid (k * length s) (k * length s + length s - k * length s) out last ≡ over (repeated (k + 1) s) d
+  repeated-turn s d out last k is put =
+      let more : k * length s + length s - k * length s ≡ length s = omega arith in
+      ap (put_mid (k * length s) (k * length s + length s - k * length s) out) put
+      ∙ ap (λ (n : ℕ). put_mid (k * length s) n out s) more
+      ∙ ap (over_at (k * length s) s) is
+      ∙ over-more d (repeated k s) s (k * length s) (length-repeated k s)
       ∙ ap (λ (l : List A). over l d) (sym (repeated-more k s))

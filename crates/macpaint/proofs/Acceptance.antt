@@ -1,5 +1,6 @@
 -- Demand 2 of MacPaint files: one is accepted exactly when its version is allowed and its parts fit, and then gives
 -- what its parts are (document 02, tickets 5 and 9: "accepted exactly when no listed refusal comes").
+use Rattle.std.specs.Prelude.{Ok}
 use mathlib.Core.Path.{◌≡◌, refl, sym, ap, ◌∙◌}
 use mathlib.Core.Logic.{◌↔◌, ◌⊎◌, inl, inr}
 use mathlib.Core.Bool.{Bool, true, false, not, ◌||◌}
@@ -11,8 +12,7 @@ use lib.Dec.{eqb}
 use borrow.Author.Tests.{eq-eqb, eqb-true, not-false}
 use Rattle.lists.specs.Bytes.{Bytes}
 use Rattle.lists.proofs.Cond.{cond-elim, cond-ltb}
-use Rattle.outcome.specs.declared.Refusal.{Refusal}
-use Rattle.outcome.specs.Outcome.{accepted, Judged}
+use Rattle.outcome.specs.Outcome.{Judged}
 use Rattle.outcome.proofs.Outcome.{judged-map, judged-value}
 use Rattle.bodies.specs.Unpacking.{UnpackedBody}
 use Rattle.bodies.specs.Reading.{read_body}
@@ -22,7 +22,7 @@ use Rattle.macpaint.specs.Layout.{header_valid}
 use Rattle.macpaint.specs.Plate.{plate_raster, plate_bytes}
 use Rattle.macpaint.specs.Reading.{version_allowed, read_plate}
 use Rattle.macpaint.specs.Accepts.{AcceptsPlate, plate_given}
-use Rattle.macpaint.proofs.ReadPlate.{header-none, judge-passed, read-judged}
+use Rattle.macpaint.proofs.ReadPlate.{judge-passed, read-judged}
 
 -- ---- the version
 
@@ -60,18 +60,17 @@ module _ (file : List ℕ) (area : ℕ) where
 
   module _ (room : plate_bytes ≤ area) where
     -- a file that fits is accepted
-    pub plate-complete : (a : AcceptsPlate file) → read_plate file area ≡ accepted (plate_given a)
+    pub plate-complete : (a : AcceptsPlate file) → read_plate file area ≡ Ok (plate_given a)
     plate-complete a =
         let long = fits-length file header_length after_body body_limit plate_raster a.fits in
         let good = version-complete file a.allowed in
-        let none = header-none file (omega (arith, long)) (omega (arith, long, a.fits.below)) good in
         read-judged file area room
-        ∙ judge-passed file _ (ap (λ (w : Refusal). w.number) none)
+        ∙ judge-passed file _ (omega (arith, long)) (omega (arith, long, a.fits.below)) good
         ∙ fits-complete file header_length after_body body_limit plate_raster a.fits
 
     -- accepted exactly when it fits, and then with this
-    pub plate-acceptance : Bytes file → (u : UnpackedBody) → (read_plate file area ≡ accepted u) ↔ Given u
+    pub plate-acceptance : Bytes file → (u : UnpackedBody) → (read_plate file area ≡ Ok u) ↔ Given u
     plate-acceptance all u = (
       judged-value Given (read_plate file area) u (plate-judged all),
-      λ g. plate-complete g.0 ∙ ap accepted (sym g.1),
+      λ g. plate-complete g.0 ∙ ap Ok (sym g.1),
     )

@@ -1,5 +1,6 @@
 -- Demand 3 for plates: refused exactly when it must be, and otherwise the plate's least body; how long that can be
 -- (document 02, ticket 9).
+use Rattle.std.specs.Prelude.{Ok}
 use mathlib.Core.Path.{◌≡◌, refl, sym, ap, ◌∙◌}
 use mathlib.Core.Logic.{◌↔◌}
 use mathlib.Core.List.{List}
@@ -8,7 +9,7 @@ use native.Mathlib.Omega.{arith}
 use lib.ListN.{length}
 use borrow.Author.Tests.{le-ltb}
 use Rattle.lists.specs.Bytes.{Bytes}
-use Rattle.outcome.specs.Outcome.{accepted, refuse, map}
+use Rattle.outcome.specs.Outcome.{refuse, map}
 use Rattle.outcome.specs.Refusal.{no_packed_body}
 use Rattle.outcome.proofs.Outcome.{map-refused}
 use Rattle.raster.specs.Shape.{row_bytes, rows}
@@ -63,7 +64,7 @@ module _ (plate : List ℕ) (out : ℕ) (full : plate_bytes ≤ length plate) (r
 
   -- otherwise the plate's least body, row by row, with its length, its records and a file length 512 above
   pub plate-otherwise : (write_plate plate out ≡ refuse no_packed_body → ⊥)
-      → (w : Writing) × (write_plate plate out ≡ accepted w) × WritesPlate plate w
+      → (w : Writing) × (write_plate plate out ≡ Ok w) × WritesPlate plate w
   plate-otherwise h =
       let least =
       least-below plate_raster plate in-range body_limit (λ e. h (written ∙ ap (map plate_writing) e)) in (

@@ -1,18 +1,14 @@
 -- A plate's raster: in range for packed rows, as long as the papers say, its rows one behind the other.
-use mathlib.Core.Path.{◌≡◌, refl, ap}
+use mathlib.Core.Path.{◌≡◌, refl}
 use mathlib.Core.Bool.{false}
 use mathlib.Core.List.{List}
 use Prim.Native.Nat.{ℕ, ◌*◌, ◌≤◌}
-use native.Mathlib.Omega.{arith}
 use lib.ListN.{length, take, drop}
 use Rattle.lists.specs.Tabulate.{tabulate}
-use Rattle.outcome.specs.declared.Refusal.{Refusal}
 use Rattle.packbits.specs.Row.{width_out_of_range}
 use Rattle.raster.specs.Shape.{row_bytes, bytes}
 use Rattle.raster.specs.PlaneRows.{plane_rows}
 use Rattle.raster.proofs.Joined.{one-plane-rows}
-use Rattle.bodies.specs.Body.{raster_refusal}
-use Rattle.bodies.proofs.JudgeRaster.{refusal-none}
 use Rattle.macpaint.specs.Plate.{plate_raster, plate_bytes}
 
 pub in-range : width_out_of_range (row_bytes plate_raster) ≡ false
@@ -20,10 +16,6 @@ in-range = refl
 
 pub plate-bytes : bytes plate_raster ≡ plate_bytes
 plate-bytes = refl
-
--- neither the raster nor an area that holds a plate is refused
-pub plate-fits : (raster_refusal plate_raster plate_bytes).number ≡ 0
-plate-fits = ap (λ (w : Refusal). w.number) (refusal-none plate_raster plate_bytes in-range (omega arith))
 
 -- "720 rows of 72 bytes"
 pub plate-rows : (plate : List ℕ) → plate_bytes ≤ length plate

@@ -1,5 +1,6 @@
 -- Demand 2 for plates: what is written is read back, and a file that was read is written again no longer than it was
 -- (document 02, tickets 9 and 12).
+use Rattle.std.specs.Prelude.{Ok}
 use mathlib.Core.Path.{◌≡◌, refl, sym, ap, ◌∙◌}
 use mathlib.Core.List.{List, [], ◌++◌, append-nil}
 use Prim.Native.Nat.{ℕ, ◌≤◌, ◌<◌}
@@ -8,8 +9,7 @@ use lib.ListN.{length}
 use borrow.Author.Tests.{lt-leb}
 use Rattle.lists.specs.Bytes.{Bytes}
 use Rattle.lists.proofs.Cond.{cond-ltb, cond-leb}
-use Rattle.outcome.specs.declared.Refusal.{Refusal}
-use Rattle.outcome.specs.Outcome.{Outcome, accepted, map, Judged}
+use Rattle.outcome.specs.Outcome.{Outcome, map, Judged}
 use Rattle.outcome.proofs.Outcome.{judged-value}
 use Rattle.words.specs.Word.{word_at}
 use Rattle.bodies.specs.Packing.{least_body, PackedBody}
@@ -27,7 +27,7 @@ use Rattle.macpaint.specs.Writing.{plate_writing, write_plate, plate_back}
 use Rattle.macpaint.proofs.Acceptance.{Given, plate-judged}
 use Rattle.macpaint.proofs.LeastBody.{written}
 use Rattle.macpaint.proofs.Plate.{in-range}
-use Rattle.macpaint.proofs.ReadPlate.{header-none, judge-passed, read-judged}
+use Rattle.macpaint.proofs.ReadPlate.{judge-passed, read-judged}
 use Rattle.macpaint.proofs.WritePlate.{length-zero_header, length-plate_file}
 
 -- the version of the header that is written
@@ -38,7 +38,7 @@ zero-version body = refl
 module _ (plate : List ℕ) (area : ℕ) (room : plate_bytes ≤ area) where
   -- an accepted writing's file, read
   abbrev pub ReadsBack : Writing → Type 0
-  ReadsBack w = read_plate w.file area ≡ accepted (plate_back plate w)
+  ReadsBack w = read_plate w.file area ≡ Ok (plate_back plate w)
 
   plate-back : plate_bytes ≤ length plate → length (least_body plate_raster plate) < body_limit
       → ReadsBack (plate_writing (packed plate_raster plate body_limit))
@@ -46,9 +46,8 @@ module _ (plate : List ℕ) (area : ℕ) (room : plate_bytes ≤ area) where
   plate-back full below =
       let body : List ℕ = least_body plate_raster plate in
       let long = length-plate_file body in
-      let none = header-none (plate_file body) (omega (arith, long)) (omega (arith, long)) (rw (zero-version body)) in
       read-judged (plate_file body) area room
-      ∙ judge-passed (plate_file body) _ (ap (λ (w : Refusal). w.number) none)
+      ∙ judge-passed (plate_file body) _ (omega (arith, long)) (omega (arith, long)) (rw (zero-version body))
       ∙ ap (λ (l : List ℕ). read_body (zero_header ++ l) header_length after_body plate_raster) (sym (append-nil body))
       ∙ body_back plate_raster plate in-range full zero_header [] header_length after_body length-zero_header refl
 
@@ -65,8 +64,8 @@ module _ (plate : List ℕ) (area : ℕ) (room : plate_bytes ≤ area) where
 
 -- never refused with 9, and never longer
 pub rewritten : (file : List ℕ) (area out : ℕ) → longest_file ≤ out → Bytes file → (u : UnpackedBody)
-    → read_plate file area ≡ accepted u
-    → (w : Writing) × (write_plate u.image out ≡ accepted w) × (length w.file ≤ length file)
+    → read_plate file area ≡ Ok u
+    → (w : Writing) × (write_plate u.image out ≡ Ok w) × (length w.file ≤ length file)
 rewritten file area out room all u e =
     let g = judged-value (Given file area) (read_plate file area) u (plate-judged file area all) e in
     let b = g.0.fits in

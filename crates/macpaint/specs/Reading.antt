@@ -1,7 +1,6 @@
 -- Reading a MacPaint file: the whole judgement and what an accepted file gives (document 02, ticket 9).
 use Rattle.std.specs.Prelude.{ℕ, Bool, not, ◌||◌, List, length, ltb, eqb}
-use Rattle.outcome.specs.declared.Refusal.{Refusal}
-use Rattle.outcome.specs.Outcome.{Outcome, accepted, refuse_if, refusal_of}
+use Rattle.outcome.specs.Outcome.{Outcome, refuse_if}
 use Rattle.outcome.specs.Refusal.{area_too_short, wrong_length, wrong_version}
 use Rattle.bodies.specs.Unpacking.{UnpackedBody}
 use Rattle.bodies.specs.Reading.{read_body}
@@ -19,13 +18,12 @@ judge_header file further =
     (refuse_if (not (version_allowed file)) wrong_version
     further))
 
--- why they are refused, or none
-unfoldable pub header_refusal : List ℕ → Refusal
-header_refusal file = refusal_of {A = Unit {0}} (judge_header file (accepted tt))
+-- the body, after the header and before the file's end
+abbrev pub plate_body : List ℕ → Outcome UnpackedBody
+plate_body file = read_body file header_length after_body plate_raster
 
 -- a file into an area of `area` bytes; the image is the plate
 unfoldable pub read_plate : List ℕ → ℕ → Outcome UnpackedBody
 read_plate file area =
     refuse_if (ltb area plate_bytes) area_too_short
-    (judge_header file
-    (read_body file header_length after_body plate_raster))
+    (judge_header file (plate_body file))

@@ -3,7 +3,7 @@
 use Rattle.std.specs.Prelude.{ℕ, ◌+◌, ◌≤◌, ◌≡◌, List, length, take, ltb}
 use Rattle.outcome.specs.Outcome.{Outcome, refuse_if, map}
 use Rattle.outcome.specs.Refusal.{area_too_short}
-use Rattle.bodies.specs.Packing.{PackedBody, below_limit}
+use Rattle.bodies.specs.Packing.{PackedBody, below_limit, pack_body}
 use Rattle.bodies.specs.Unpacking.{UnpackedBody}
 use Rattle.bodies.specs.Unpacks.{LeastBelow}
 use Rattle.picture.specs.Writing.{Writing}
@@ -13,6 +13,10 @@ use Rattle.macpaint.specs.Plate.{plate_raster, plate_bytes}
 -- what a packed body gives: its file and its counts
 abbrev pub plate_writing : PackedBody → Writing
 plate_writing b = record { file = plate_file b.bytes; body = b.body; records = b.records }
+
+-- a plate's least body, packed into an output of `out` bytes after the header
+abbrev pub packed_plate : List ℕ → ℕ → Outcome PackedBody
+packed_plate plate out = pack_body plate_raster plate body_limit header_length out
 
 -- a plate, the first 51,840 bytes of an area, into an output of `out` bytes: the least body, refused where that is not
 -- below the limit

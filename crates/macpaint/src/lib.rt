@@ -1,18 +1,20 @@
 // MacPaint files: a plate read and written (document 02, ticket 9; source 003). Definitions: specs/.
 #![tactic(auto)]
 
-ghost use Rattle.std.specs.Prelude.{◌≡◌, ◌≤◌, length};
-ghost use Rattle.bodies.specs.Reading.{read_body, body_area};
-ghost use Rattle.bodies.specs.Unpacking.{unpacked_answer};
-ghost use Rattle.picture.specs.Writing.{write_answer, write_output};
-ghost use Rattle.macpaint.specs.Layout.{header_length, after_body};
+ghost use Rattle.std.specs.Prelude.{◌≡◌, ◌≤◌, ◌<◌, length, Ok, IfOk};
+ghost use Rattle.outcome.specs.Outcome.{map};
+ghost use Rattle.bodies.specs.Packing.{body_packed, packed_output};
+ghost use Rattle.bodies.specs.Reading.{body_area};
+ghost use Rattle.bodies.specs.Unpacking.{body_unpacked};
+ghost use Rattle.picture.specs.Writing.{file_written, write_output};
+ghost use Rattle.macpaint.specs.Layout.{header_length, body_limit, longest_file};
 ghost use Rattle.macpaint.specs.Plate.{plate_raster, plate_bytes};
-ghost use Rattle.macpaint.specs.Reading.{version_allowed, header_refusal, read_plate};
-ghost use Rattle.macpaint.specs.Writing.{write_plate};
+ghost use Rattle.macpaint.specs.Reading.{version_allowed, judge_header, plate_body, read_plate};
+ghost use Rattle.macpaint.specs.Writing.{packed_plate, write_plate};
 
-use bodies::BodyAnswer;
-use outcome::{AREA_TOO_SHORT, Refusal, WRONG_LENGTH, WRONG_VERSION};
-use picture::WriteAnswer;
+use outcome::{Reason, Refusal};
+use packbits::Packed;
+use picture::FileWritten;
 use raster::Raster;
 
 // The header; the body follows, and nothing after the body.
@@ -59,30 +61,25 @@ fn version_allowed(file: &[u8]) -> bool
     version == HEADER_IGNORED || version == HEADER_VALID
 }
 
-// Why a file's length or version is refused, or none.
-fn header_refusal(file: &[u8]) -> Refusal
-    ensures { result ≡ header_refusal file.now }
+// Judges a file's length, then its version.
+fn judge_header(file: &[u8]) -> Result<(), Refusal>
+    ensures { result ≡ judge_header file.now (Ok tt) }
 {
-    if file.len() < HEADER_LENGTH {
-        return outcome::refuse(WRONG_LENGTH);
-    }
-    if LONGEST_FILE < file.len() {
-        return outcome::refuse(WRONG_LENGTH);
+    if file.len() < HEADER_LENGTH || LONGEST_FILE < file.len() {
+        return Err(outcome::refuse(Reason::WrongLength));
     }
     if !version_allowed(file) {
-        return outcome::refuse(WRONG_VERSION);
+        return Err(outcome::refuse(Reason::WrongVersion));
     }
-    outcome::none()
+    Ok(())
 }
 
 // Reads the body; no byte may follow it. The rows are unpacked into a buffer of the reader's own.
 #[inline(never)]
-fn read_by_buffer(file: &[u8], plate: &mut [u8]) -> BodyAnswer
-    requires { plate_bytes ≤ length plate.old }
-    ensures answer { result
-        ≡ unpacked_answer (read_body file.now header_length after_body plate_raster) }
-    ensures plate { plate.new
-        ≡ body_area (read_body file.now header_length after_body plate_raster) plate.old }
+fn read_by_buffer(file: &[u8], area: &mut [u8]) -> Result<Packed, Refusal>
+    requires { plate_bytes ≤ length area.old }
+    ensures answer { result ≡ map body_unpacked (plate_body file.now) }
+    ensures area { area.new ≡ body_area (plate_body file.now) area.old }
 {
     let mut buffer = [0u8; PLATE_BYTES];
     bodies::read_body(
@@ -91,53 +88,46 @@ fn read_by_buffer(file: &[u8], plate: &mut [u8]) -> BodyAnswer
         AFTER_BODY,
         plate_raster(),
         &mut buffer,
-        plate,
+        area,
     )
 }
 
-// The same, with an area cut to the plate.
-fn read_rows(file: &[u8], plate: &mut [u8]) -> BodyAnswer
-    requires { plate_bytes ≤ length plate.old }
-    ensures answer { result
-        ≡ unpacked_answer (read_body file.now header_length after_body plate_raster) }
-    ensures plate { plate.new
-        ≡ body_area (read_body file.now header_length after_body plate_raster) plate.old }
-{
-    // read_by_buffer is not inlined: its buffer stays out of the caller's stack frame.
-    if PLATE_BYTES < plate.len() {
-        return read_rows(file, &mut plate[..PLATE_BYTES]);
-    }
-    read_by_buffer(file, plate)
-}
-
-// Reads a file into the first 51,840 bytes of an area. All is judged before the first byte is written.
-pub fn read(file: &[u8], plate: &mut [u8]) -> BodyAnswer
-    ensures answer { result ≡ unpacked_answer (read_plate file.now (length plate.old)) }
+// Reads a file into the first 51,840 bytes of an area. All is judged before the first byte is written. read_by_buffer is
+// not inlined: its buffer stays out of this stack frame.
+#[tactic(auto, unfolding(crate::specs::Reading::read_plate))]
+pub fn read(file: &[u8], plate: &mut [u8]) -> Result<Packed, Refusal>
+    ensures answer { result ≡ map body_unpacked (read_plate file.now (length plate.old)) }
     ensures plate { plate.new
         ≡ body_area (read_plate file.now (length plate.old)) plate.old }
 {
     if plate.len() < PLATE_BYTES {
-        return bodies::body_refused(outcome::refuse(AREA_TOO_SHORT));
+        return Err(outcome::refuse(Reason::AreaTooShort));
     }
-    let refusal = header_refusal(file);
-    if refusal.number != 0 {
-        return bodies::body_refused(refusal);
-    }
-    read_rows(file, plate)
+    judge_header(file)?;
+    read_by_buffer(file, &mut plate[..PLATE_BYTES])
+}
+
+// The least body of the plate, packed behind the place of the header.
+fn pack_plate(plate: &[u8], out: &mut [u8]) -> Result<Packed, Refusal>
+    ensures answer { result ≡ map body_packed (packed_plate plate.now (length out.old)) }
+    ensures out { out.new ≡ packed_output (packed_plate plate.now (length out.old)) header_length out.old }
+    ensures bytes { IfOk result (λ body. body.bytes < body_limit × (longest_file ≤ length out.old)) }
+{
+    bodies::pack_body(plate, plate_raster(), BODY_LIMIT, HEADER_LENGTH, out)
 }
 
 // Writes a plate, the first 51,840 bytes of an area, as a file over the front of the output. The body is decided and
 // written first: where it is refused nothing has changed.
-pub fn write(plate: &[u8], out: &mut [u8]) -> WriteAnswer
-    ensures answer { result ≡ write_answer (write_plate plate.now (length out.old)) }
+pub fn write(plate: &[u8], out: &mut [u8]) -> Result<FileWritten, Refusal>
+    ensures answer { result ≡ map file_written (write_plate plate.now (length out.old)) }
     ensures output { out.new
         ≡ write_output (write_plate plate.now (length out.old)) out.old }
 {
-    let packed = bodies::pack_body(plate, plate_raster(), BODY_LIMIT, HEADER_LENGTH, out);
-    if packed.refusal.number != 0 {
-        return picture::write_refused(packed.refusal);
-    }
-    let header = [0u8; HEADER_LENGTH];
-    let start = byte_copy::copy(&header, out);
-    picture::write_done(start + packed.body, packed.body, packed.records)
+    let body = pack_plate(plate, out)?;
+    out[..HEADER_LENGTH].fill(0);
+    Ok(FileWritten {
+        length: HEADER_LENGTH + body.bytes,
+        body: body.bytes,
+        records: body.records,
+    })
 }

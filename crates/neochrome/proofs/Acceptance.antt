@@ -1,4 +1,5 @@
 -- Demand 2 of NEOchrome files: one is accepted exactly when it fits, and then gives what its parts are.
+use Rattle.std.specs.Prelude.{Ok}
 use mathlib.Core.Path.{◌≡◌, sym, ap, ◌∙◌}
 use mathlib.Core.Logic.{◌↔◌}
 use mathlib.Core.List.{List}
@@ -7,7 +8,7 @@ use native.Mathlib.Omega.{arith}
 use lib.ListN.{drop, length-drop}
 use lib.Seq.{length-take-le}
 use Rattle.lists.proofs.Cond.{cond-ltb}
-use Rattle.outcome.specs.Outcome.{accepted, Judged}
+use Rattle.outcome.specs.Outcome.{Judged}
 use Rattle.outcome.proofs.Outcome.{judged-value, judged-map, judged-bind}
 use Rattle.resolution.specs.Shapes.{screen_bytes}
 use Rattle.resolution.proofs.Choice.{chosen-number}
@@ -30,19 +31,19 @@ module _ (file : List ℕ) (area : ℕ) where
   unfolding read_neochrome
   neochrome-judged =
       cond-ltb (Judged Given) area screen_bytes (λ _ n. omega arith) (λ _.
-      judged-bind (Passes file) Given (opening file) (λ r. accepted (neochrome_reading file r)) (opening-judged file)
+      judged-bind (Passes file) Given (opening file) (λ r. Ok (neochrome_reading file r)) (opening-judged file)
       (λ r p. (p.0, ap (neochrome_reading file) (sym p.1))))
 
   -- a file that fits is accepted
   pub neochrome-complete : screen_bytes ≤ area → (a : AcceptsNeochrome file)
-      → read_neochrome file area ≡ accepted (neochrome_given a)
+      → read_neochrome file area ≡ Ok (neochrome_given a)
   neochrome-complete room a = read_opened file area room a.resolution (opening-accepted file a)
 
   -- accepted exactly when it fits, and then with this
-  pub neochrome-acceptance : screen_bytes ≤ area → (q : Reading) → (read_neochrome file area ≡ accepted q) ↔ Given q
+  pub neochrome-acceptance : screen_bytes ≤ area → (q : Reading) → (read_neochrome file area ≡ Ok q) ↔ Given q
   neochrome-acceptance room q = (
     judged-value Given (read_neochrome file area) q neochrome-judged,
-    λ g. neochrome-complete room g.0 ∙ ap accepted (sym g.1),
+    λ g. neochrome-complete room g.0 ∙ ap Ok (sym g.1),
   )
 
   -- ---- every accepted reading is whole

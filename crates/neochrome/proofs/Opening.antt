@@ -1,4 +1,5 @@
 -- Laws of opening a NEOchrome file: what each test comes to, and that what passes is what reading accepts.
+use Rattle.std.specs.Prelude.{Ok, Some}
 use mathlib.Core.Path.{◌≡◌, refl}
 use mathlib.Core.Bool.{not}
 use mathlib.Core.List.{List}
@@ -8,17 +9,15 @@ use lib.ListN.{length}
 use lib.Dec.{eqb}
 use borrow.Author.Tests.{eq-eqb, ne_eqb, eqb-true, not-false}
 use Rattle.lists.proofs.Cond.{cond-elim}
-use Rattle.outcome.specs.declared.Refusal.{Refusal}
-use Rattle.outcome.specs.Outcome.{Outcome, accepted, refused, refuse, Judged}
-use Rattle.outcome.specs.Refusal.{wrong_length, wrong_flag, unknown_resolution}
+use Rattle.outcome.specs.Outcome.{Outcome, refuse, Judged}
+use Rattle.outcome.specs.Refusal.{wrong_length, wrong_flag}
+use Rattle.outcome.proofs.Outcome.{judged-value}
 use Rattle.words.specs.Word.{word_at}
-use Rattle.resolution.specs.declared.Chosen.TheVariants.{Known, Unknown}
 use Rattle.resolution.specs.declared.Resolution.{Resolution}
 use Rattle.resolution.specs.Choice.{chosen}
 use Rattle.resolution.proofs.Choice.{with_resolution-elim}
-use Rattle.neochrome.specs.declared.Opened.TheVariants.{File, Refused}
 use Rattle.neochrome.specs.Layout.{resolution_start, file_length}
-use Rattle.neochrome.specs.Opening.{opening, opened_as}
+use Rattle.neochrome.specs.Opening.{opening}
 use Rattle.neochrome.specs.Accepts.{AcceptsNeochrome}
 
 module _ (file : List ℕ) where
@@ -30,12 +29,7 @@ module _ (file : List ℕ) where
   unfolding opening
   opening-flag h k = simp (eq-eqb (length file) file_length h, ne_eqb (word_at file 0) 0 k)
 
-  pub opening-unknown : length file ≡ file_length → word_at file 0 ≡ 0 → chosen (word_at file resolution_start) ≡ Unknown
-      → opening file ≡ refuse unknown_resolution
-  unfolding opening
-  opening-unknown h k e = rw (eq-eqb (length file) file_length h, eq-eqb (word_at file 0) 0 k, e)
-
-  pub opening-accepted : (a : AcceptsNeochrome file) → opening file ≡ accepted a.resolution
+  pub opening-accepted : (a : AcceptsNeochrome file) → opening file ≡ Ok a.resolution
   unfolding opening
   opening-accepted a = rw (eq-eqb (length file) file_length a.fits, eq-eqb (word_at file 0) 0 a.flag, a.allowed)
 
@@ -49,18 +43,13 @@ module _ (file : List ℕ) where
       let J : Outcome Resolution → Type 0 = Judged Passes in
       cond-elim J (not (eqb (length file) file_length)) (λ _ n. omega arith) (λ size.
       cond-elim J (not (eqb (word_at file 0) 0)) (λ _ n. omega arith) (λ flag.
-      with_resolution-elim J (word_at file resolution_start) (λ r. accepted r) (λ n. omega arith) (λ r e.
+      with_resolution-elim J (word_at file resolution_start) (λ r. Ok r) (λ n. omega arith) (λ r e.
       (accepts r (eqb-true _ _ (not-false _ size)) (eqb-true _ _ (not-false _ flag)) e, refl))))
     where
       accepts : (r : Resolution) → length file ≡ file_length → word_at file 0 ≡ 0
-          → chosen (word_at file resolution_start) ≡ Known r → AcceptsNeochrome file
+          → chosen (word_at file resolution_start) ≡ Some r → AcceptsNeochrome file
       accepts r size flag e = record { resolution = r; flag = flag; allowed = e; fits = size }
 
--- the cases of the enum that the code answers, taken back
-pub file-opened : (o : Outcome Resolution) (r : Resolution) → File r ≡ opened_as o → o ≡ accepted r
-file-opened (accepted k) r e = cc
-file-opened (refused w) r e = let z : ◌≡◌ {A = ℕ} 0 1 = cc in absurd (omega arith)
-
-pub refused-opened : (o : Outcome Resolution) (why : Refusal) → Refused why ≡ opened_as o → o ≡ refused why
-refused-opened (accepted k) why e = let z : ◌≡◌ {A = ℕ} 0 1 = cc in absurd (omega arith)
-refused-opened (refused w) why e = cc
+  -- so it has a file's length
+  pub opened_fits : (r : Resolution) → opening file ≡ Ok r → length file ≡ file_length
+  opened_fits r e = (judged-value Passes (opening file) r opening-judged e).0.fits

@@ -1,12 +1,12 @@
 -- Demand 2 of NEOchrome files: what is written is read back, without its tail.
+use Rattle.std.specs.Prelude.{Ok, Some}
 use mathlib.Core.Path.{◌≡◌, ap, ◌∙◌}
 use mathlib.Core.List.{List}
 use Prim.Native.Nat.{ℕ, ◌≤◌}
 use native.Mathlib.Omega.{arith}
 use lib.ListN.{length, take}
 use lib.Seq.{take_all, length-take-le}
-use Rattle.outcome.specs.Outcome.{Outcome, accepted, bind, Judged}
-use Rattle.resolution.specs.declared.Chosen.TheVariants.{Known}
+use Rattle.outcome.specs.Outcome.{Outcome, bind, Judged}
 use Rattle.resolution.specs.declared.Resolution.{Resolution}
 use Rattle.resolution.specs.Shapes.{screen_bytes}
 use Rattle.resolution.specs.Choice.{chosen}
@@ -27,7 +27,7 @@ module _ (p : Picture) (screen : List ℕ) where
   file = neochrome_file p screen
 
   -- what is written fits
-  pub written-accepts : WholePicture p → (r : Resolution) → chosen p.resolution ≡ Known r
+  pub written-accepts : WholePicture p → (r : Resolution) → chosen p.resolution ≡ Some r
       → screen_bytes ≤ length screen → AcceptsNeochrome file
   written-accepts whole r known full = record {
     resolution = r;
@@ -37,9 +37,9 @@ module _ (p : Picture) (screen : List ℕ) where
   }
 
   module _ (out : ℕ) (whole : WholePicture p) (area : ℕ) (room : screen_bytes ≤ area) where
-    module _ (r : Resolution) (known : chosen p.resolution ≡ Known r) (full : screen_bytes ≤ length screen) where
+    module _ (r : Resolution) (known : chosen p.resolution ≡ Some r) (full : screen_bytes ≤ length screen) where
       file-back : read_neochrome file area
-          ≡ accepted (neochrome_back p screen (record { file = file; body = 0; records = 0 }))
+          ≡ Ok (neochrome_back p screen (record { file = file; body = 0; records = 0 }))
       unfolding written-accepts
       file-back =
           neochrome-complete file area room (written-accepts whole r known full)
@@ -52,7 +52,7 @@ module _ (p : Picture) (screen : List ℕ) where
 
     -- an accepted writing's file, read
     abbrev pub ReadsBack : Writing → Type 0
-    ReadsBack w = read_neochrome w.file area ≡ accepted (neochrome_back p screen w)
+    ReadsBack w = read_neochrome w.file area ≡ Ok (neochrome_back p screen w)
 
     pub neochrome-back : Judged ReadsBack (write_neochrome p screen out)
     unfolding write_neochrome

@@ -3,21 +3,14 @@ use mathlib.Core.Path.{◌≡◌}
 use mathlib.Core.List.{List}
 use Prim.Native.Nat.{ℕ}
 use lib.ListN.{length}
-use Rattle.outcome.specs.declared.Refusal.{Refusal}
-use Rattle.outcome.specs.Outcome.{refused}
 use Rattle.resolution.specs.declared.Resolution.{Resolution}
 use Rattle.picture.specs.declared.Picture.{Picture}
-use Rattle.picture.specs.Writing.{raw_writing, judge_writing}
+use Rattle.picture.specs.Writing.{raw_writing}
 use Rattle.picture.proofs.Writing.{Passed, judge-passed}
 use Rattle.neochrome.specs.Layout.{neochrome_file}
 use Rattle.neochrome.specs.Writing.{write_neochrome}
 
 module _ (p : Picture) (screen : List ℕ) (out : ℕ) where
-  pub write-refused : (why : Refusal) → judge_writing (length screen) out p.resolution ≡ refused why
-      → write_neochrome p screen out ≡ refused why
-  unfolding write_neochrome
-  write-refused why e = rw e
-
   pub write-passed : (r : Resolution) → Passed (length screen) out p.resolution r
       → write_neochrome p screen out ≡ raw_writing (neochrome_file p screen)
   unfolding write_neochrome

@@ -1,6 +1,6 @@
 -- Reading a NEOchrome file (document 01, "Order of judging": read).
-use Rattle.std.specs.Prelude.{ℕ, List}
-use Rattle.outcome.specs.Outcome.{Outcome, accepted, bind}
+use Rattle.std.specs.Prelude.{ℕ, List, Ok}
+use Rattle.outcome.specs.Outcome.{Outcome, bind}
 use Rattle.words.specs.Word.{words_at}
 use Rattle.resolution.specs.declared.Resolution.{Resolution}
 use Rattle.resolution.specs.Choice.{number_of}
@@ -15,4 +15,4 @@ neochrome_reading file r = raw_reading (without_tail (number_of r) (words_at 16 
 
 -- a file into an area of `area` bytes
 unfoldable pub read_neochrome : List ℕ → ℕ → Outcome Reading
-read_neochrome file area = judge_area area (bind (opening file) (λ r. accepted (neochrome_reading file r)))
+read_neochrome file area = judge_area area (bind (opening file) (λ r. Ok (neochrome_reading file r)))

@@ -1,20 +1,20 @@
 // NEOchrome files: opened, read and written. Definitions: specs/.
 #![tactic(auto)]
 
-ghost use Rattle.std.specs.Prelude.{◌≡◌, ◌≤◌, length};
+ghost use Rattle.std.specs.Prelude.{◌≡◌, ◌≤◌, length, Ok};
+ghost use Rattle.outcome.specs.Outcome.{map};
 ghost use Rattle.lists.specs.Written.{Written};
-ghost use Rattle.outcome.specs.Outcome.{accepted};
 ghost use Rattle.resolution.specs.Shapes.{screen_bytes};
-ghost use Rattle.picture.specs.Reading.{read_answer, read_area};
-ghost use Rattle.picture.specs.Writing.{file_bytes, write_answer, write_output};
+ghost use Rattle.picture.specs.Reading.{picture_read, read_area};
+ghost use Rattle.picture.specs.Writing.{file_bytes, file_written, write_output};
 ghost use Rattle.neochrome.specs.Layout.{file_length, screen_start, middle, header, neochrome_file};
-ghost use Rattle.neochrome.specs.Opening.{opening, opened_as};
+ghost use Rattle.neochrome.specs.Opening.{opening};
 ghost use Rattle.neochrome.specs.Reading.{neochrome_reading, read_neochrome};
 ghost use Rattle.neochrome.specs.Writing.{write_neochrome};
 
-use outcome::{AREA_TOO_SHORT, Refusal, UNKNOWN_RESOLUTION, WRONG_FLAG, WRONG_LENGTH};
-use picture::{Picture, ReadAnswer, Writable, WriteAnswer};
-use resolution::{Chosen, Resolution, SCREEN_BYTES};
+use outcome::{Reason, Refusal};
+use picture::{FileWritten, Picture, PictureRead};
+use resolution::{Resolution, SCREEN_BYTES};
 
 // Where the resolution's word stands; the flag's is before it.
 pub const RESOLUTION_START: usize = 2;
@@ -34,56 +34,50 @@ const NAME_LENGTH: usize = 12;
 // What stands between the name and the screen.
 const REST_LENGTH: usize = 80;
 
-// A file that passed, at its resolution, or why it is refused.
-#[derive(Clone, Copy)]
-pub enum Opened {
-    File(Resolution),
-    Refused(Refusal),
-}
-
 // Judges a file's length, flag and resolution.
-pub fn open_file(file: &[u8]) -> Opened
-    ensures { result ≡ opened_as (opening file.now) }
+#[tactic(auto, unfolding(crate::specs::Opening::opening))]
+pub fn open_file(file: &[u8]) -> Result<Resolution, Refusal>
+    ensures { result ≡ opening file.now }
 {
     if file.len() != FILE_LENGTH {
-        return Opened::Refused(outcome::refuse(WRONG_LENGTH));
+        return Err(outcome::refuse(Reason::WrongLength));
     }
     if words::word_at(file, 0) != 0 {
-        return Opened::Refused(outcome::refuse(WRONG_FLAG));
+        return Err(outcome::refuse(Reason::WrongFlag));
     }
-    match Resolution::from_number(words::word_at(file, RESOLUTION_START)) {
-        Chosen::Known(r) => Opened::File(r),
-        Chosen::Unknown => Opened::Refused(outcome::refuse(UNKNOWN_RESOLUTION)),
-    }
+    Resolution::try_from(words::word_at(file, RESOLUTION_START))
 }
 
 // The palette and the screen of an opened file.
-fn read_opened(file: &[u8], r: Resolution, area: &mut [u8]) -> ReadAnswer
+fn read_opened(file: &[u8], resolution: Resolution, area: &mut [u8]) -> PictureRead
     requires file_len { length file.now ≡ file_length }
     requires screen_bytes_in_bounds { screen_bytes ≤ length area.old }
-    ensures answer { result ≡ read_answer (accepted (neochrome_reading file.now r)) }
+    ensures answer { result ≡ picture_read (neochrome_reading file.now resolution) }
     ensures area { area.new
-        ≡ read_area (accepted (neochrome_reading file.now r)) area.old }
+        ≡ read_area (Ok (neochrome_reading file.now resolution)) area.old }
 {
     byte_copy::copy(&file[SCREEN_START..], area);
     let palette = picture::parts::palette_at(file, PALETTE_START);
-    picture::read_done(picture::without_tail(r.number(), palette), 0, 0)
+    PictureRead {
+        picture: picture::without_tail(resolution.number(), palette),
+        body: 0,
+        records: 0,
+    }
 }
 
 // Reads a file into the first 32,000 bytes of an area. All is judged before the first byte is written.
 #[inline(never)]
-pub fn read(file: &[u8], area: &mut [u8]) -> ReadAnswer
-    ensures answer { result ≡ read_answer (read_neochrome file.now (length area.old)) }
+#[tactic(auto, using(crate::proofs::Opening::opened_fits), unfolding(crate::specs::Reading::read_neochrome))]
+pub fn read(file: &[u8], area: &mut [u8]) -> Result<PictureRead, Refusal>
+    ensures answer { result ≡ map picture_read (read_neochrome file.now (length area.old)) }
     ensures area { area.new
         ≡ read_area (read_neochrome file.now (length area.old)) area.old }
 {
     if area.len() < SCREEN_BYTES {
-        return picture::read_refused(outcome::refuse(AREA_TOO_SHORT));
+        return Err(outcome::refuse(Reason::AreaTooShort));
     }
-    match open_file(file) {
-        Opened::File(r) => read_opened(file, r, area),
-        Opened::Refused(why) => picture::read_refused(why),
-    }
+    let resolution = open_file(file)?;
+    Ok(read_opened(file, resolution, area))
 }
 
 // What stands between the palette and the screen. Answers the length, as every function here that puts a part does.
@@ -108,8 +102,8 @@ fn put_header(picture: Picture, out: &mut [u8]) -> usize
     ensures part { Written (header picture) out.old out.new result }
     ensures size { result ≡ screen_start }
 {
-    let flag = picture::parts::word_bytes(0);
-    let resolution = picture::parts::word_bytes(picture.resolution);
+    let flag = words::word_bytes(0);
+    let resolution = words::word_bytes(picture.resolution);
     let words = picture.palette;
     let palette = picture::parts::palette_bytes(words);
     let mut end = byte_copy::copy(&flag, out);
@@ -129,13 +123,16 @@ fn put_file(picture: Picture, screen: &[u8], out: &mut [u8]) -> usize
 }
 
 // Writes a picture and its screen, over the front of the output. The tail is dropped.
-pub fn write(picture: Picture, screen: &[u8], out: &mut [u8]) -> WriteAnswer
-    ensures answer { result ≡ write_answer (write_neochrome picture screen.now (length out.old)) }
+#[tactic(auto, unfolding(crate::specs::Writing::write_neochrome))]
+pub fn write(picture: Picture, screen: &[u8], out: &mut [u8]) -> Result<FileWritten, Refusal>
+    ensures answer { result ≡ map file_written (write_neochrome picture screen.now (length out.old)) }
     ensures output { out.new
         ≡ write_output (write_neochrome picture screen.now (length out.old)) out.old }
 {
-    match picture::judge_writing(screen.len(), out.len(), picture.resolution) {
-        Writable::At(_) => picture::write_done(put_file(picture, screen, out), 0, 0),
-        Writable::Refused(why) => picture::write_refused(why),
-    }
+    picture::judge_writing(screen.len(), out.len(), picture.resolution)?;
+    Ok(FileWritten {
+        length: put_file(picture, screen, out),
+        body: 0,
+        records: 0,
+    })
 }

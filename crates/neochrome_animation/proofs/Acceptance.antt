@@ -1,4 +1,5 @@
 -- Which files each list accepts, and how it refuses the others, beside the reader of NEOchrome files.
+use Rattle.std.specs.Prelude.{Ok, Err}
 use mathlib.Core.Path.{◌≡◌, refl, sym, ap, ◌∙◌}
 use mathlib.Core.Logic.{◌↔◌}
 use mathlib.Core.List.{List}
@@ -6,7 +7,7 @@ use Prim.Native.Nat.{ℕ, ◌≤◌}
 use native.Mathlib.Omega.{arith}
 use Rattle.lists.proofs.Cond.{cond-eqb}
 use Rattle.outcome.specs.declared.Refusal.{Refusal}
-use Rattle.outcome.specs.Outcome.{Outcome, accepted, refused, map, refusal_of}
+use Rattle.outcome.specs.Outcome.{Outcome, map, refusal_of}
 use Rattle.resolution.specs.declared.Resolution.{Resolution}
 use Rattle.resolution.specs.Shapes.{screen_bytes}
 use Rattle.neochrome.specs.Accepts.{AcceptsNeochrome}
@@ -24,32 +25,32 @@ use Rattle.neochrome_animation.proofs.Judging.{opened-1989, refused-1989, opened
 -- ---- accepted exactly when it fits
 
 -- what is made of an opened file's resolution was made of one
-mapped : (o : Outcome Resolution) (s a : ColourAnimation) → map (λ _. s) o ≡ accepted a
-    → (r : Resolution) × (o ≡ accepted r) × (a ≡ s)
-mapped (accepted r) s a e = (r, refl, cc)
-mapped (refused why) s a e = let z : ◌≡◌ {A = ℕ} 0 1 = cc in absurd (omega arith)
+mapped : (o : Outcome Resolution) (s a : ColourAnimation) → map (λ _. s) o ≡ Ok a
+    → (r : Resolution) × (o ≡ Ok r) × (a ≡ s)
+mapped (Ok r) s a e = (r, refl, cc)
+mapped (Err why) s a e = let z : ◌≡◌ {A = ℕ} 0 1 = cc in absurd (omega arith)
 
 module _ (file : List ℕ) (a : ColourAnimation) where
-  pub acceptance-1989 : (animation 1 file ≡ accepted a) ↔ (AcceptsNeochrome file × (a ≡ shown1989 file))
+  pub acceptance-1989 : (animation 1 file ≡ Ok a) ↔ (AcceptsNeochrome file × (a ≡ shown1989 file))
   unfolding animation1989
   acceptance-1989 = (
     λ e. let m = mapped (opening1989 file) (shown1989 file) a (sym (list-1989 file 1 refl) ∙ e) in
         (opened-accepts file m.0 (opened-as-2008 file m.0 m.1), m.2),
     λ g. let o = opened-as-1989 file g.0.resolution (opening-accepted file g.0) in
-        list-1989 file 1 refl ∙ opened-1989 file g.0.resolution o ∙ ap accepted (sym g.1),
+        list-1989 file 1 refl ∙ opened-1989 file g.0.resolution o ∙ ap Ok (sym g.1),
   )
 
-  pub acceptance-2008 : (animation 2 file ≡ accepted a) ↔ (AcceptsNeochrome file × (a ≡ shown2008 file))
+  pub acceptance-2008 : (animation 2 file ≡ Ok a) ↔ (AcceptsNeochrome file × (a ≡ shown2008 file))
   unfolding animation2008
   acceptance-2008 = (
     λ e. let m = mapped (opening file) (shown2008 file) a (sym (list-2008 file 2 refl) ∙ e) in
         (opened-accepts file m.0 m.1, m.2),
     λ g. list-2008 file 2 refl ∙ opened-2008 file g.0.resolution (opening-accepted file g.0)
-        ∙ ap accepted (sym g.1),
+        ∙ ap Ok (sym g.1),
   )
 
 -- whatever the list, the file fits
-pub listed-fits : (list : ℕ) (file : List ℕ) (a : ColourAnimation) → animation list file ≡ accepted a
+pub listed-fits : (list : ℕ) (file : List ℕ) (a : ColourAnimation) → animation list file ≡ Ok a
     → AcceptsNeochrome file
 unfolding animation
 listed-fits list file a =
@@ -61,7 +62,7 @@ listed-fits list file a =
     (λ _ e. let z : ◌≡◌ {A = ℕ} 0 1 = cc in absurd (omega arith)))
   where
     Fits : Outcome ColourAnimation → Type 0
-    Fits o = o ≡ accepted a → AcceptsNeochrome file
+    Fits o = o ≡ Ok a → AcceptsNeochrome file
 
 -- ---- refused as reading refuses into an area of a screen or more
 
@@ -73,18 +74,18 @@ module _ (file : List ℕ) (area : ℕ) (room : screen_bytes ≤ area) where
   refused-as-read-2008 = ap refusal_of (list-2008 file 2 refl) ∙ go (opening file) refl
     where
       go : (o : Outcome Resolution) → opening file ≡ o → refusal_of (animation2008 file) ≡ why_read
-      go (accepted r) e =
+      go (Ok r) e =
           ap refusal_of (opened-2008 file r e) ∙ sym (ap refusal_of (read_opened file area room r e))
-      go (refused why) e =
+      go (Err why) e =
           ap refusal_of (refused-2008 file why e) ∙ sym (ap refusal_of (read-refused file area room why e))
 
   pub refused-as-read-1989 : refusal_of (animation 1 file) ≡ flag_as_resolution why_read
   refused-as-read-1989 = ap refusal_of (list-1989 file 1 refl) ∙ go (opening file) refl
     where
       go : (o : Outcome Resolution) → opening file ≡ o → refusal_of (animation1989 file) ≡ flag_as_resolution why_read
-      go (accepted r) e =
+      go (Ok r) e =
           ap refusal_of (opened-1989 file r (opened-as-1989 file r e))
           ∙ sym (ap (λ o. flag_as_resolution (refusal_of o)) (read_opened file area room r e))
-      go (refused why) e =
+      go (Err why) e =
           ap refusal_of (refused-1989 file (flag_as_resolution why) (refused-as-1989 file why e))
           ∙ sym (ap (λ o. flag_as_resolution (refusal_of o)) (read-refused file area room why e))

@@ -1,4 +1,5 @@
 -- Headers as each list shows them, computed.
+use Rattle.std.specs.Prelude.{cond, Some, None}
 use mathlib.Core.Path.{◌≡◌, refl}
 use mathlib.Core.Bool.{Bool, true, false}
 use mathlib.Core.List.{List, [], ◌∷◌, ◌++◌}
@@ -16,9 +17,7 @@ header animation = replicate 48 0 ++ animation
 
 abbrev shows : Bool → ℕ → ℕ → Bool → Direction → ℕ → ℕ → ColourAnimation
 shows valid left right on direction vblanks steps = record {
-  limits_valid = valid;
-  left_limit = left;
-  right_limit = right;
+  limits = cond valid (Some (record { left = left; right = right })) None;
   on = on;
   direction = direction;
   vblanks = vblanks;

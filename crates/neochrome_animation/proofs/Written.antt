@@ -1,4 +1,5 @@
 -- A NEOchrome file that writing makes has no animation: writing a picture leaves the cycling colours out.
+use Rattle.std.specs.Prelude.{cond, Ok, Some, None}
 use mathlib.Core.Path.{◌≡◌, sym, ap, ◌∙◌}
 use mathlib.Core.Bool.{Bool, true, false}
 use mathlib.Core.List.{List, ◌++◌, append_assoc}
@@ -6,7 +7,7 @@ use Prim.Native.Nat.{ℕ, ◌+◌, ◌<◌}
 use native.Mathlib.Omega.{arith}
 use lib.ListN.{length, get_or, take, replicate, length-append, length-replicate, get_or-append, get_or-replicate}
 use lib.Seq.{get_or-append-add}
-use Rattle.outcome.specs.Outcome.{Outcome, accepted, bind, Judged}
+use Rattle.outcome.specs.Outcome.{Outcome, bind, Judged}
 use Rattle.words.specs.Word.{word_at, word_bytes, words_bytes}
 use Rattle.resolution.specs.declared.Resolution.{Resolution}
 use Rattle.resolution.specs.Shapes.{screen_bytes}
@@ -27,9 +28,7 @@ use Rattle.neochrome_animation.proofs.Acceptance.{acceptance-1989, acceptance-20
 -- off, stopped, limits 0 and 0, no steps
 abbrev pub still : Bool → ColourAnimation
 still valid = record {
-  limits_valid = valid;
-  left_limit = 0;
-  right_limit = 0;
+  limits = cond valid (Some (record { left = 0; right = 0 })) None;
   on = false;
   direction = Stopped;
   vblanks = 0;
@@ -83,7 +82,7 @@ module _ (p : Picture) (whole : WholePicture p) (screen : List ℕ) where
   -- ---- of an accepted writing
 
   abbrev pub Still : Writing → Type 0
-  Still w = (animation 1 w.file ≡ accepted (still true)) × (animation 2 w.file ≡ accepted (still false))
+  Still w = (animation 1 w.file ≡ Ok (still true)) × (animation 2 w.file ≡ Ok (still false))
 
   pub written-still : (out : ℕ) → Judged Still (write_neochrome p screen out)
   unfolding write_neochrome

@@ -1,8 +1,9 @@
 -- A NEOchrome file as each of two lists of picture formats opens it, and what of its header each list shows (document
 -- 02, ticket 10; source 001 is the list of 1989, source 000 that of 2008).
-use Rattle.std.specs.Prelude.{ℕ, ◌+◌, ◌*◌, ◌/◌, ◌%◌, ◌^◌, Bool, true, cond, not, List, length, get_or, leb, eqb}
+use Rattle.std.specs.Prelude.{ℕ, ◌+◌, ◌*◌, ◌/◌, ◌%◌, ◌^◌, Bool, true, cond, not, List, length, get_or, leb, eqb, Ok}
+use Rattle.std.specs.Prelude.{Some, None}
 use Rattle.outcome.specs.declared.Refusal.{Refusal}
-use Rattle.outcome.specs.Outcome.{Outcome, accepted, refusal, refuse_if}
+use Rattle.outcome.specs.Outcome.{Outcome, refusal, refuse_if}
 use Rattle.outcome.specs.Refusal.{wrong_length, wrong_flag, unknown_resolution}
 use Rattle.words.specs.Word.{word_at}
 use Rattle.resolution.specs.declared.Resolution.{Resolution}
@@ -10,6 +11,7 @@ use Rattle.resolution.specs.Choice.{with_resolution}
 use Rattle.neochrome.specs.Layout.{resolution_start, file_length}
 use Rattle.neochrome.specs.Opening.{opening}
 use Rattle.neochrome_animation.specs.declared.ColourAnimation.{ColourAnimation}
+use Rattle.neochrome_animation.specs.declared.Limits.{Limits}
 use Rattle.neochrome_animation.specs.Layout.{valid_start, limits_start, on_start, speed_start, step_count_start}
 use Rattle.neochrome_animation.specs.Speed.{direction_of, vblanks_of}
 
@@ -21,7 +23,7 @@ long_resolution file = word_at file 0 * 2 ^ 16 + word_at file resolution_start
 
 unfoldable pub opening1989 : List ℕ → Outcome Resolution
 opening1989 file =
-    refuse_if (not (eqb (length file) file_length)) wrong_length (with_resolution (long_resolution file) (λ r. accepted r))
+    refuse_if (not (eqb (length file) file_length)) wrong_length (with_resolution (long_resolution file) (λ r. Ok r))
 
 -- 2008: a flag word and the resolution's word, as the reader opens a file
 abbrev pub opening2008 : List ℕ → Outcome Resolution
@@ -37,12 +39,13 @@ flag_as_resolution why = cond (eqb why.number wrong_flag) (refusal unknown_resol
 abbrev pub bit15_at : List ℕ → ℕ → Bool
 bit15_at file at = eqb (word_at file at / 2 ^ 15 % 2) 1
 
--- in both lists byte 49 is left and right limits, byte 51 the speed; limits not valid are shown as 0 and 0
+-- in both lists byte 49 is left and right limits, byte 51 the speed; limits not valid are not shown
+abbrev pub limits_at : List ℕ → Limits
+limits_at file = record { left = get_or file limits_start 0 / 16; right = get_or file limits_start 0 % 16 }
+
 abbrev pub shown : List ℕ → Bool → Bool → ℕ → ColourAnimation
 shown file valid on steps = record {
-  limits_valid = valid;
-  left_limit = cond valid (get_or file limits_start 0 / 16) 0;
-  right_limit = cond valid (get_or file limits_start 0 % 16) 0;
+  limits = cond valid (Some (limits_at file)) None;
   on = on;
   direction = direction_of (get_or file speed_start 0);
   vblanks = vblanks_of (get_or file speed_start 0);

@@ -2,23 +2,36 @@
 // format NEOchrome Animation (*.ANI). Definitions: specs/.
 #![tactic(auto)]
 
-ghost use Rattle.std.specs.Prelude.{◌≡◌, cond, length};
-ghost use Rattle.outcome.specs.Outcome.{accepted, refused};
+ghost use Rattle.std.specs.Prelude.{◌≡◌, length};
 ghost use Rattle.neochrome.specs.Layout.{file_length};
-ghost use Rattle.neochrome.specs.Opening.{opened_as};
 ghost use Rattle.neochrome_animation.specs.Speed.{direction_number, direction_of, vblanks_of};
-ghost use Rattle.neochrome_animation.specs.Lists.{opening1989, shown, shown1989, shown2008};
-ghost use Rattle.neochrome_animation.specs.Judging.{animation1989, animation2008, animation, outcome_as};
-ghost use Rattle.neochrome_animation.specs.Judging.{animation_answer};
+ghost use Rattle.neochrome_animation.specs.Lists.{opening1989, flag_as_resolution, shown, shown1989, shown2008};
+ghost use Rattle.neochrome_animation.specs.Judging.{listed, animation1989, animation2008, animation, animation_answer};
 
-use neochrome::Opened;
-use outcome::{Refusal, UNKNOWN_KIND, UNKNOWN_RESOLUTION, WRONG_FLAG};
+use outcome::{Reason, Refusal};
+use resolution::Resolution;
 
-// The list of 1989.
-pub const LIST_1989: u8 = 1;
+// The list of picture formats by which a header is read: that of 1989 or that of 2008.
+#[derive(Clone, Copy, Debug, PartialEq, Eq)]
+pub enum FormatList {
+    Of1989 = 1,
+    Of2008 = 2,
+}
 
-// The list of 2008.
-pub const LIST_2008: u8 = 2;
+// 1 and 2; any other number is refused.
+impl TryFrom<u8> for FormatList {
+    type Error = Refusal;
+
+    ghost try_from_gives = { λ number list. list ≡ listed number };
+
+    fn try_from(number: u8) -> Result<Self, Refusal> {
+        match number {
+            1 => Ok(FormatList::Of1989),
+            2 => Ok(FormatList::Of2008),
+            _ => Err(outcome::refuse(Reason::UnknownKind)),
+        }
+    }
+}
 
 // Where the word stands whose bit 15 marks the limits valid (2008).
 const VALID_START: usize = 48;
@@ -39,15 +52,16 @@ const STEP_COUNT_START: usize = 52;
 const HIGH_BIT: u8 = 128;
 
 // The direction that a signed speed gives: stopped where the speed is 0, whether the animation is on or not.
-#[derive(Clone, Copy)]
+#[derive(Clone, Copy, Debug, PartialEq, Eq)]
 pub enum Direction {
-    Stopped,
-    Left,
-    Right,
+    Stopped = 0,
+    Left = 1,
+    Right = 2,
 }
 
 impl Direction {
     // The direction of a signed speed.
+    // No From: the name says what the byte is, which its type does not.
     pub fn from_speed(speed: u8) -> Direction
         ensures { result ≡ direction_of speed }
     {
@@ -61,25 +75,26 @@ impl Direction {
     }
 
     // The number of a direction in an answer.
+    // Stays: `number-injective` (proofs/Speed.antt) and the clauses of the answer speak of it.
     pub fn number(self) -> u8
         ensures { result ≡ direction_number self }
     {
-        match self {
-            Direction::Stopped => 0,
-            Direction::Left => 1,
-            Direction::Right => 2,
-        }
+        self as u8
     }
+}
+
+// The first and the last register that cycle, 0 to 15, as they stand: neither their order nor the resolution is judged.
+#[derive(Clone, Copy)]
+pub struct Limits {
+    pub left: u8,
+    pub right: u8,
 }
 
 // What a list shows of a header.
 #[derive(Clone, Copy)]
 pub struct ColourAnimation {
-    pub limits_valid: bool,
-    // The first and the last register that cycle, 0 to 15, as they stand: neither their order nor the resolution is
-    // judged. Both 0 where they are not valid.
-    pub left_limit: u8,
-    pub right_limit: u8,
+    // Where they are valid.
+    pub limits: Option<Limits>,
     pub on: bool,
     pub direction: Direction,
     // Vblanks between two cycles: one less than the speed without its sign, and 0 of a speed of 0.
@@ -88,14 +103,8 @@ pub struct ColourAnimation {
     pub step_count: u16,
 }
 
-// What a list shows of a file, or why the file is refused.
-#[derive(Clone, Copy)]
-pub enum AnimationOutcome {
-    Shown(ColourAnimation),
-    Refused(Refusal),
-}
-
 // The answer of an animation: what is shown, the direction by its number; all 0 of a refusal.
+// C's struct: the exported function gives it back.
 #[repr(C)]
 #[derive(Clone, Copy)]
 pub struct AnimationAnswer {
@@ -109,44 +118,36 @@ pub struct AnimationAnswer {
     pub step_count: u16,
 }
 
-// The answer of an accepted file.
-fn animation_done(a: ColourAnimation) -> AnimationAnswer
-    ensures { result ≡ animation_answer (accepted a) }
-{
-    let direction = a.direction;
-    AnimationAnswer {
-        refusal: outcome::none(),
-        limits_valid: a.limits_valid,
-        left_limit: a.left_limit,
-        right_limit: a.right_limit,
-        on: a.on,
-        direction: direction.number(),
-        vblanks: a.vblanks,
-        step_count: a.step_count,
-    }
-}
+impl From<Result<ColourAnimation, Refusal>> for AnimationAnswer {
+    ghost from_gives = { λ given answer. answer ≡ animation_answer given };
 
-// The answer of a refusal.
-fn animation_refused(refusal: Refusal) -> AnimationAnswer
-    ensures { result ≡ animation_answer (refused refusal) }
-{
-    AnimationAnswer {
-        refusal,
-        limits_valid: false,
-        left_limit: 0,
-        right_limit: 0,
-        on: false,
-        direction: Direction::Stopped.number(),
-        vblanks: 0,
-        step_count: 0,
+    fn from(given: Result<ColourAnimation, Refusal>) -> AnimationAnswer {
+        match given {
+            Ok(animation) => {
+                let limits = animation.limits.unwrap_or(Limits { left: 0, right: 0 });
+                AnimationAnswer {
+                    refusal: outcome::none(),
+                    limits_valid: animation.limits.is_some(),
+                    left_limit: limits.left,
+                    right_limit: limits.right,
+                    on: animation.on,
+                    direction: animation.direction.number(),
+                    vblanks: animation.vblanks,
+                    step_count: animation.step_count,
+                }
+            }
+            Err(refusal) => AnimationAnswer {
+                refusal,
+                limits_valid: false,
+                left_limit: 0,
+                right_limit: 0,
+                on: false,
+                direction: Direction::Stopped.number(),
+                vblanks: 0,
+                step_count: 0,
+            },
+        }
     }
-}
-
-// A limit as it is shown.
-fn shown_limit(valid: bool, limit: u8) -> u8
-    ensures { result ≡ cond valid limit 0 }
-{
-    if valid { limit } else { 0 }
 }
 
 // The vblanks between two cycles at a signed speed.
@@ -170,9 +171,10 @@ fn shown(file: &[u8], limits_valid: bool, on: bool, step_count: u16) -> ColourAn
     let limits = file[LIMITS_START];
     let speed = file[SPEED_START];
     ColourAnimation {
-        limits_valid,
-        left_limit: shown_limit(limits_valid, limits / 16),
-        right_limit: shown_limit(limits_valid, limits % 16),
+        limits: limits_valid.then_some(Limits {
+            left: limits / 16,
+            right: limits % 16,
+        }),
         on,
         direction: Direction::from_speed(speed),
         vblanks: vblanks(speed),
@@ -181,6 +183,7 @@ fn shown(file: &[u8], limits_valid: bool, on: bool, step_count: u16) -> ColourAn
 }
 
 // What the list of 1989 shows: valid limits and no step count.
+#[tactic(auto, unfolding(crate::specs::Lists::shown1989))]
 fn shown_1989(file: &[u8]) -> ColourAnimation
     requires { length file.now ≡ file_length }
     ensures { result ≡ shown1989 file.now }
@@ -189,6 +192,7 @@ fn shown_1989(file: &[u8]) -> ColourAnimation
 }
 
 // What the list of 2008 shows: bit 15 of two words, and a third word.
+#[tactic(auto, unfolding(crate::specs::Lists::shown2008))]
 fn shown_2008(file: &[u8]) -> ColourAnimation
     requires { length file.now ≡ file_length }
     ensures { result ≡ shown2008 file.now }
@@ -199,60 +203,49 @@ fn shown_2008(file: &[u8]) -> ColourAnimation
     shown(file, limits_valid, on, step_count)
 }
 
-// A file opened by the list of 1989: what is the flag in 2008 is part of the resolution.
-fn open_1989(file: &[u8]) -> Opened
-    ensures { result ≡ opened_as (opening1989 file.now) }
+// A refusal of the flag as one of the resolution, and any other as it is.
+// From refusal to refusal, as `map_err` takes it.
+fn flag_as_resolution(refusal: Refusal) -> Refusal
+    ensures { result ≡ flag_as_resolution refusal }
 {
-    match neochrome::open_file(file) {
-        Opened::File(r) => Opened::File(r),
-        Opened::Refused(why) => {
-            if why.number == WRONG_FLAG {
-                return Opened::Refused(outcome::refuse(UNKNOWN_RESOLUTION));
-            }
-            Opened::Refused(why)
-        }
+    if refusal.number == Reason::WrongFlag.number() {
+        return outcome::refuse(Reason::UnknownResolution);
     }
+    refusal
+}
+
+// A file opened by the list of 1989: what is the flag in 2008 is part of the resolution.
+fn open_1989(file: &[u8]) -> Result<Resolution, Refusal>
+    ensures { result ≡ opening1989 file.now }
+{
+    neochrome::open_file(file).map_err(flag_as_resolution)
 }
 
 // What the list of 1989 shows of a file, or its refusal.
-fn judge_1989(file: &[u8]) -> AnimationOutcome
-    ensures { result ≡ outcome_as (animation1989 file.now) }
+#[tactic(auto, using(crate::proofs::Lists::opened_fits_1989), unfolding(crate::specs::Judging::animation1989))]
+fn animation_1989(file: &[u8]) -> Result<ColourAnimation, Refusal>
+    ensures { result ≡ animation1989 file.now }
 {
-    match open_1989(file) {
-        Opened::File(_) => AnimationOutcome::Shown(shown_1989(file)),
-        Opened::Refused(why) => AnimationOutcome::Refused(why),
-    }
+    open_1989(file)?;
+    Ok(shown_1989(file))
 }
 
 // What the list of 2008 shows of a file, or its refusal.
-fn judge_2008(file: &[u8]) -> AnimationOutcome
-    ensures { result ≡ outcome_as (animation2008 file.now) }
+#[tactic(auto, using(neochrome::proofs::Opening::opened_fits), unfolding(crate::specs::Judging::animation2008))]
+fn animation_2008(file: &[u8]) -> Result<ColourAnimation, Refusal>
+    ensures { result ≡ animation2008 file.now }
 {
-    match neochrome::open_file(file) {
-        Opened::File(_) => AnimationOutcome::Shown(shown_2008(file)),
-        Opened::Refused(why) => AnimationOutcome::Refused(why),
-    }
-}
-
-// What the list that a number names shows of a file, or the refusal.
-pub fn judge(list: u8, file: &[u8]) -> AnimationOutcome
-    ensures { result ≡ outcome_as (animation list file.now) }
-{
-    if list == LIST_1989 {
-        return judge_1989(file);
-    }
-    if list == LIST_2008 {
-        return judge_2008(file);
-    }
-    AnimationOutcome::Refused(outcome::refuse(UNKNOWN_KIND))
+    neochrome::open_file(file)?;
+    Ok(shown_2008(file))
 }
 
 // The colour animation of a NEOchrome file, by the list that a number names.
-pub fn animation(list: u8, file: &[u8]) -> AnimationAnswer
-    ensures { result ≡ animation_answer (animation list file.now) }
+#[tactic(auto, unfolding(crate::specs::Judging::animation))]
+pub fn animation(list: u8, file: &[u8]) -> Result<ColourAnimation, Refusal>
+    ensures { result ≡ animation list file.now }
 {
-    match judge(list, file) {
-        AnimationOutcome::Shown(a) => animation_done(a),
-        AnimationOutcome::Refused(why) => animation_refused(why),
+    match FormatList::try_from(list)? {
+        FormatList::Of1989 => animation_1989(file),
+        FormatList::Of2008 => animation_2008(file),
     }
 }

@@ -1,5 +1,12 @@
 -- Refusal numbers (document 01, "Numbers given back"; from 11 on document 02). 0 is an acceptance.
-use Rattle.std.specs.Prelude.{ℕ}
+use Rattle.std.specs.Prelude.{ℕ, Option, Some, None}
+use Rattle.outcome.specs.declared.Reason.{Reason}
+use Rattle.outcome.specs.declared.Reason.TheVariants.{AreaTooShort, UnknownKind, WrongLength, WrongFlag}
+use Rattle.outcome.specs.declared.Reason.TheVariants.{UnknownResolution, InputEnds, RecordCrosses, WrongTail}
+use Rattle.outcome.specs.declared.Reason.TheVariants.{NoPackedBody, OutOfRange, UndefinedControl, RunTooLong}
+use Rattle.outcome.specs.declared.Reason.TheVariants.{SizeMismatch, WrongHeader, Bit15Set, IgnoredBitsSet}
+use Rattle.outcome.specs.declared.Reason.TheVariants.{NoZeroTail, NotOwned, WrongVersion, OutsideProfile}
+use Rattle.outcome.specs.declared.Reason.TheVariants.{WrongScanlineRun}
 
 -- a lent area too short
 abbrev pub area_too_short : ℕ
@@ -85,3 +92,32 @@ outside_profile = 21
 -- a scanline run of a GEM IMG file out of place, or its flag or count wrong
 abbrev pub wrong_scanline_run : ℕ
 wrong_scanline_run = 22
+
+-- the number of a reason
+abbrev pub number_of : Reason → ℕ
+number_of AreaTooShort = area_too_short
+number_of UnknownKind = unknown_kind
+number_of WrongLength = wrong_length
+number_of WrongFlag = wrong_flag
+number_of UnknownResolution = unknown_resolution
+number_of InputEnds = input_ends
+number_of RecordCrosses = record_crosses
+number_of WrongTail = wrong_tail
+number_of NoPackedBody = no_packed_body
+number_of OutOfRange = out_of_range
+number_of UndefinedControl = undefined_control
+number_of RunTooLong = run_too_long
+number_of SizeMismatch = size_mismatch
+number_of WrongHeader = wrong_header
+number_of Bit15Set = bit15_set
+number_of IgnoredBitsSet = ignored_bits_set
+number_of NoZeroTail = no_zero_tail
+number_of NotOwned = not_owned
+number_of WrongVersion = wrong_version
+number_of OutsideProfile = outside_profile
+number_of WrongScanlineRun = wrong_scanline_run
+
+-- the number of a reason; 0 of none
+abbrev pub number_if : Option Reason → ℕ
+number_if (Some why) = number_of why
+number_if None = 0

@@ -70,14 +70,14 @@ abbrev pub LiteralFirst : List ℕ → ℕ → ℕ → List ℕ → Type 0
 LiteralFirst row i n out =
     let part = take (length row - i) (drop i row) in
     ((1 ≤ n) × (n ≤ 128) × (n ≤ length part) × (n < length out))
-    × ((last : List ℕ) (taken made : ℕ) → (taken ≡ n) × (made ≡ n + 1) → last ≡ over (record_of (n - 1) part) out
+    × ((last : List ℕ) (made : ℕ) → made ≡ n + 1 → last ≡ over (record_of (n - 1) part) out
     → Emitted row i (i + n) out last made 1)
 
 abbrev pub RepeatFirst : List ℕ → ℕ → ℕ → List ℕ → Type 0
 RepeatFirst row i n out =
     let part = take (length row - i) (drop i row) in
     ((2 ≤ n) × (n ≤ 128) × (1 ≤ length part) × (2 ≤ length out))
-    × ((last : List ℕ) (taken made : ℕ) → (taken ≡ n) × (made ≡ 2) → last ≡ over (record_of (257 - n) part) out
+    × ((last : List ℕ) (made : ℕ) → made ≡ 2 → last ≡ over (record_of (257 - n) part) out
     → Emitted row i (i + n) out last made 1)
 
 module _ (row : List ℕ) (i : ℕ) (more : i < length row) (narrow : length row ≤ 128) (n : ℕ) (few : n ≤ 128)
@@ -92,11 +92,9 @@ module _ (row : List ℕ) (i : ℕ) (more : i < length row) (narrow : length row
       let room : n ≤ length part = omega (arith, w.1, k) in
       let space : n < length out = omega (arith, w.2, k) in (
         (some, few, room, space),
-        λ last taken made e all.
-            let p = puts-literal (n - 1) n part out last taken made refl some few room e all in
-            rw e.0 at
-            (emitted-record row i more narrow (n - 1) known {out = out} {last = last} {taken = taken}
-            {made = made} p),
+        λ last made e all.
+            let p = puts-literal (n - 1) n part out last made refl some few room e all in
+            emitted-record row i more narrow (n - 1) known {out = out} {last = last} {taken = n} {made = made} p,
       )
 
   pub repeat-first : 2 ≤ n → 257 - n ≡ get_or (least (drop i row)) 0 0 → RepeatFirst row i n out
@@ -104,11 +102,9 @@ module _ (row : List ℕ) (i : ℕ) (more : i < length row) (narrow : length row
       let w = record-room row i more narrow (257 - n) known out fits in
       let space : 2 ≤ length out = omega (arith, w.2, (repeat-shown n some few).0) in (
         (some, few, w.0, space),
-        λ last taken made e all.
-            let p = puts-repeat (257 - n) n part out last taken made refl some few w.0 e all in
-            rw e.0 at
-            (emitted-record row i more narrow (257 - n) known {out = out} {last = last} {taken = taken}
-            {made = made} p),
+        λ last made e all.
+            let p = puts-repeat (257 - n) n part out last made refl some few w.0 e all in
+            emitted-record row i more narrow (257 - n) known {out = out} {last = last} {taken = n} {made = made} p,
       )
 
 -- ---- one part after another

@@ -25,16 +25,16 @@ abbrev pub Puts : ℕ → List ℕ → List ℕ → List ℕ → ℕ → ℕ →
 Puts c row out last taken made =
     ((taken ≡ taken_by c) × (made ≡ length (record_of c row))) × (last ≡ over (record_of c row) out)
 
-pub puts-literal : (c n : ℕ) (row out last : List ℕ) (taken made : ℕ) → c ≡ n - 1 → 1 ≤ n → n ≤ 128 → n ≤ length row
-    → (taken ≡ n) × (made ≡ n + 1) → last ≡ over (record_of (n - 1) row) out → Puts c row out last taken made
-puts-literal c n row out last taken made e h l m (t, k) w =
+pub puts-literal : (c n : ℕ) (row out last : List ℕ) (made : ℕ) → c ≡ n - 1 → 1 ≤ n → n ≤ 128 → n ≤ length row
+    → made ≡ n + 1 → last ≡ over (record_of (n - 1) row) out → Puts c row out last n made
+puts-literal c n row out last made e h l m k w =
     let s = literal-shown n h l in
     let r = record-length (n - 1) row (omega (arith, s.0)) in
-    subst (λ (k : ℕ). Puts k row out last taken made) (sym e) ((omega (arith, s.1), omega (arith, r, s.0)), w)
+    subst (λ (k : ℕ). Puts k row out last n made) (sym e) ((omega (arith, s.1), omega (arith, r, s.0)), w)
 
-pub puts-repeat : (c n : ℕ) (row out last : List ℕ) (taken made : ℕ) → c ≡ 257 - n → 2 ≤ n → n ≤ 128 → 1 ≤ length row
-    → (taken ≡ n) × (made ≡ 2) → last ≡ over (record_of (257 - n) row) out → Puts c row out last taken made
-puts-repeat c n row out last taken made e h l m (t, k) w =
+pub puts-repeat : (c n : ℕ) (row out last : List ℕ) (made : ℕ) → c ≡ 257 - n → 2 ≤ n → n ≤ 128 → 1 ≤ length row
+    → made ≡ 2 → last ≡ over (record_of (257 - n) row) out → Puts c row out last n made
+puts-repeat c n row out last made e h l m k w =
     let s = repeat-shown n h l in
     let r = record-length (257 - n) row (omega (arith, s.0)) in
-    subst (λ (k : ℕ). Puts k row out last taken made) (sym e) ((omega (arith, s.1), omega (arith, r, s.0)), w)
+    subst (λ (k : ℕ). Puts k row out last n made) (sym e) ((omega (arith, s.1), omega (arith, r, s.0)), w)

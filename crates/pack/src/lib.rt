@@ -4,7 +4,9 @@
 
 ghost use Rattle.std.specs.Prelude.{◌≡◌, true, [], ◌∷◌, ◌+◌, ◌-◌, ◌^◌, ◌≤◌, ◌<◌, length, drop, ltb};
 ghost use Rattle.lists.specs.Over.{over};
-ghost use Rattle.packbits.specs.Row.{row_answer, row_output};
+ghost use Rattle.outcome.specs.Outcome.{map};
+ghost use Rattle.packbits.specs.Row.{row_packed, row_output};
+ghost use Rattle.pack.specs.declared.Near.TheVariants.{Run, Single};
 ghost use Rattle.pack.specs.Controls.{record_of, taken_by, shown_by};
 ghost use Rattle.pack.specs.Emitted.{Emitted};
 ghost use Rattle.pack.specs.Least.{least, least_records};
@@ -14,8 +16,8 @@ ghost use Rattle.pack.specs.Pack.{pack_row, pack_into, least_len};
 ghost use Rattle.pack.specs.Runs.{run_length, end_of, little_endian, FirstOther};
 ghost use Rattle.pack.specs.ShortRuns.{ahead_at, control_at, LongRun, Known, FourSingles};
 
-use outcome::{AREA_TOO_SHORT, OUT_OF_RANGE};
-use packbits::{MAX_WIDTH, RowAnswer};
+use outcome::{Reason, Refusal};
+use packbits::{MAX_WIDTH, Packed};
 
 // The longest body that packing makes of a row.
 pub const MAX_BODY: usize = 129;
@@ -50,11 +52,12 @@ fn end_by_bytes(row: &[u8], x: u8, from: usize) -> usize
     requires { from ≤ length row.now }
     ensures { result ≡ end_of x row.now from }
 {
-    let mut n = from;
-    while n < row.len() && row[n] == x {
-        n += 1;
+    for n in from..row.len() {
+        if row[n] != x {
+            return n;
+        }
     }
-    n
+    row.len()
 }
 
 // The same, eight bytes at a time where there are so many.
@@ -63,6 +66,7 @@ fn end_by_words(row: &[u8], x: u8, from: usize) -> usize
     ensures { result ≡ end_of x row.now from }
 {
     let mut n = from;
+    // By while: the step is eight bytes, as long as so many are left.
     while n + WORD <= row.len() {
         let d = differing(
             x,
@@ -114,28 +118,13 @@ fn count_run(c: Count, n: usize) -> Count
     requires { c.len < 1000 }
     ensures { result ≡ count_run n c }
 {
-    if n == 1 {
-        if c.literal {
-            return Count {
-                len: c.len + 1,
-                literal: true,
-            };
-        }
-        return Count {
-            len: c.len + 2,
-            literal: true,
-        };
-    }
-    if n == 2 {
-        return Count {
-            len: c.len + 2,
-            literal: c.literal,
-        };
-    }
-    Count {
-        len: c.len + 2,
-        literal: false,
-    }
+    let len = if n == 1 && c.literal {
+        c.len + 1
+    } else {
+        c.len + 2
+    };
+    let literal = n == 1 || n == 2 && c.literal;
+    Count { len, literal }
 }
 
 // The length of the least body of a row that is not too wide.
@@ -148,6 +137,7 @@ fn body_len(row: &[u8]) -> usize
         literal: false,
     };
     let mut at = 0;
+    // By while: the step is a run.
     while at < row.len() {
         let n = run_at(row, at);
         c = count_run(c, n);
@@ -167,7 +157,7 @@ pub fn least_len(row: &[u8]) -> usize
 }
 
 // The short runs, of one or two bytes each, from a place on: where the literal of them ends, where they end, and the
-// length of the run there, 0 at the end of the row.
+// length of the run there: 0 at the end of the row, where no byte is left.
 #[derive(Clone, Copy)]
 struct Ahead {
     single: usize,
@@ -180,19 +170,11 @@ fn four_singles(row: &[u8], at: usize) -> bool
     requires { (at < length row.now) × (length row.now ≤ 128) }
     ensures { result ≡ true → FourSingles row.now at }
 {
-    if row.len() <= at + 4 {
-        return false;
-    }
-    if row[at] == row[at + 1] {
-        return false;
-    }
-    if row[at + 1] == row[at + 2] {
-        return false;
-    }
-    if row[at + 2] == row[at + 3] {
-        return false;
-    }
-    row[at + 3] != row[at + 4]
+    at + 4 < row.len()
+        && row[at] != row[at + 1]
+        && row[at + 1] != row[at + 2]
+        && row[at + 2] != row[at + 3]
+        && row[at + 3] != row[at + 4]
 }
 
 // The short runs from the place i on, run by run, but four single bytes at a time.
@@ -205,6 +187,7 @@ fn short_runs(row: &[u8], i: usize) -> Ahead
 {
     let mut single = i;
     let mut at = i;
+    // By while: the step is four bytes or a run.
     while at < row.len() {
         if four_singles(row, at) {
             at += 4;
@@ -231,26 +214,14 @@ fn short_runs(row: &[u8], i: usize) -> Ahead
     }
 }
 
-// 1 where two bytes are equal, otherwise 0.
-fn same(x: u8, y: u8) -> u64
-    ensures { result ≡ same_as x y }
-{
-    if x == y {
-        return 1;
-    }
-    0
-}
-
 // Which bytes from a place on equal the byte after them, as binary digits, the first one lowest.
 fn equal_next(row: &[u8], from: usize) -> u64
     requires { (from < length row.now) × (length row.now ≤ from + 63) }
     ensures { result ≡ equal_next (drop from row.now) }
 {
-    let mut at = row.len() - 1;
     let mut equal = 0;
-    while from < at {
-        at -= 1;
-        equal = equal * 2 + same(row[at], row[at + 1]);
+    for at in (from..row.len() - 1).rev() {
+        equal = equal * 2 + u64::from(row[at] == row[at + 1]);
     }
     equal
 }
@@ -325,13 +296,6 @@ fn runs_ahead(row: &[u8], i: usize, equal: u64) -> Ahead
     masked_runs(row, i, equal)
 }
 
-// One record: the bytes of the row that it stands for, and the bytes that it is.
-#[derive(Clone, Copy)]
-struct Put {
-    taken: usize,
-    made: usize,
-}
-
 // A literal's bytes to the front of out. A single byte is stored, which costs less than a copy.
 fn put_literal(shown: &[u8], out: &mut [u8])
     requires { length shown.now ≤ length out.old }
@@ -344,29 +308,33 @@ fn put_literal(shown: &[u8], out: &mut [u8])
     }
 }
 
-// The literal of the first n bytes of the row to the front of out.
-fn put_bytes(n: usize, row: &[u8], out: &mut [u8]) -> Put
+// The literal of the first n bytes of the row to the front of out, and how many bytes that is.
+fn put_bytes(n: usize, row: &[u8], out: &mut [u8]) -> usize
     requires { (1 ≤ n) × (n ≤ 128) × (n ≤ length row.now) × (n < length out.old) }
-    ensures taken_value { (result.taken ≡ n) × (result.made ≡ n + 1) }
+    ensures made { result ≡ n + 1 }
     ensures out_after { out.new ≡ over (record_of (n - 1) row.now) out.old }
 {
     out[0] = (n - 1) as u8;
     put_literal(&row[..n], &mut out[1..]);
-    Put {
-        taken: n,
-        made: n + 1,
-    }
+    n + 1
 }
 
-// The repeat of the first n bytes of the row, which are equal, to the front of out.
-fn put_repeat(n: usize, row: &[u8], out: &mut [u8]) -> Put
+// The repeat of the first n bytes of the row, which are equal, to the front of out, and how many bytes that is.
+fn put_repeat(n: usize, row: &[u8], out: &mut [u8]) -> usize
     requires { (2 ≤ n) × (n ≤ 128) × (1 ≤ length row.now) × (2 ≤ length out.old) }
-    ensures taken_value { (result.taken ≡ n) × (result.made ≡ 2) }
+    ensures made { result ≡ 2 }
     ensures out_after { out.new ≡ over (record_of (257 - n) row.now) out.old }
 {
     out[0] = (257 - n) as u8;
     out[1] = row[0];
-    Put { taken: n, made: 2 }
+    2
+}
+
+// One record: the bytes of the row that it stands for, and the bytes that it is.
+#[derive(Clone, Copy)]
+struct Put {
+    taken: usize,
+    made: usize,
 }
 
 // The record at the place i, before the end of the short runs s: of the literal or of a pair. The row from there on and
@@ -379,16 +347,12 @@ fn put_next(i: usize, s: Ahead, row: &[u8], out: &mut [u8]) -> Put
     ensures out_after { out.new ≡ over (record_of (control_at i s) row.now) out.old }
 {
     if i < s.single {
-        return put_bytes(s.single - i, row, out);
+        let taken = s.single - i;
+        let made = put_bytes(taken, row, out);
+        return Put { taken, made };
     }
-    put_repeat(2, row, out)
-}
-
-// Some records: their bytes and their number.
-#[derive(Clone, Copy)]
-struct Packed {
-    bytes: usize,
-    records: usize,
+    let made = put_repeat(2, row, out);
+    Put { taken: 2, made }
 }
 
 // The records of the short runs s from the place i on, to the front of out.
@@ -401,6 +365,7 @@ fn put_short(row: &[u8], i: usize, s: Ahead, out: &mut [u8]) -> Packed
     let mut at = i;
     let mut o = 0;
     let mut n = 0;
+    // By while: the step is what a record packs.
     while at < s.end {
         let p = put_next(at, s, &row[at..], &mut out[o..]);
         at += p.taken;
@@ -421,11 +386,8 @@ fn put_before(row: &[u8], i: usize, s: Ahead, out: &mut [u8]) -> Packed
         result.records }
 {
     if s.end == i + 1 {
-        let p = put_bytes(1, &row[i..], out);
-        return Packed {
-            bytes: p.made,
-            records: 1,
-        };
+        let bytes = put_bytes(1, &row[i..], out);
+        return Packed { bytes, records: 1 };
     }
     put_short(row, i, s, out)
 }
@@ -443,27 +405,34 @@ fn put_runs(row: &[u8], i: usize, s: Ahead, out: &mut [u8]) -> Packed
     }
     let end = s.end;
     let bytes = p.bytes;
-    let q = put_repeat(s.count, &row[end..], &mut out[bytes..]);
+    let made = put_repeat(s.count, &row[end..], &mut out[bytes..]);
     Packed {
-        bytes: bytes + q.made,
+        bytes: bytes + made,
         records: p.records + 1,
     }
 }
 
-// How many single bytes come before a run of three or more, by the first four bytes: 0 or 1; 2 stands for neither.
-fn singles_before(a: u8, b: u8, c: u8, d: u8) -> usize
-    ensures { (result ≡ 0 → (a ≡ b) × (b ≡ c)) × (result ≡ 1 → (a ≡ b → ⊥) × (b ≡ c) × (c ≡ d)) }
+// What is at a place: a run of three or more, one single byte before such a run, or neither.
+enum Near {
+    Run,
+    Single,
+    Neither,
+}
+
+// What the first four bytes tell of it.
+fn what_is_near(a: u8, b: u8, c: u8, d: u8) -> Near
+    ensures run { result ≡ Run → (a ≡ b) × (b ≡ c) }
+    ensures single { result ≡ Single → (a ≡ b → ⊥) × (b ≡ c) × (c ≡ d) }
 {
     if b != c {
-        return 2;
+        Near::Neither
+    } else if a == b {
+        Near::Run
+    } else if c == d {
+        Near::Single
+    } else {
+        Near::Neither
     }
-    if a == b {
-        return 0;
-    }
-    if c != d {
-        return 2;
-    }
-    1
 }
 
 // Records from the left: the place of the row that they reach, their bytes and their number.
@@ -490,17 +459,17 @@ fn put_last(row: &[u8], i: usize, out: &mut [u8]) -> Part
         };
     }
     if end_by_bytes(row, row[i], i + 1) == i + 2 {
-        let p = put_repeat(2, &row[i..], out);
+        let bytes = put_repeat(2, &row[i..], out);
         return Part {
             place: i + 2,
-            bytes: p.made,
+            bytes,
             records: 1,
         };
     }
-    let p = put_bytes(left, &row[i..], out);
+    let bytes = put_bytes(left, &row[i..], out);
     Part {
         place: i + left,
-        bytes: p.made,
+        bytes,
         records: 1,
     }
 }
@@ -516,28 +485,29 @@ fn put_near(row: &[u8], i: usize, out: &mut [u8]) -> Part
     if row.len() <= i + 3 {
         return put_last(row, i, out);
     }
-    let singles = singles_before(row[i], row[i + 1], row[i + 2], row[i + 3]);
-    if 1 < singles {
-        return Part {
+    match what_is_near(row[i], row[i + 1], row[i + 2], row[i + 3]) {
+        Near::Run => {
+            let n = end_by_words(row, row[i], i + 3) - i;
+            let bytes = put_repeat(n, &row[i..], out);
+            Part {
+                place: i + n,
+                bytes,
+                records: 1,
+            }
+        }
+        Near::Single => {
+            let bytes = put_bytes(1, &row[i..], out);
+            Part {
+                place: i + 1,
+                bytes,
+                records: 1,
+            }
+        }
+        Near::Neither => Part {
             place: i,
             bytes: 0,
             records: 0,
-        };
-    }
-    if singles == 1 {
-        let p = put_bytes(1, &row[i..], out);
-        return Part {
-            place: i + 1,
-            bytes: p.made,
-            records: 1,
-        };
-    }
-    let n = end_by_words(row, row[i], i + 3) - i;
-    let p = put_repeat(n, &row[i..], out);
-    Part {
-        place: i + n,
-        bytes: p.made,
-        records: 1,
+        },
     }
 }
 
@@ -552,6 +522,7 @@ fn emit_near(row: &[u8], out: &mut [u8]) -> Part
     let mut i = 0;
     let mut o = 0;
     let mut n = 0;
+    // By while: the step is what the next records pack.
     while i < row.len() {
         let p = put_near(row, i, &mut out[o..]);
         let place = p.place;
@@ -584,6 +555,7 @@ fn emit_rest(row: &[u8], from: usize, out: &mut [u8]) -> Packed
     let mut i = from;
     let mut o = 0;
     let mut n = 0;
+    // By while: the step is the short runs and the run behind them.
     while i < row.len() {
         let s = runs_ahead(row, i, equal);
         let p = put_runs(row, i, s, &mut out[o..]);
@@ -627,36 +599,33 @@ fn exceeds(row: &[u8], room: usize) -> bool
 }
 
 // Packs the row to the front of out, which need have no more bytes than are written.
-pub fn pack_into(row: &[u8], out: &mut [u8]) -> RowAnswer
-    ensures value { result ≡ row_answer (pack_into row.now (length out.old)) }
+#[tactic(auto, unfolding(crate::specs::Pack::pack_within))]
+pub fn pack_into(row: &[u8], out: &mut [u8]) -> Result<Packed, Refusal>
+    ensures value { result ≡ map row_packed (pack_into row.now (length out.old)) }
     ensures out_after { out.new
         ≡ row_output (pack_into row.now (length out.old)) out.old }
 {
     if packbits::width_out_of_range(row.len()) {
-        return packbits::row_refused(outcome::refuse(OUT_OF_RANGE));
+        return Err(outcome::refuse(Reason::OutOfRange));
     }
     if exceeds(row, out.len()) {
-        return packbits::row_refused(outcome::refuse(AREA_TOO_SHORT));
+        return Err(outcome::refuse(Reason::AreaTooShort));
     }
-    let p = emit(row, out);
-    RowAnswer {
-        refusal: outcome::none(),
-        bytes: p.bytes,
-        records: p.records,
-    }
+    Ok(emit(row, out))
 }
 
 // Packs the row to the front of out. An output below 129 bytes is refused with 1.
-pub fn pack_row(row: &[u8], out: &mut [u8]) -> RowAnswer
-    ensures value { result ≡ row_answer (pack_row row.now (length out.old)) }
+#[tactic(auto, unfolding(crate::specs::Pack::pack_within))]
+pub fn pack_row(row: &[u8], out: &mut [u8]) -> Result<Packed, Refusal>
+    ensures value { result ≡ map row_packed (pack_row row.now (length out.old)) }
     ensures out_after { out.new
         ≡ row_output (pack_row row.now (length out.old)) out.old }
 {
     if packbits::width_out_of_range(row.len()) {
-        return packbits::row_refused(outcome::refuse(OUT_OF_RANGE));
+        return Err(outcome::refuse(Reason::OutOfRange));
     }
     if out.len() < MAX_BODY {
-        return packbits::row_refused(outcome::refuse(AREA_TOO_SHORT));
+        return Err(outcome::refuse(Reason::AreaTooShort));
     }
     pack_into(row, out)
 }

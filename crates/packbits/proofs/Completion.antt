@@ -1,5 +1,6 @@
 -- What is good before a record at fault: the whole rows and the bytes of the row under way are the ones that every
 -- input with the same bytes up to that record has (document 02, ticket 3).
+use Rattle.std.specs.Prelude.{Ok}
 use mathlib.Core.Path.{◌≡◌, refl, sym, ap, ap₂, ◌∙◌}
 use Prim.Native.Nat.{ℕ, suc, ◌+◌, ◌-◌, ◌*◌}
 use native.Mathlib.Nat.{suc-mul}
@@ -10,7 +11,7 @@ use lib.Seq.{take_at, take-append_seam, get_or-append_seam}
 use Rattle.lists.specs.Wide.{Wide}
 use Rattle.lists.proofs.Cond.{cond-eqb}
 use Rattle.outcome.specs.declared.Refusal.{Refusal}
-use Rattle.outcome.specs.Outcome.{Outcome, accepted, later}
+use Rattle.outcome.specs.Outcome.{Outcome, later}
 use Rattle.packbits.specs.Unpack.{Progress, progress}
 use Rattle.packbits.specs.Rows.{RowsProgress, row_step, rows_from, Rows, rows_outcome, unpack_rows}
 use Rattle.packbits.specs.Stops.{Stops, BeginsWith}
@@ -30,10 +31,10 @@ first-begins m width begun input =
 
 -- ---- what is accepted has no fault
 
-pub rows-accepted : (p : RowsProgress) (q : Rows) → rows_outcome p ≡ accepted q → (p.fault ≡ 0) × (p.rows ≡ q.rows)
+pub rows-accepted : (p : RowsProgress) (q : Rows) → rows_outcome p ≡ Ok q → (p.fault ≡ 0) × (p.rows ≡ q.rows)
 unfolding rows_outcome
 rows-accepted p q =
-    cond-eqb (λ (o : Outcome Rows). o ≡ accepted q → (p.fault ≡ 0) × (p.rows ≡ q.rows)) p.fault 0
+    cond-eqb (λ (o : Outcome Rows). o ≡ Ok q → (p.fault ≡ 0) × (p.rows ≡ q.rows)) p.fault 0
     (λ f is. (f, ap (λ (o : Outcome Rows). later o (λ r. r.rows) []) is))
     (λ f is. let z : ◌≡◌ {A = ℕ} 0 1 = cc in absurd (omega arith))
 
@@ -50,7 +51,7 @@ begins-with rows begun row left list e = record {
 }
 
 accepted-begins : (rows : List (List ℕ)) (begun : List ℕ) (bytes records : ℕ) (p : RowsProgress) (q : Rows)
-    → FirstBegins begun p → rows_outcome (rows_before rows bytes records p) ≡ accepted q → BeginsWith rows begun q.rows
+    → FirstBegins begun p → rows_outcome (rows_before rows bytes records p) ≡ Ok q → BeginsWith rows begun q.rows
 accepted-begins rows begun bytes records p q first is =
     let a = rows-accepted (rows_before rows bytes records p) q is in
     let f = first a.0 in
@@ -65,7 +66,7 @@ length-wide width (row ∷ rows) w =
 module _ (n width : ℕ) {input : List ℕ} {why : Refusal} (s : Stops n width input why) where
   -- accepted, it begins with the whole rows, and its next row with the bytes of the row under way
   pub completion : (other : List ℕ) → take why.place other ≡ take why.place input → (q : Rows)
-      → unpack_rows n width other ≡ accepted q → BeginsWith s.rows s.begun q.rows
+      → unpack_rows n width other ≡ Ok q → BeginsWith s.rows s.begun q.rows
   completion other same q is =
       let rest : List ℕ = drop why.place other in
       let before : take why.place other ≡ s.whole ++ s.part =

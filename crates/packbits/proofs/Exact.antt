@@ -1,5 +1,6 @@
 -- `unpack` accepts with exactly the bodies of the relation `Unpacks`: sound, complete, and so the relation is a
 -- function.
+use Rattle.std.specs.Prelude.{Err}
 use mathlib.Core.Path.{◌≡◌, refl, sym, ap, ◌∙◌, subst}
 use mathlib.Core.Logic.{◌↔◌}
 use Prim.Native.Nat.{ℕ, suc, ◌-◌, ◌≤◌, ◌<◌}
@@ -12,7 +13,7 @@ use lib.Dec.{eqb}
 use borrow.Author.Tests.{eqb-true}
 use Rattle.lists.specs.Bytes.{Bytes}
 use Rattle.lists.proofs.Bytes.{bytes_drop}
-use Rattle.outcome.specs.Outcome.{Outcome, refused, later}
+use Rattle.outcome.specs.Outcome.{Outcome, later}
 use Rattle.packbits.specs.declared.Record.{Record}
 use Rattle.packbits.specs.Records.{packed_len, row_len, row_bytes, fault, record_at}
 use Rattle.packbits.specs.Row.{Row, done}
@@ -46,7 +47,7 @@ unfolding outcome_of
 accepted-full p bytes records made = go (eqb p.fault 0) refl
   where
     go : (b : Bool) → eqb p.fault 0 ≡ b
-        → cond b (done p.bytes p.records p.made) (refused (row_fault p))
+        → cond b (done p.bytes p.records p.made) (Err (row_fault p))
         ≡ done bytes records made
         → p ≡ filled bytes records made
     go true q e = same-filled (eqb-true _ _ q) (same-done e)

@@ -1,4 +1,5 @@
 -- Laws of records.
+use Rattle.std.specs.Prelude.{None, Some}
 use mathlib.Core.Path.{◌≡◌, refl, sym, ap, ◌∙◌}
 use Prim.Native.Nat.{ℕ, suc, ◌+◌, ◌-◌, ◌≤◌, ◌<◌}
 use native.Mathlib.Omega.{arith}
@@ -8,9 +9,12 @@ use lib.ListN.{length, get_or, drop, length-drop, length-replicate, drop_of_leng
 use lib.Seq.{drop-cons, length-take-le}
 use lib.Dec.{ltb, eqb}
 use borrow.Author.Tests.{lt-ltb, le-ltb, ne_eqb, ltb-true, ltb-false, eqb-true, eqb-false}
+use Rattle.outcome.specs.declared.Reason.{Reason}
+use Rattle.outcome.specs.Refusal.{number_of}
 use Rattle.packbits.specs.declared.Record.{Record}
 use Rattle.packbits.specs.declared.Record.TheVariants.{Literal, Repeat, Nothing, Truncated, Crossing}
-use Rattle.packbits.specs.Records.{control, packed_len, row_len, row_bytes, fault, judged, record_at}
+use Rattle.outcome.specs.Refusal.{number_if}
+use Rattle.packbits.specs.Records.{control, packed_len, row_len, row_bytes, fault_of, fault, judged, record_at}
 
 -- ---- a control byte
 
@@ -140,3 +144,18 @@ pub whole-at : (file : List ℕ) (from room : ℕ) (r : Record) → r ≡ record
 whole-at file from room r is e =
     let w : Whole r (drop from file) room = rw is (is_whole (drop from file) room (rw is at e)) in
     record { takes = w.takes; has = omega (arith, length-drop from file); fits = w.fits; makes = w.makes }
+
+-- ---- the reason of a record at fault
+
+pub whole-none : (r : Record) → fault_of r ≡ None → fault r ≡ 0
+whole-none r e = ap number_if e
+
+pub fault-some : (r : Record) (why : Reason) → fault_of r ≡ Some why → (fault r ≡ number_of why) × (fault r ≡ 0 → ⊥)
+fault-some r why e = (ap number_if e, faulty r e)
+  where
+    faulty : (r : Record) → fault_of r ≡ Some why → fault r ≡ 0 → ⊥
+    faulty (Literal n) e z = let y : ◌≡◌ {A = ℕ} 0 1 = cc in omega arith
+    faulty (Repeat n) e z = let y : ◌≡◌ {A = ℕ} 0 1 = cc in omega arith
+    faulty Nothing e z = let y : ◌≡◌ {A = ℕ} 0 1 = cc in omega arith
+    faulty Truncated e z = omega arith
+    faulty Crossing e z = omega arith

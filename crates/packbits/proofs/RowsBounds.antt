@@ -1,4 +1,6 @@
 -- Bounds on how far unpacking rows comes, and on what it comes to.
+use Rattle.std.specs.Prelude.{Ok, Err}
+use Rattle.outcome.specs.Outcome.{Outcome}
 use mathlib.Core.Path.{◌≡◌, refl}
 use Prim.Native.Nat.{ℕ, zero, suc, ◌≤◌}
 use native.Mathlib.Nat.{sub-zero}
@@ -8,7 +10,6 @@ use lib.ListN.{length, drop, length-drop}
 use Rattle.lists.specs.Wide.{Wide}
 use Rattle.lists.proofs.Cond.{cond-eqb}
 use Rattle.outcome.specs.Refusal.{input_ends, record_crosses}
-use Rattle.outcome.specs.Outcome.{Outcome, accepted, refused}
 use Rattle.packbits.specs.Unpack.{Progress, progress}
 use Rattle.packbits.specs.Rows.{RowsProgress, row_step, rows_from, rows_progress, Rows, rows_outcome, unpack_rows}
 use Rattle.packbits.proofs.Unpack.{bounded}
@@ -55,9 +56,9 @@ rows-reached (suc n) width input =
 
 -- the same of the outcome; a refusal has a number, and a place in the input or at its end
 abbrev pub RowsBounded : List ℕ → ℕ → ℕ → Outcome Rows → Type 0
-RowsBounded input width n (accepted q) =
+RowsBounded input width n (Ok q) =
     (length q.rows ≡ n) × Wide width q.rows × (q.bytes ≤ length input) × (q.records ≤ q.bytes)
-RowsBounded input width n (refused why) = (why.number ≡ 0 → ⊥) × (why.place ≤ length input)
+RowsBounded input width n (Err why) = (why.number ≡ 0 → ⊥) × (why.place ≤ length input)
 
 pub rows-bounded : (n width : ℕ) (input : List ℕ) → RowsBounded input width n (unpack_rows n width input)
 unfolding rows_outcome

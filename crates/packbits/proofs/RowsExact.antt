@@ -1,4 +1,5 @@
 -- `unpack_rows` accepts with exactly the bodies of the relation `UnpacksRows`.
+use Rattle.std.specs.Prelude.{Ok, Err}
 use mathlib.Core.Path.{◌≡◌, refl, sym, ap, ◌∙◌, subst}
 use mathlib.Core.Logic.{◌↔◌}
 use Prim.Native.Nat.{ℕ, zero, suc, ◌≤◌}
@@ -9,7 +10,7 @@ use lib.Seq.{take-add, drop-append_seam, length-take-le}
 use Rattle.lists.specs.Bytes.{Bytes}
 use Rattle.lists.specs.Wide.{Wide}
 use Rattle.lists.proofs.Bytes.{bytes_drop}
-use Rattle.outcome.specs.Outcome.{Outcome, accepted, refused, map, bind, placed}
+use Rattle.outcome.specs.Outcome.{Outcome, map, bind, placed}
 use Rattle.packbits.specs.Row.{Row, done}
 use Rattle.packbits.specs.Unpack.{unpack}
 use Rattle.packbits.proofs.Exact.{sound, complete}
@@ -39,16 +40,16 @@ complete-rows width w (more {body} {bodies} {row} {rows} {n} {m} u us) rest =
 -- ---- sound: what is accepted is a body of the relation
 
 abbrev Sound : ℕ → ℕ → List ℕ → Outcome Rows → Type 0
-Sound n width input (accepted q) =
+Sound n width input (Ok q) =
     Bytes input → (length q.rows ≡ n) × Wide width q.rows × (q.bytes ≤ length input) × UnpacksRows
     (take q.bytes input) q.rows q.records
-Sound n width input (refused why) = Unit {0}
+Sound n width input (Err why) = Unit {0}
 
-sound-row : (n width : ℕ) (input : List ℕ) (r : Row) → unpack input width ≡ accepted r → (o : Outcome Rows)
+sound-row : (n width : ℕ) (input : List ℕ) (r : Row) → unpack input width ≡ Ok r → (o : Outcome Rows)
     → Sound n width (drop r.bytes input) o
     → Sound (suc n) width input (map (with_row r) (after_row (placed r.bytes o)))
-sound-row n width input r is (refused why) s = tt
-sound-row n width input r is (accepted q) s = λ bytes.
+sound-row n width input r is (Err why) s = tt
+sound-row n width input r is (Ok q) s = λ bytes.
     let first = sound input width r.bytes r.records r.made bytes is in
     let left = s (bytes_drop r.bytes input bytes) in (
       ap suc left.0,
@@ -60,8 +61,8 @@ sound-row n width input r is (accepted q) s = λ bytes.
 sound-bind : (n width : ℕ) (input : List ℕ) (o : Outcome Row) → unpack input width ≡ o → (next : Row → Outcome Rows)
     → ((r : Row) → Sound n width (drop r.bytes input) (next r))
     → Sound (suc n) width input (bind o (λ r. map (with_row r) (after_row (placed r.bytes (next r)))))
-sound-bind n width input (refused why) is next ih = tt
-sound-bind n width input (accepted r) is next ih = sound-row n width input r is (next r) (ih r)
+sound-bind n width input (Err why) is next ih = tt
+sound-bind n width input (Ok r) is next ih = sound-row n width input r is (next r) (ih r)
 
 sound-rows : (n width : ℕ) (input : List ℕ) → Sound n width input (unpack_rows n width input)
 unfolding rows_from rows_outcome

@@ -1,4 +1,5 @@
 -- The equations of `rows_progress` where the first row is full, and of what unpacking rows comes to.
+use Rattle.std.specs.Prelude.{Ok, Err}
 use mathlib.Core.Path.{◌≡◌, refl, ◌∙◌}
 use Prim.Native.Nat.{ℕ, zero, suc, ◌+◌, ◌-◌, ◌<◌}
 use native.Mathlib.Nat.{sub-zero}
@@ -9,7 +10,7 @@ use mathlib.Core.List.{List, [], ◌∷◌}
 use lib.ListN.{drop}
 use lib.Dec.{eqb}
 use borrow.Author.Tests.{eq-eqb}
-use Rattle.outcome.specs.Outcome.{Outcome, accepted, refused, row_refusal, map, bind, placed}
+use Rattle.outcome.specs.Outcome.{Outcome, row_refusal, map, bind, placed}
 use Rattle.packbits.specs.Row.{Row, done}
 use Rattle.packbits.specs.Unpack.{Progress, progress, row_fault, outcome_of, unpack}
 use Rattle.packbits.specs.Rows.{RowsProgress, stopped_in, row_before, row_step, rows_from, rows_progress}
@@ -42,8 +43,8 @@ with_row r q = record { bytes = r.bytes + q.bytes; records = r.records + q.recor
 
 -- an outcome of rows that come after a row, with its plane row counted from that one
 abbrev pub after_row : Outcome Rows → Outcome Rows
-after_row (accepted q) = accepted q
-after_row (refused why) = refused (row_refusal why.number why.place (suc why.plane_row) why.good_bytes)
+after_row (Ok q) = Ok q
+after_row (Err why) = Err (row_refusal why.number why.place (suc why.plane_row) why.good_bytes)
 
 -- the row that a full progress makes
 abbrev row_of : Progress → Row
@@ -56,9 +57,9 @@ outcome-before p q = go (eqb q.fault 0)
   where
     go : (b : Bool)
         → cond b (done_rows (p.bytes + q.bytes) (p.records + q.records) (p.made ∷ q.rows))
-        (refused (rows_fault (row_before p.made p q)))
+        (Err (rows_fault (row_before p.made p q)))
         ≡ map (with_row (row_of p))
-        (after_row (placed p.bytes (cond b (done_rows q.bytes q.records q.rows) (refused (rows_fault q)))))
+        (after_row (placed p.bytes (cond b (done_rows q.bytes q.records q.rows) (Err (rows_fault q)))))
     go true = refl
     go false = refl
 
@@ -78,7 +79,7 @@ unpack_rows-suc n width input = rw (sub-zero width) (go (eqb p.fault 0) refl)
 
     go : (b : Bool) → eqb p.fault 0 ≡ b
         → rows_outcome (cond b (row_before p.made p (left p.bytes)) (stopped_in p.made p))
-        ≡ bind (cond b (done p.bytes p.records p.made) (refused (row_fault p)))
+        ≡ bind (cond b (done p.bytes p.records p.made) (Err (row_fault p)))
         (λ r. map (with_row r) (after_row (placed r.bytes (rows_outcome (left r.bytes)))))
     go true e = outcome-before p (left p.bytes)
     go false e = rw e

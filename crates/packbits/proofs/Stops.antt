@@ -1,4 +1,5 @@
 -- Unpacking rows, or one row, is refused exactly where the relation `Stops` says, and with its numbers.
+use Rattle.std.specs.Prelude.{Ok, Err}
 use mathlib.Core.Path.{◌≡◌, refl, sym, ap, ap₂, ◌∙◌, subst}
 use mathlib.Core.Logic.{◌↔◌, inl, inr}
 use Prim.Native.Nat.{ℕ, zero, suc, ◌+◌, ◌-◌, ◌<◌}
@@ -13,7 +14,7 @@ use borrow.Author.Tests.{ltb-true, ltb-false, eqb-false, ne_eqb}
 use Rattle.lists.specs.Bytes.{Bytes}
 use Rattle.lists.proofs.Bytes.{bytes_drop}
 use Rattle.outcome.specs.declared.Refusal.{Refusal}
-use Rattle.outcome.specs.Outcome.{Outcome, accepted, refused, row_refusal, map, bind, placed, refusal_of}
+use Rattle.outcome.specs.Outcome.{Outcome, row_refusal, map, bind, placed, refusal_of}
 use Rattle.packbits.specs.declared.Record.{Record}
 use Rattle.packbits.specs.declared.Record.TheVariants.{Truncated, Crossing}
 use Rattle.packbits.specs.Records.{control, packed_len, row_len, row_bytes, fault, record_at}
@@ -88,16 +89,16 @@ stops-cut n width s rest =
     ∙ rows_cut s.full s.made width s.wide s.under m rest
 
 pub stops-complete : (n width : ℕ) (input : List ℕ) (why : Refusal) → Stops n width input why
-    → unpack_rows n width input ≡ refused why
+    → unpack_rows n width input ≡ Err why
 unfolding rows_outcome
 stops-complete n width input why s =
     let stop = rows-faulty (n - length s.rows - 1) width s.begun s.under s.faulty in
     let nonzero : why.number ≡ 0 → ⊥ = (faulty-fault s.faulty).1 in
     ap (unpack_rows n width) s.parts
     ∙ rw (stops-cut n width s s.rest, stop, ne_eqb why.number 0 nonzero)
-    (ap₂ (λ (k l : ℕ). refused (row_refusal why.number k l (length s.begun))) (omega (arith, s.place))
+    (ap₂ (λ (k l : ℕ). Err (row_refusal why.number k l (length s.begun))) (omega (arith, s.place))
     (ap length (append-nil s.rows) ∙ sym s.plane_row)
-    ∙ ap (λ (k : ℕ). refused (row_refusal why.number why.place why.plane_row k)) (sym s.good_bytes))
+    ∙ ap (λ (k : ℕ). Err (row_refusal why.number why.place why.plane_row k)) (sym s.good_bytes))
 
 -- ---- sound: where unpacking stops, so does the relation
 
@@ -130,7 +131,7 @@ all-stopped =
     stopped-after
 
 -- the first row stops
-row-sound : (n width : ℕ) (input : List ℕ) (why : Refusal) → Bytes input → unpack input width ≡ refused why
+row-sound : (n width : ℕ) (input : List ℕ) (why : Refusal) → Bytes input → unpack input width ≡ Err why
     → Stops (suc n) width input why
 unfolding outcome_of
 row-sound n width input why bytes = go (eqb p.fault 0) refl
@@ -162,7 +163,7 @@ row-sound n width input why bytes = go (eqb p.fault 0) refl
         }
 
     go : (b : Bool) → eqb p.fault 0 ≡ b
-        → cond b (done p.bytes p.records p.made) (refused (row_fault p)) ≡ refused why
+        → cond b (done p.bytes p.records p.made) (Err (row_fault p)) ≡ Err why
         → Stops (suc n) width input why
     go true q e = let z : ◌≡◌ {A = ℕ} 0 1 = cc in absurd (omega arith)
     go false q e = subst (Stops (suc n) width input) (ap refusal_of e) (stops (eqb-false _ _ q))
@@ -193,14 +194,14 @@ row_before {body} {row} {k} n width input why u w s = record {
 }
 
 abbrev Sound : ℕ → ℕ → List ℕ → Outcome Rows → Type 0
-Sound n width input (accepted q) = Unit {0}
-Sound n width input (refused why) = Bytes input → Stops n width input why
+Sound n width input (Ok q) = Unit {0}
+Sound n width input (Err why) = Bytes input → Stops n width input why
 
-sound-row : (n width : ℕ) (input : List ℕ) (r : Row) → unpack input width ≡ accepted r → (o : Outcome Rows)
+sound-row : (n width : ℕ) (input : List ℕ) (r : Row) → unpack input width ≡ Ok r → (o : Outcome Rows)
     → Sound n width (drop r.bytes input) o
     → Sound (suc n) width input (map (with_row r) (after_row (placed r.bytes o)))
-sound-row n width input r is (accepted q) s = tt
-sound-row n width input r is (refused why) s = λ bytes.
+sound-row n width input r is (Ok q) s = tt
+sound-row n width input r is (Err why) s = λ bytes.
     let first = sound input width r.bytes r.records r.made bytes is in
     let left = s (bytes_drop r.bytes input bytes) in
     rw (take-append-drop r.bytes input, length-take-le r.bytes input first.1)
@@ -209,8 +210,8 @@ sound-row n width input r is (refused why) s = λ bytes.
 sound-bind : (n width : ℕ) (input : List ℕ) (o : Outcome Row) → unpack input width ≡ o → (next : Row → Outcome Rows)
     → ((r : Row) → Sound n width (drop r.bytes input) (next r))
     → Sound (suc n) width input (bind o (λ r. map (with_row r) (after_row (placed r.bytes (next r)))))
-sound-bind n width input (refused why) is next ih = λ bytes. row-sound n width input why bytes is
-sound-bind n width input (accepted r) is next ih = sound-row n width input r is (next r) (ih r)
+sound-bind n width input (Err why) is next ih = λ bytes. row-sound n width input why bytes is
+sound-bind n width input (Ok r) is next ih = sound-row n width input r is (next r) (ih r)
 
 sound-rows : (n width : ℕ) (input : List ℕ) → Sound n width input (unpack_rows n width input)
 unfolding rows_from rows_outcome
@@ -223,21 +224,21 @@ sound-rows (suc n) width input =
 -- ---- exactly
 
 pub stops-exactly : (n width : ℕ) (input : List ℕ) (why : Refusal) → Bytes input
-    → (unpack_rows n width input ≡ refused why) ↔ Stops n width input why
+    → (unpack_rows n width input ≡ Err why) ↔ Stops n width input why
 stops-exactly n width input why bytes =
     ((λ e. subst (Sound n width input) e (sound-rows n width input) bytes), stops-complete n width input why)
 
 -- one row: no row is whole, so the plane row is 0
 one-row : (o : Outcome Row) (input : List ℕ) (width : ℕ) (why : Refusal)
     → bind o (λ r. map (with_row r) (after_row (placed r.bytes (unpack_rows 0 width (drop r.bytes input)))))
-    ≡ refused why
-    → o ≡ refused why
+    ≡ Err why
+    → o ≡ Err why
 unfolding rows_from rows_outcome
-one-row (accepted r) input width why e = let z : ◌≡◌ {A = ℕ} 0 1 = cc in absurd (omega arith)
-one-row (refused other) input width why e = ap (λ (w : Refusal). refused w) (ap refusal_of e)
+one-row (Ok r) input width why e = let z : ◌≡◌ {A = ℕ} 0 1 = cc in absurd (omega arith)
+one-row (Err other) input width why e = ap (λ (w : Refusal). Err w) (ap refusal_of e)
 
 pub row-stops-exactly : (width : ℕ) (input : List ℕ) (why : Refusal) → Bytes input
-    → (unpack input width ≡ refused why) ↔ Stops 1 width input why
+    → (unpack input width ≡ Err why) ↔ Stops 1 width input why
 row-stops-exactly width input why bytes = (
   row-sound 0 width input why bytes,
   λ s. one-row (unpack input width) input width why

@@ -1,6 +1,9 @@
 -- One PackBits record: what a control byte says, and the record at the front of an input (document 01, "Packed rows").
 use Rattle.std.specs.Prelude.{ℕ, ◌+◌, ◌-◌, cond, List, [], ◌∷◌, length, get_or, take, drop, replicate, ltb, eqb}
-use Rattle.outcome.specs.Refusal.{input_ends, record_crosses}
+use Rattle.std.specs.Prelude.{Option, None, Some}
+use Rattle.outcome.specs.declared.Reason.{Reason}
+use Rattle.outcome.specs.declared.Reason.TheVariants.{InputEnds, RecordCrosses}
+use Rattle.outcome.specs.Refusal.{number_if}
 use Rattle.packbits.specs.declared.Record.{Record}
 use Rattle.packbits.specs.declared.Record.TheVariants.{Literal, Repeat, Nothing, Truncated, Crossing}
 
@@ -33,13 +36,17 @@ row_bytes Nothing input = []
 row_bytes Truncated input = []
 row_bytes Crossing input = []
 
+-- why a record is refused; none of a whole one
+abbrev pub fault_of : Record → Option Reason
+fault_of (Literal n) = None
+fault_of (Repeat n) = None
+fault_of Nothing = None
+fault_of Truncated = Some InputEnds
+fault_of Crossing = Some RecordCrosses
+
 -- the refusal number of a record at fault; 0 of a whole one
 abbrev pub fault : Record → ℕ
-fault (Literal n) = 0
-fault (Repeat n) = 0
-fault Nothing = 0
-fault Truncated = input_ends
-fault Crossing = record_crosses
+fault r = number_if (fault_of r)
 
 -- A record, or its fault, with `left` bytes of input, its control byte included, and `room` bytes of the row to make.
 -- The row's end is judged before missing input.

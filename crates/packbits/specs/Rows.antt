@@ -1,8 +1,9 @@
 -- Rows of one width, each unpacked from where the one before it ended (document 01, "Packed rows"): how far that comes,
 -- and what it comes to.
-use Rattle.std.specs.Prelude.{ℕ, zero, suc, ◌+◌, ◌-◌, cond, List, [], ◌∷◌, ◌++◌, length, drop, eqb}
+use Rattle.std.specs.Prelude.{ℕ, zero, suc, ◌+◌, ◌-◌, cond, List, [], ◌∷◌, ◌++◌, length, drop, eqb, Ok, Err}
 use Rattle.outcome.specs.declared.Refusal.{Refusal}
-use Rattle.outcome.specs.Outcome.{Outcome, accepted, refused, row_refusal, placed}
+use Rattle.outcome.specs.Outcome.{Outcome, row_refusal, placed}
+use Rattle.packbits.specs.declared.Packed.{Packed}
 use Rattle.packbits.specs.Unpack.{Progress, progress}
 
 -- How far unpacking rows came.
@@ -60,9 +61,13 @@ pub record Rows : Type 0 where
   pub records : ℕ
   pub rows : List (List ℕ)
 
+-- what is given of them besides the rows
+abbrev pub rows_packed : Rows → Packed
+rows_packed q = record { bytes = q.bytes; records = q.records }
+
 -- accepted with these counts of packed bytes and records, and these rows
 abbrev pub done_rows : ℕ → ℕ → List (List ℕ) → Outcome Rows
-done_rows bytes records rows = accepted (record { bytes = bytes; records = records; rows = rows })
+done_rows bytes records rows = Ok (record { bytes = bytes; records = records; rows = rows })
 
 -- why rows are refused at a fault: the place is the number of packed bytes before it, the plane row, from 0, that of
 -- the whole rows before it, and the good bytes are those that the row under way has
@@ -71,7 +76,7 @@ rows_fault p = row_refusal p.fault p.bytes (length p.rows) (length p.begun)
 
 -- full rows are accepted; a fault is refused
 unfoldable pub rows_outcome : RowsProgress → Outcome Rows
-rows_outcome p = cond (eqb p.fault 0) (done_rows p.bytes p.records p.rows) (refused (rows_fault p))
+rows_outcome p = cond (eqb p.fault 0) (done_rows p.bytes p.records p.rows) (Err (rows_fault p))
 
 -- n rows of a width, unpacked from the front of the input; places count from the input's start
 abbrev pub unpack_rows : ℕ → ℕ → List ℕ → Outcome Rows

@@ -1,7 +1,7 @@
 -- One row unpacked from the front of an input (document 01, "Packed rows", "Order of judging": row unpack).
-use Rattle.std.specs.Prelude.{ℕ, zero, suc, ◌+◌, ◌-◌, cond, List, [], ◌++◌, length, drop, ltb, eqb}
+use Rattle.std.specs.Prelude.{ℕ, zero, suc, ◌+◌, ◌-◌, cond, List, [], ◌++◌, length, drop, ltb, eqb, Err}
 use Rattle.outcome.specs.declared.Refusal.{Refusal}
-use Rattle.outcome.specs.Outcome.{Outcome, refused, row_refusal, refuse_if, placed}
+use Rattle.outcome.specs.Outcome.{Outcome, row_refusal, refuse_if, placed}
 use Rattle.outcome.specs.Refusal.{area_too_short, input_ends, out_of_range}
 use Rattle.packbits.specs.declared.Record.{Record}
 use Rattle.packbits.specs.Records.{packed_len, row_len, row_bytes, fault, record_at}
@@ -52,7 +52,7 @@ row_fault p = row_refusal p.fault p.bytes 0 (length p.made)
 
 -- a full row is accepted; a fault is refused
 unfoldable pub outcome_of : Progress → Outcome Row
-outcome_of p = cond (eqb p.fault 0) (done p.bytes p.records p.made) (refused (row_fault p))
+outcome_of p = cond (eqb p.fault 0) (done p.bytes p.records p.made) (Err (row_fault p))
 
 -- a row of `width` bytes, unpacked from the front of the input; places count from the input's start
 abbrev pub unpack : List ℕ → ℕ → Outcome Row

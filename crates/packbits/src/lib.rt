@@ -3,11 +3,10 @@
 #![tactic(auto)]
 
 ghost use Rattle.std.specs.Prelude.{◌≡◌, ◌<◌, drop};
-ghost use Rattle.outcome.specs.Outcome.{refused};
-ghost use Rattle.packbits.specs.Records.{control, packed_len, row_len, fault, judged, record_at};
-ghost use Rattle.packbits.specs.Row.{row_answer, width_out_of_range};
+ghost use Rattle.packbits.specs.Records.{control, packed_len, row_len, fault_of, judged, record_at};
+ghost use Rattle.packbits.specs.Row.{given_row_answer, width_out_of_range};
 
-use outcome::{INPUT_ENDS, RECORD_CROSSES, Refusal};
+use outcome::{Reason, Refusal};
 
 // The widest row.
 pub const MAX_WIDTH: usize = 128;
@@ -27,7 +26,15 @@ pub enum Record {
     Crossing,
 }
 
-// The answer of a row packed or unpacked: the packed bytes, written or used, and the records; both 0 of a refusal.
+// What packing or unpacking gives: the packed bytes, written or used, and their records, those that do nothing included.
+#[derive(Clone, Copy)]
+pub struct Packed {
+    pub bytes: usize,
+    pub records: usize,
+}
+
+// The answer in C of a row packed or unpacked: what that gives; both 0 of a refusal.
+// C's struct: exported functions give it back.
 #[repr(C)]
 #[derive(Clone, Copy)]
 pub struct RowAnswer {
@@ -36,14 +43,22 @@ pub struct RowAnswer {
     pub records: usize,
 }
 
-// The answer of a refused row.
-pub fn row_refused(refusal: Refusal) -> RowAnswer
-    ensures { result ≡ row_answer (refused refusal) }
-{
-    RowAnswer {
-        refusal,
-        bytes: 0,
-        records: 0,
+impl From<Result<Packed, Refusal>> for RowAnswer {
+    ghost from_gives = { λ given answer. answer ≡ given_row_answer given };
+
+    fn from(given: Result<Packed, Refusal>) -> RowAnswer {
+        match given {
+            Ok(packed) => RowAnswer {
+                refusal: outcome::none(),
+                bytes: packed.bytes,
+                records: packed.records,
+            },
+            Err(refusal) => RowAnswer {
+                refusal,
+                bytes: 0,
+                records: 0,
+            },
+        }
     }
 }
 
@@ -62,8 +77,7 @@ pub fn packed_len(r: Record) -> usize
         Record::Literal(n) => n as usize + 1,
         Record::Repeat(_) => 2,
         Record::Nothing => 1,
-        Record::Truncated => 0,
-        Record::Crossing => 0,
+        Record::Truncated | Record::Crossing => 0,
     }
 }
 
@@ -75,26 +89,24 @@ pub fn row_len(r: Record) -> usize
         Record::Literal(n) => n as usize,
         Record::Repeat(n) => n as usize,
         Record::Nothing => 0,
-        Record::Truncated => 0,
-        Record::Crossing => 0,
+        Record::Truncated | Record::Crossing => 0,
     }
 }
 
-// The refusal number of a record at fault, and 0 of a whole one.
-pub fn fault_of(r: Record) -> u8
-    ensures { result ≡ fault r }
+// Why a record is refused; none of a whole one.
+pub fn fault_of(r: Record) -> Option<Reason>
+    ensures { result ≡ fault_of r }
 {
     match r {
-        Record::Literal(_) => 0,
-        Record::Repeat(_) => 0,
-        Record::Nothing => 0,
-        Record::Truncated => INPUT_ENDS,
-        Record::Crossing => RECORD_CROSSES,
+        Record::Literal(_) | Record::Repeat(_) | Record::Nothing => None,
+        Record::Truncated => Some(Reason::InputEnds),
+        Record::Crossing => Some(Reason::RecordCrosses),
     }
 }
 
 // The record that control byte x begins, or its fault; left counts the input's bytes from x on, x included. The row's
 // end is judged before missing input.
+#[tactic(auto, unfolding(crate::specs::Records::control))]
 fn record_of(x: u8, left: usize, room: usize) -> Record
     requires { 0 < left }
     ensures { result ≡ judged (control x) left room }
@@ -123,6 +135,7 @@ fn record_of(x: u8, left: usize, room: usize) -> Record
 }
 
 // The record whose control byte stands at an offset.
+#[tactic(auto, unfolding(crate::specs::Records::record_at))]
 pub fn record_at(file: &[u8], at: usize, room: usize) -> Record
     ensures { result ≡ record_at (drop at file.now) room }
 {

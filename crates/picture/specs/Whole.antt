@@ -1,6 +1,5 @@
 -- What a picture's type says of it (document 01, "The base order": a picture), and what every accepted reading holds.
-use Rattle.std.specs.Prelude.{ℕ, ◌<◌, ◌≡◌, [], length, get_or}
-use Rattle.resolution.specs.declared.Chosen.TheVariants.{Known}
+use Rattle.std.specs.Prelude.{ℕ, ◌<◌, ◌≡◌, [], length, get_or, Some}
 use Rattle.resolution.specs.declared.Resolution.{Resolution}
 use Rattle.resolution.specs.Choice.{chosen}
 use Rattle.resolution.specs.Shapes.{screen_bytes}
@@ -17,5 +16,5 @@ pub record WholePicture (p : Picture) : Type 0 where
 pub record WholeReading (q : Reading) : Type 0 where
   pub whole : WholePicture q.picture
   pub resolution : Resolution
-  pub known : chosen q.picture.resolution ≡ Known resolution
+  pub known : chosen q.picture.resolution ≡ Some resolution
   pub size : length q.screen ≡ screen_bytes

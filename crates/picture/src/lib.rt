@@ -1,15 +1,14 @@
-// A picture (document 01's term): what a file holds besides its screen; and the answers of reading and writing one.
+// A picture (document 01's term): what a file holds besides its screen; and what reading and writing one gives.
 // Definitions: specs/.
 #![tactic(auto)]
 
-ghost use Rattle.std.specs.Prelude.{◌≡◌};
-ghost use Rattle.outcome.specs.Outcome.{none, refused};
+ghost use Rattle.std.specs.Prelude.{◌≡◌, Err};
 ghost use Rattle.picture.specs.Tables.{without_tail, with_tail};
-ghost use Rattle.picture.specs.Reading.{read_answer};
-ghost use Rattle.picture.specs.Writing.{write_answer, judge_writing, writable_as};
+ghost use Rattle.picture.specs.Reading.{given_read_answer};
+ghost use Rattle.picture.specs.Writing.{given_write_answer, judge_writing};
 
-use outcome::{AREA_TOO_SHORT, Refusal, UNKNOWN_RESOLUTION};
-use resolution::{Chosen, Resolution, SCREEN_BYTES};
+use outcome::{Reason, Refusal};
+use resolution::{Resolution, SCREEN_BYTES};
 
 pub mod parts;
 
@@ -34,7 +33,24 @@ pub struct Picture {
     pub tail: [Table; 4],
 }
 
-// The answer of a reading: the picture, the packed body's length and its records; zero in all of a refusal.
+// What an accepted reading gives: the picture, the packed body's length and its records; both 0 of a raw file.
+#[derive(Clone, Copy)]
+pub struct PictureRead {
+    pub picture: Picture,
+    pub body: usize,
+    pub records: usize,
+}
+
+// What an accepted writing gives: the file's length, the packed body's length and its records; both 0 of a raw file.
+#[derive(Clone, Copy)]
+pub struct FileWritten {
+    pub length: usize,
+    pub body: usize,
+    pub records: usize,
+}
+
+// The answer of a reading in C: what it gives; zero in all of a refusal.
+// C's struct: the exported function gives it back.
 #[repr(C)]
 #[derive(Clone, Copy)]
 pub struct ReadAnswer {
@@ -44,7 +60,8 @@ pub struct ReadAnswer {
     pub records: usize,
 }
 
-// The answer of a writing: the file's length, the packed body's length and its records; zero in all of a refusal.
+// The answer of a writing in C: what it gives; zero in all of a refusal.
+// C's struct: exported functions give it back.
 #[repr(C)]
 #[derive(Clone, Copy)]
 pub struct WriteAnswer {
@@ -54,11 +71,46 @@ pub struct WriteAnswer {
     pub records: usize,
 }
 
-// What judging a writing's screen, output and resolution comes to.
-#[derive(Clone, Copy)]
-pub enum Writable {
-    At(Resolution),
-    Refused(Refusal),
+impl From<Result<PictureRead, Refusal>> for ReadAnswer {
+    ghost from_gives = { λ given answer. answer ≡ given_read_answer given };
+
+    fn from(given: Result<PictureRead, Refusal>) -> ReadAnswer {
+        match given {
+            Ok(read) => ReadAnswer {
+                refusal: outcome::none(),
+                picture: read.picture,
+                body: read.body,
+                records: read.records,
+            },
+            Err(refusal) => ReadAnswer {
+                refusal,
+                picture: without_tail(0, [0u16; 16]),
+                body: 0,
+                records: 0,
+            },
+        }
+    }
+}
+
+impl From<Result<FileWritten, Refusal>> for WriteAnswer {
+    ghost from_gives = { λ given answer. answer ≡ given_write_answer given };
+
+    fn from(given: Result<FileWritten, Refusal>) -> WriteAnswer {
+        match given {
+            Ok(written) => WriteAnswer {
+                refusal: outcome::none(),
+                length: written.length,
+                body: written.body,
+                records: written.records,
+            },
+            Err(refusal) => WriteAnswer {
+                refusal,
+                length: 0,
+                body: 0,
+                records: 0,
+            },
+        }
+    }
 }
 
 // A picture without a tail.
@@ -86,68 +138,16 @@ pub fn with_tail(resolution: u16, palette: [u16; 16], tail: [Table; 4]) -> Pictu
     }
 }
 
-// The answer of an accepted reading.
-pub fn read_done(picture: Picture, body: usize, records: usize) -> ReadAnswer
-    ensures { result ≡ record { refusal = none; picture = picture; body = body; records = records } }
-{
-    ReadAnswer {
-        refusal: outcome::none(),
-        picture,
-        body,
-        records,
-    }
-}
-
-// The answer of a refused reading.
-pub fn read_refused(refusal: Refusal) -> ReadAnswer
-    ensures { result ≡ read_answer (refused refusal) }
-{
-    let palette = [0u16; 16];
-    let picture = without_tail(0, palette);
-    ReadAnswer {
-        refusal,
-        picture,
-        body: 0,
-        records: 0,
-    }
-}
-
-// The answer of an accepted writing.
-pub fn write_done(length: usize, body: usize, records: usize) -> WriteAnswer
-    ensures { result ≡ record { refusal = none; length = length; body = body; records = records } }
-{
-    WriteAnswer {
-        refusal: outcome::none(),
-        length,
-        body,
-        records,
-    }
-}
-
-// The answer of a refused writing.
-pub fn write_refused(refusal: Refusal) -> WriteAnswer
-    ensures { result ≡ write_answer (refused refusal) }
-{
-    WriteAnswer {
-        refusal,
-        length: 0,
-        body: 0,
-        records: 0,
-    }
-}
-
 // Judges a writing: the lengths of the screen and the output, then the resolution's number.
-pub fn judge_writing(screen: usize, out: usize, resolution: u16) -> Writable
-    ensures { result ≡ writable_as (judge_writing screen out resolution) }
+#[tactic(auto, unfolding(crate::specs::Writing::judge_writing))]
+pub fn judge_writing(screen: usize, out: usize, resolution: u16) -> Result<Resolution, Refusal>
+    ensures { result ≡ judge_writing screen out resolution }
 {
     if screen < SCREEN_BYTES {
-        return Writable::Refused(outcome::refuse(AREA_TOO_SHORT));
+        return Err(outcome::refuse(Reason::AreaTooShort));
     }
     if out < FILE_BYTES {
-        return Writable::Refused(outcome::refuse(AREA_TOO_SHORT));
+        return Err(outcome::refuse(Reason::AreaTooShort));
     }
-    match Resolution::from_number(resolution) {
-        Chosen::Known(r) => Writable::At(r),
-        Chosen::Unknown => Writable::Refused(outcome::refuse(UNKNOWN_RESOLUTION)),
-    }
+    Resolution::try_from(resolution)
 }

@@ -13,7 +13,7 @@ use Rattle.raster.specs.declared.Raster.{Raster}
 use Rattle.raster.specs.Shape.{row_bytes, rows, bytes}
 use Rattle.raster.specs.PlaneRows.{row_at, column_at, plane_row, plane_rows, image_of}
 use Rattle.planar.specs.Planar.{planar_row, planar_image}
-use Rattle.planar.specs.Spaced.{start_at, spaced_byte, spaced_image, Spaced}
+use Rattle.raster.specs.Spaced.{start_at, spaced_byte, spaced_image, Spaced}
 use Rattle.raster.proofs.Places.{row-planes, row_line, row_at-lt, column_at-lt}
 use Rattle.raster.proofs.Joined.{row_ends}
 use Rattle.raster.proofs.PlaneRows.{length-image_of, get_or-plane_rows, rows-of-image}

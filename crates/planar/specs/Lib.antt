@@ -1,3 +1,1 @@
-pub mod Interleave
 pub mod Planar
-pub mod Spaced

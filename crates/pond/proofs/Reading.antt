@@ -1,4 +1,5 @@
 -- Laws of pond readings: the counts add up to the rectangle's pixels, and the tally and the legend determine them.
+use Rattle.std.specs.Prelude.{Ok}
 use mathlib.Core.Path.{◌≡◌, sym, ap, ◌∙◌}
 use mathlib.Core.Bool.{not}
 use mathlib.Core.List.{List}
@@ -7,7 +8,7 @@ use native.Mathlib.Omega.{arith}
 use lib.ListN.{length, get_or}
 use Rattle.lists.specs.Sum.{sum}
 use Rattle.lists.proofs.Sum.{sum-ext, sum-add}
-use Rattle.outcome.specs.Outcome.{Outcome, accepted, refuse_if}
+use Rattle.outcome.specs.Outcome.{Outcome, refuse_if, bind}
 use Rattle.outcome.specs.Refusal.{out_of_range}
 use Rattle.outcome.proofs.Outcome.{passed}
 use Rattle.resolution.specs.declared.Resolution.{Resolution}
@@ -15,7 +16,7 @@ use Rattle.resolution.proofs.Choice.{judge_screen-fits}
 use Rattle.tally.specs.declared.Rectangle.{Rectangle}
 use Rattle.tally.specs.Rectangles.{rectangle_fits}
 use Rattle.tally.specs.Counts.{counts, tallied, tally_answer}
-use Rattle.tally.proofs.Totals.{rectangle_sum-counts, counts-total, after_tally, after-tally}
+use Rattle.tally.proofs.Totals.{rectangle_sum-counts, counts-total, judged_after, after_tally, after-tally}
 use Rattle.legend.specs.declared.Legend.{Legend}
 use Rattle.legend.specs.Entries.{entries}
 use Rattle.pond.specs.declared.PondCounts.{PondCounts}
@@ -54,11 +55,11 @@ module _ (party class floor : ℕ) (l : Legend) where
 -- what is judged once the counts are known
 abbrev pub from_counts : ℕ → ℕ → ℕ → Legend → List ℕ → Outcome PondCounts
 from_counts party class floor l c =
-    refuse_if (not (question_fits party class floor l)) out_of_range (accepted (pond_from c party class floor l))
+    refuse_if (not (question_fits party class floor l)) out_of_range (Ok (pond_from c party class floor l))
 
 module _ (s : List ℕ) (number : ℕ) (a : Rectangle) (party class floor : ℕ) (l : Legend) where
   -- sure, unsure and other add up to the rectangle's pixels
-  pub pond-total : (p : PondCounts) → pond_reading s number a party class floor l ≡ accepted p
+  pub pond-total : (p : PondCounts) → pond_reading s number a party class floor l ≡ Ok p
       → pixels p ≡ a.columns * a.lines
   unfolding pond_reading
   pond-total p e =
@@ -66,18 +67,23 @@ module _ (s : List ℕ) (number : ℕ) (a : Rectangle) (party class floor : ℕ)
       (λ r known long f.
       let q = passed (not (rectangle_fits r a)) out_of_range _ p f in
       let t = passed (not (question_fits party class floor l)) out_of_range _ p q.1 in
-      let same : accepted (pond_of s r a party class floor l) ≡ accepted p = t.1 in
+      let same : Ok (pond_of s r a party class floor l) ≡ Ok p = t.1 in
       let is : pond_of s r a party class floor l ≡ p = cc in
       ap pixels (sym is ∙ pond_of-pond_from party class floor l s r a)
       ∙ pond_from-total party class floor l (counts s r a)
       ∙ counts-total s r a)
 
+  -- a pond reading is what is judged of the tally's counts
+  pub by_counts : pond_reading s number a party class floor l
+      ≡ bind (tallied s number a) (from_counts party class floor l)
+  unfolding pond_reading
+  by_counts =
+      judged_after s number a _ (from_counts party class floor l)
+      (λ r.
+      ap (λ (p : PondCounts). refuse_if (not (question_fits party class floor l)) out_of_range (Ok p))
+      (pond_of-pond_from party class floor l s r a))
+
   -- the tally's answer and the legend determine a pond reading
   pub pond-determined : pond_reading s number a party class floor l
       ≡ after_tally (tally_answer (tallied s number a)) (from_counts party class floor l)
-  unfolding pond_reading
-  pond-determined =
-      after-tally s number a _ (from_counts party class floor l)
-      (λ r.
-      ap (λ (p : PondCounts). refuse_if (not (question_fits party class floor l)) out_of_range (accepted p))
-      (pond_of-pond_from party class floor l s r a))
+  pond-determined = by_counts ∙ after-tally s number a (from_counts party class floor l)

@@ -1,7 +1,7 @@
 -- Pond reading for a party (document 01, "Order of judging", "pond reading"; document 02, ticket 8).
-use Rattle.std.specs.Prelude.{ℕ, ◌+◌, ◌*◌, Bool, not, ◌&&◌, List, length, get_or}
+use Rattle.std.specs.Prelude.{ℕ, ◌+◌, ◌*◌, Bool, not, ◌&&◌, List, length, get_or, Ok, Err}
 use Rattle.lists.specs.Sum.{sum}
-use Rattle.outcome.specs.Outcome.{Outcome, accepted, refused, none, refuse_if}
+use Rattle.outcome.specs.Outcome.{Outcome, none, refuse_if}
 use Rattle.outcome.specs.Refusal.{out_of_range}
 use Rattle.resolution.specs.declared.Resolution.{Resolution}
 use Rattle.tally.specs.declared.Rectangle.{Rectangle}
@@ -52,9 +52,9 @@ question_fits party class floor l = question_in_range party class floor && legen
 unfoldable pub pond_reading : List ℕ → ℕ → Rectangle → ℕ → ℕ → ℕ → Legend → Outcome PondCounts
 pond_reading s number a party class floor l =
     judge_rectangle (length s) number a
-    (λ r. refuse_if (not (question_fits party class floor l)) out_of_range (accepted (pond_of s r a party class floor l)))
+    (λ r. refuse_if (not (question_fits party class floor l)) out_of_range (Ok (pond_of s r a party class floor l)))
 
 -- a refusal gives 0 in all else
 abbrev pub pond_answer : Outcome PondCounts → PondAnswer
-pond_answer (accepted p) = record { refusal = none; sure = p.sure; unsure = p.unsure; other = p.other }
-pond_answer (refused why) = record { refusal = why; sure = 0; unsure = 0; other = 0 }
+pond_answer (Ok p) = record { refusal = none; sure = p.sure; unsure = p.unsure; other = p.other }
+pond_answer (Err why) = record { refusal = why; sure = 0; unsure = 0; other = 0 }

@@ -1,5 +1,5 @@
 -- Laws of `row_fits`: the three inequalities, both ways.
-use mathlib.Core.Path.{◌≡◌}
+use mathlib.Core.Path.{◌≡◌, refl}
 use mathlib.Core.Bool.{true}
 use Prim.Native.Nat.{ℕ, ◌≤◌, ◌<◌}
 use lib.Dec.{ltb, leb}
@@ -14,9 +14,13 @@ module _ (room : ℕ) (r : Raster) (n width : ℕ) where
   unfolding row_fits
   row_fits_lem h k l = rw (le-leb _ _ h, lt-ltb _ _ k, le-leb _ _ l)
 
-  pub fits-row : row_fits room r n width ≡ true → (bytes r ≤ room) × (n < rows r) × (row_bytes r ≤ width)
+  pub fits : (row_fits room r n width ≡ row_fits room r n width)
+      × (row_fits room r n width ≡ true → (bytes r ≤ room) × (n < rows r) × (row_bytes r ≤ width))
   unfolding row_fits
-  fits-row e =
-      let a = and-true (leb (bytes r) room) _ e in
-      let b = and-true (ltb n (rows r)) _ a.1 in
-      (leb-true _ _ a.0, ltb-true _ _ b.0, leb-true _ _ b.1)
+  fits = (
+    refl,
+    λ e.
+        let a = and-true (leb (bytes r) room) _ e in
+        let b = and-true (ltb n (rows r)) _ a.1 in
+        (leb-true _ _ a.0, ltb-true _ _ b.0, leb-true _ _ b.1),
+  )

@@ -1,9 +1,10 @@
 pub mod Fits
+pub mod Interleave
+pub mod InterleaveLines
 pub mod Joined
 pub mod Offsets
 pub mod Places
 pub mod PlaneRows
 pub mod PutRows
+pub mod Spaced
 pub mod Strides
-pub mod Interleave
-pub mod InterleaveLines

@@ -2,8 +2,8 @@
 use Prim.Native.Nat.{ℕ, zero, suc, ◌+◌, ◌*◌, ◌/◌, ◌%◌, ◌<◌}
 use native.Mathlib.Nat.{mul_assoc, add-mul, mul-zero, zero-mul, mod-lt, div-lt_iff_lt-mul}
 use native.Mathlib.Omega.{arith}
-use mathlib.Core.Path.{◌≡◌}
-use lib.Arith.{digits_lt}
+use mathlib.Core.Path.{◌≡◌, ap₂, ◌∙◌}
+use lib.Arith.{digits_lt, digits_div, digits_mod}
 use Rattle.raster.specs.declared.Raster.{Raster}
 use Rattle.raster.specs.Offsets.{group_offset, word_offset}
 use Rattle.raster.specs.Shape.{row_bytes, rows, line_bytes, bytes}
@@ -64,8 +64,13 @@ column_at-lt r o h =
     let two : 0 < r.planes * 2 = omega (arith, byte-planes r o h) in
     digits_lt ((div-lt_iff_lt-mul two).1 (mod-lt o (byte-line r o h))) (omega arith)
 
--- plane row n begins with the word of its plane in its scan line's first group
-pub row-start : (r : Raster) (n planes line : ℕ) → r.planes ≡ planes → line ≡ line_bytes r
-    → n / planes * line + n % planes * 2 ≡ row_offset r n 0
+-- the row of a plane in a scan line is one of the raster's
+pub row_is : (r : Raster) (y p : ℕ) → y < r.lines → p < r.planes → y * r.planes + p < rows r
+row_is r y p h l = digits_lt h l
+
+-- it begins with the plane's word in the scan line's first group
+pub row_begins : (r : Raster) (y p : ℕ) → p < r.planes → row_offset r (y * r.planes + p) 0 ≡ y * line_bytes r + p * 2
 unfolding row_offset word_offset group_offset
-row-start r n planes line p l = rw (← p, l) (omega (arith, mul_assoc (n / r.planes) r.groups (r.planes * 2)))
+row_begins r y p h =
+    ap₂ (λ (a b : ℕ). (a * r.groups + 0 / 2) * (r.planes * 2) + b * 2 + 0 % 2) (digits_div y h) (digits_mod y h)
+    ∙ omega (arith, mul_assoc y r.groups (r.planes * 2))

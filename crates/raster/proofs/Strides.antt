@@ -1,15 +1,15 @@
--- Words that lie a stride apart, as those of a plane row do, and the loops that copy and store them.
-use mathlib.Core.Path.{◌≡◌, refl, sym, ap, ap₂, ◌∙◌, fun_ext}
+-- The words of a plane row, which lie a stride apart, and the loops that copy and store them.
+use mathlib.Core.Path.{◌≡◌, refl, sym, ap, ap₂, ◌∙◌}
 use mathlib.Core.List.{List}
 use Prim.Native.Nat.{ℕ, ◌+◌, ◌*◌, ◌/◌, ◌%◌, ◌≤◌, ◌<◌}
-use native.Mathlib.Nat.{add-zero, add-mul, one-mul}
+use native.Mathlib.Nat.{add-mul, add-zero}
 use native.Mathlib.Omega.{arith}
 use lib.Arith.{digits_div, digits_mod}
-use lib.ListN.{length, get_or, take, set}
+use lib.ListN.{length, get_or, take, set, length-set}
+use lib.Seq.{take_all}
 use Rattle.lists.specs.Over.{over}
 use Rattle.lists.specs.Stores.{stores}
-use Rattle.lists.specs.Tabulate.{tabulate}
-use Rattle.lists.proofs.Over.{over_done, tabulate-turn}
+use Rattle.lists.proofs.Over.{tabulate-turn}
 use Rattle.lists.proofs.Stores.{stores-turn}
 use Rattle.lists.proofs.Tabulate.{length-tabulate}
 use Rattle.raster.specs.declared.Raster.{Raster}
@@ -18,128 +18,77 @@ use Rattle.raster.specs.Shape.{row_bytes, rows, bytes}
 use Rattle.raster.specs.PlaneRows.{row_offset, plane_row, with_row}
 use Rattle.raster.proofs.Places.{row_within}
 
--- where byte c of such words lies
-abbrev pub strided : ℕ → ℕ → ℕ → ℕ
-strided start stride c = start + c / 2 * stride + c % 2
+-- where word g of plane row n begins
+abbrev pub word_start : Raster → ℕ → ℕ → ℕ
+word_start r n g = row_offset r n 0 + g * (r.planes * 2)
 
--- byte c of such words
-abbrev byte_of : List ℕ → ℕ → ℕ → ℕ → ℕ
-byte_of s start stride c = get_or s (strided start stride c) 0
+-- the area with the first g words of a row stored to plane row n
+unfoldable pub stored : Raster → ℕ → ℕ → List ℕ → List ℕ → List ℕ
+stored r n g row area = stores (g * 2) (row_offset r n) (λ c. get_or row c 0) area
 
--- all bytes of such words
-abbrev pub words_of : List ℕ → ℕ → ℕ → ℕ → List ℕ
-words_of s start stride words = tabulate (words * 2) (byte_of s start stride)
+pub stored_none : (r : Raster) (n : ℕ) (row area : List ℕ) → stored r n 0 row area ≡ area
+unfolding stored stores
+stored_none r n row area = refl
 
-strided-byte : (start stride g h : ℕ) → h < 2 → strided start stride (g * 2 + h) ≡ start + g * stride + h
-strided-byte start stride g h l = ap₂ (λ (a b : ℕ). start + a * stride + b) (digits_div g l) (digits_mod g l)
+pub stored_all : (r : Raster) (n g : ℕ) (row area : List ℕ) → g ≡ r.groups
+    → stored r n g row area ≡ with_row area r n row
+unfolding stored with_row
+stored_all r n g row area e = ap (λ (k : ℕ). stores (k * 2) (row_offset r n) (λ c. get_or row c 0) area) e
 
-row_offset-byte : (r : Raster) (n c : ℕ) → row_offset r n c ≡ strided (row_offset r n 0) (r.planes * 2) c
-unfolding row_offset word_offset group_offset
-row_offset-byte r n c = omega (arith, add-mul (n / r.planes * r.groups) (c / 2) (r.planes * 2))
+module _ (r : Raster) (n g : ℕ) where
+  -- its byte h
+  byte-at : (h : ℕ) → h < 2 → row_offset r n (g * 2 + h) ≡ word_start r n g + h
+  unfolding row_offset word_offset group_offset
+  byte-at h l =
+      ap₂ (λ (a b : ℕ). (n / r.planes * r.groups + a) * (r.planes * 2) + n % r.planes * 2 + b) (digits_div g l)
+      (digits_mod g l)
+      ∙ omega (arith, add-mul (n / r.planes * r.groups) g (r.planes * 2))
 
--- ---- the place of a loop over words
+  first-byte : row_offset r n (g * 2) ≡ word_start r n g
+  first-byte =
+      ap (row_offset r n) (sym (add-zero (g * 2))) ∙ byte-at 0 (omega arith) ∙ add-zero (word_start r n g)
 
--- word g of `words` is at `at`, and all lie within a list of `size` bytes
-pub record AtWord (start stride words size at g : ℕ) : Type 0 where
-  pub within : (k : ℕ) → k < words → start + k * stride + 1 < size
-  pub small : stride ≤ 510
-  pub place : at ≡ start + g * stride
-  pub count : g ≤ words
+  pub word_within : n < rows r → g < r.groups → word_start r n g + 1 < bytes r
+  word_within h l = omega (arith, byte-at 1 (omega arith), row_within r n (g * 2 + 1) h (omega arith))
 
-module _ {start stride words size at g : ℕ} (w : AtWord start stride words size at g) where
-  pub next_word : g < words → AtWord start stride words size (at + stride) (g + 1)
-  next_word h =
-      record {
-        within = w.within;
-        small = w.small;
-        place = omega (arith, add-mul g 1 stride, one-mul stride);
-        count = omega arith;
-      }
-
-  pub at-within : g < words → at + 1 < size
-  at-within h = omega (arith, w.within g h)
-
-  -- the offsets of a word's two bytes
-  first_byte : at ≡ strided start stride (g * 2)
-  first_byte = omega (arith, strided-byte start stride g 0 (omega arith)) ∙ ap (strided start stride) (add-zero (g * 2))
-
-  second-byte : at + 1 ≡ strided start stride (g * 2 + 1)
-  second-byte = omega (arith, strided-byte start stride g 1 (omega arith))
-
-  -- a turn: two bytes
-  pub copy-turn : (s row₀ row : List ℕ) → g < words → words * 2 ≤ length row₀
-      → row ≡ over (take (g * 2) (words_of s start stride words)) row₀
-      → set (set row (g * 2) (get_or s at 0)) (g * 2 + 1) (get_or s (at + 1) 0)
-      ≡ over (take ((g + 1) * 2) (words_of s start stride words)) row₀
-  copy-turn s row₀ row h l is =
-      let f : ℕ → ℕ = byte_of s start stride in
-      let n : g * 2 + 1 + 1 ≡ (g + 1) * 2 = omega arith in
-      let first : set row (g * 2) (get_or s at 0) ≡ over (take (g * 2 + 1) (tabulate (words * 2) f)) row₀ =
-      tabulate-turn (words * 2) f row₀ row (g * 2) (get_or s at 0) (omega arith) (omega arith) is
-      (ap (λ (o : ℕ). get_or s o 0) first_byte) in
-      tabulate-turn (words * 2) f row₀ (set row (g * 2) (get_or s at 0)) (g * 2 + 1) (get_or s (at + 1) 0)
-      (omega arith) (omega arith) first (ap (λ (o : ℕ). get_or s o 0) second-byte)
-      ∙ ap (λ (k : ℕ). over (take k (tabulate (words * 2) f)) row₀) n
-
-  pub store-turn : (row area₀ area : List ℕ) → area ≡ stores (g * 2) (strided start stride) (λ c. get_or row c 0) area₀
-      → set (set area at (get_or row (g * 2) 0)) (at + 1) (get_or row (g * 2 + 1) 0)
-      ≡ stores ((g + 1) * 2) (strided start stride) (λ c. get_or row c 0) area₀
-  store-turn row area₀ area is =
-      let p : ℕ → ℕ = strided start stride in
-      let v : ℕ → ℕ = λ c. get_or row c 0 in
-      let n : g * 2 + 1 + 1 ≡ (g + 1) * 2 = omega arith in
-      stores-turn (g * 2 + 1) p v area₀ (set area at (v (g * 2))) (at + 1) (v (g * 2 + 1))
-      (stores-turn (g * 2) p v area₀ area at (v (g * 2)) is first_byte refl)
-      second-byte
-      refl
-      ∙ ap (λ (k : ℕ). stores k p v area₀) n
-
--- ---- plane row n is such words
-
-pub record RowWords (r : Raster) (n start stride words : ℕ) : Type 0 where
-  pub first : start ≡ row_offset r n 0
-  pub apart : stride ≡ r.planes * 2
-  pub count : words ≡ r.groups
-
-module _ {r : Raster} {n start stride words : ℕ} (w : RowWords r n start stride words) where
-  row-strided : strided start stride ≡ row_offset r n
-  row-strided = ap₂ strided w.first w.apart ∙ sym (fun_ext (row_offset-byte r n))
-
-  pub row-bytes : words * 2 ≡ row_bytes r
-  row-bytes = ap (λ (k : ℕ). k * 2) w.count
-
-  -- the place before the first turn
-  pub first_word : (size : ℕ) → stride ≤ 510 → bytes r ≤ size → n < rows r → AtWord start stride words size start 0
-  first_word size small h k =
-      record {
-        within = λ i l. rw (w.first, w.apart) (omega (arith, bound i (omega (arith, w.count))));
-        small = small;
-        place = omega arith;
-        count = omega arith;
-      }
-    where
-      bound : (i : ℕ) → i < r.groups → row_offset r n 0 + i * (r.planes * 2) + 1 < bytes r
-      bound i l =
-          omega (
-            arith,
-            strided-byte (row_offset r n 0) (r.planes * 2) i 1 (omega arith),
-            row_offset-byte r n (i * 2 + 1),
-            row_within r n (i * 2 + 1) k (omega (arith)),
-          )
-
-  -- after the last turn
-  pub copy_done : (s row₀ row : List ℕ) (g : ℕ) → words ≤ g
-      → row ≡ over (take (g * 2) (words_of s start stride words)) row₀
-      → row ≡ over (plane_row s r n) row₀
+  -- a turn of the loop that copies them
+  pub copy_turn : (s row₀ : List ℕ) (high low : ℕ) → g < r.groups → row_bytes r ≤ length row₀
+      → high ≡ get_or s (word_start r n g) 0 → low ≡ get_or s (word_start r n g + 1) 0
+      → set (set (over (take (g * 2) (plane_row s r n)) row₀) (g * 2) high) (g * 2 + 1) low
+      ≡ over (take ((g + 1) * 2) (plane_row s r n)) row₀
   unfolding plane_row
-  copy_done s row₀ row g h is =
-      let l = length-tabulate (words * 2) (byte_of s start stride) in
-      over_done (words_of s start stride words) row₀ row (g * 2) (omega arith) is
-      ∙ ap₂ (λ (k : ℕ) (at : ℕ → ℕ). over (tabulate k (λ c. get_or s (at c) 0)) row₀) row-bytes row-strided
+  copy_turn s row₀ high low h room eh el =
+      let f : ℕ → ℕ = λ c. get_or s (row_offset r n c) 0 in
+      let next : g * 2 + 1 + 1 ≡ (g + 1) * 2 = omega arith in
+      tabulate-turn (row_bytes r) f row₀ _ (g * 2 + 1) low (omega arith) (omega arith)
+      (tabulate-turn (row_bytes r) f row₀ _ (g * 2) high (omega arith) (omega arith) refl
+      (eh ∙ ap (λ (i : ℕ). get_or s i 0) (sym first-byte)))
+      (el ∙ ap (λ (i : ℕ). get_or s i 0) (sym (byte-at 1 (omega arith))))
+      ∙ ap (λ (k : ℕ). over (take k (plane_row s r n)) row₀) next
 
-  pub store-done : (row area₀ area : List ℕ) (g : ℕ) → g ≡ words
-      → area ≡ stores (g * 2) (strided start stride) (λ c. get_or row c 0) area₀ → area ≡ with_row area₀ r n row
-  unfolding with_row
-  store-done row area₀ area g h is =
-      let n : g * 2 ≡ row_bytes r = ap (λ (k : ℕ). k * 2) h ∙ row-bytes in
-      is ∙ ap₂ (λ (k : ℕ) (at : ℕ → ℕ). stores k at (λ c. get_or row c 0) area₀) n row-strided
+  -- a turn of the loop that stores them
+  pub store_turn : (row area₀ : List ℕ) (i high low : ℕ) → i ≡ word_start r n g → high ≡ get_or row (g * 2) 0
+      → low ≡ get_or row (g * 2 + 1) 0
+      → set (set (stored r n g row area₀) i high) (i + 1) low ≡ stored r n (g + 1) row area₀
+  unfolding stored
+  store_turn row area₀ i high low e eh el =
+      let v : ℕ → ℕ = λ c. get_or row c 0 in
+      let next : g * 2 + 1 + 1 ≡ (g + 1) * 2 = omega arith in
+      stores-turn (g * 2 + 1) (row_offset r n) v area₀ _ (i + 1) low
+      (stores-turn (g * 2) (row_offset r n) v area₀ _ i high refl (e ∙ sym first-byte) eh)
+      (ap (λ (k : ℕ). k + 1) e ∙ sym (byte-at 1 (omega arith)))
+      el
+      ∙ ap (λ (k : ℕ). stores k (row_offset r n) v area₀) next
+
+-- after the last turn
+pub copy_last : (s row₀ : List ℕ) (r : Raster) (n g : ℕ) → r.groups ≤ g
+    → over (take (g * 2) (plane_row s r n)) row₀ ≡ over (plane_row s r n) row₀
+unfolding plane_row
+copy_last s row₀ r n g h =
+    ap (λ (l : List ℕ). over l row₀)
+    (take_all (g * 2) (plane_row s r n)
+    (omega (arith, length-tabulate (row_bytes r) (λ c. get_or s (row_offset r n c) 0))))
+
+pub ruleset copies = (word_within, copy_turn, copy_last, length-set)
+
+pub ruleset puts = (word_within, stored_none, store_turn, stored_all, length-set)

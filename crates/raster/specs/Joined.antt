@@ -28,11 +28,6 @@ interleaved planes width x = x / 2 % planes * width + (x / (planes * 2) * 2 + x 
 abbrev pub interleaved_line : List ℕ → ℕ → ℕ → ℕ → ℕ → List ℕ
 interleaved_line s at planes width n = tabulate n (λ x. get_or s (at + interleaved planes width x) 0)
 
--- scan lines of `line` bytes each, one behind the other
-abbrev pub interleaved_lines : List ℕ → ℕ → ℕ → ℕ → ℕ → List ℕ
-interleaved_lines s lines planes width line =
-    tabulate (lines * line) (λ o. get_or s (o / line * line + interleaved planes width (o % line)) 0)
-
 -- four planes or two, and the bytes of eight columns of them
 abbrev pub planes_of : Bool → ℕ
 planes_of four = cond four 4 2

@@ -2,39 +2,51 @@
 #![tactic(auto)]
 
 ghost use Rattle.std.specs.Prelude.{◌≡◌, length};
-ghost use Rattle.picture.specs.Reading.{read_answer, read_area};
-ghost use Rattle.reader.specs.Reading.{read_file};
+ghost use Rattle.outcome.specs.Outcome.{map};
+ghost use Rattle.picture.specs.Reading.{picture_read, read_area};
+ghost use Rattle.reader.specs.Reading.{kind_of, read_file};
 
-use outcome::{AREA_TOO_SHORT, UNKNOWN_KIND};
-use picture::ReadAnswer;
+use outcome::{Reason, Refusal};
+use picture::PictureRead;
 use resolution::SCREEN_BYTES;
 
-// The kind of a DEGAS file.
-pub const KIND_DEGAS: u8 = 1;
+// The kind of a file to read, and its number.
+#[derive(Clone, Copy, Debug, PartialEq, Eq)]
+pub enum Kind {
+    Degas = 1,
+    Neochrome = 2,
+    Tiny = 3,
+}
 
-// The kind of a NEOchrome file.
-pub const KIND_NEOCHROME: u8 = 2;
+// Any other number is refused.
+impl TryFrom<u8> for Kind {
+    type Error = Refusal;
 
-// The kind of a Tiny file.
-pub const KIND_TINY: u8 = 3;
+    ghost try_from_gives = { λ number kind. kind ≡ kind_of number };
 
-// Reads a file of a kind into the first 32,000 bytes of an area. All is judged before the first byte is written.
-pub fn read(kind: u8, file: &[u8], area: &mut [u8]) -> ReadAnswer
-    ensures answer { result ≡ read_answer (read_file kind file.now (length area.old)) }
+    fn try_from(number: u8) -> Result<Self, Refusal> {
+        match number {
+            1 => Ok(Kind::Degas),
+            2 => Ok(Kind::Neochrome),
+            3 => Ok(Kind::Tiny),
+            _ => Err(outcome::refuse(Reason::UnknownKind)),
+        }
+    }
+}
+
+// Reads a file of a kind into the first 32,000 bytes of an area. All is judged before the first byte is written, the
+// area's length before the kind.
+pub fn read(kind: u8, file: &[u8], area: &mut [u8]) -> Result<PictureRead, Refusal>
+    ensures answer { result ≡ map picture_read (read_file kind file.now (length area.old)) }
     ensures area { area.new
         ≡ read_area (read_file kind file.now (length area.old)) area.old }
 {
-    if kind == KIND_DEGAS {
-        return degas::read(file, area);
-    }
-    if kind == KIND_NEOCHROME {
-        return neochrome::read(file, area);
-    }
-    if kind == KIND_TINY {
-        return tiny::read(file, area);
-    }
     if area.len() < SCREEN_BYTES {
-        return picture::read_refused(outcome::refuse(AREA_TOO_SHORT));
+        return Err(outcome::refuse(Reason::AreaTooShort));
     }
-    picture::read_refused(outcome::refuse(UNKNOWN_KIND))
+    match Kind::try_from(kind)? {
+        Kind::Degas => degas::read(file, area),
+        Kind::Neochrome => neochrome::read(file, area),
+        Kind::Tiny => tiny::read(file, area),
+    }
 }

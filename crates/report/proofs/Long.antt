@@ -1,4 +1,5 @@
 -- A file longer than any picture: a program may stop reading at its first `deciding_bytes` bytes, or later.
+use Rattle.std.specs.Prelude.{Ok, None, Option, Some}
 use mathlib.Core.Path.{◌≡◌, refl, sym, ap, ◌∙◌}
 use mathlib.Core.Bool.{Bool, true, false}
 use mathlib.Core.List.{List}
@@ -9,11 +10,10 @@ use lib.Dec.{leb}
 use lib.Seq.{length-take-le, get_or-take, take_all}
 use borrow.Author.Tests.{leb-true, leb-false, le-ltb}
 use Rattle.lists.proofs.Cond.{cond-elim}
-use Rattle.outcome.specs.Outcome.{Outcome, accepted, refuse, bind}
+use Rattle.outcome.specs.Outcome.{Outcome, refuse, bind}
 use Rattle.outcome.specs.Refusal.{wrong_length}
 use Rattle.words.specs.Word.{word_at}
-use Rattle.resolution.specs.declared.Chosen.{Chosen}
-use Rattle.resolution.specs.declared.Chosen.TheVariants.{Known, Unknown}
+use Rattle.resolution.specs.declared.Resolution.{Resolution}
 use Rattle.resolution.specs.Shapes.{screen_bytes}
 use Rattle.resolution.specs.Choice.{chosen, judge_with, with_resolution}
 use Rattle.picture.specs.Reading.{Reading}
@@ -41,10 +41,10 @@ module _ (file : List ℕ) (long : elite_length < length file) where
       read_fits file screen_bytes (omega arith)
       ∙ rw (le-ltb (length file) header_length (omega arith)) (go (chosen (resolution_number file)))
     where
-      go : (c : Chosen) → bind (judge_with c (λ r. accepted (header_of file r))) (read_opened file)
+      go : (c : Option Resolution) → bind (judge_with c (λ r. Ok (header_of file r))) (read_opened file)
           ≡ judge_with c (λ r. refuse wrong_length)
-      go (Known r) = opened-long (header_of file r)
-      go Unknown = refl
+      go (Some r) = opened-long (header_of file r)
+      go None = refl
 
   read-degas-long : read_file kind_degas file screen_bytes
       ≡ with_resolution (resolution_number file) (λ r. refuse wrong_length)

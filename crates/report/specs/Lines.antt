@@ -1,10 +1,13 @@
 -- The lines of the summary, and how long each can get (document 01, "Examples to hold to").
-use Rattle.std.specs.Prelude.{ℕ, ◌+◌, ◌*◌, length}
+use Rattle.std.specs.Prelude.{ℕ, ◌+◌, ◌*◌, length, decimal}
 use mathlib.Core.List.{List, ◌++◌, map, flatten}
 use Rattle.outcome.specs.declared.Refusal.{Refusal}
-use Rattle.report.specs.Decimal.{max_digits, decimal}
 use Rattle.report.specs.Labels.{resolution_label, records_label, body_label, tail_label}
 use Rattle.report.specs.Labels.{tally_label, refused_label, at_label, blank, newline}
+
+-- the most digits of a number below 2 ^ 64
+abbrev pub max_digits : ℕ
+max_digits = 20
 
 -- a label and a number
 unfoldable pub item : List ℕ → ℕ → List ℕ

@@ -1,10 +1,8 @@
 -- The summary of a DEGAS file as text (document 01, "Examples to hold to").
-use Rattle.std.specs.Prelude.{ℕ, ◌+◌, cond, List, ◌++◌, length, replicate, ltb}
+use Rattle.std.specs.Prelude.{ℕ, ◌+◌, cond, List, ◌++◌, replicate, ltb, Ok, Err, None, Option, Some}
 use Rattle.lists.specs.Over.{over}
-use Rattle.outcome.specs.Outcome.{Outcome, accepted, refused, none, refuse_if, later}
+use Rattle.outcome.specs.Outcome.{Outcome, refuse_if, later}
 use Rattle.outcome.specs.Refusal.{area_too_short}
-use Rattle.resolution.specs.declared.Chosen.{Chosen}
-use Rattle.resolution.specs.declared.Chosen.TheVariants.{Known, Unknown}
 use Rattle.resolution.specs.declared.Resolution.{Resolution}
 use Rattle.resolution.specs.Shapes.{screen_bytes, width_of, height_of}
 use Rattle.resolution.specs.Choice.{chosen}
@@ -13,7 +11,6 @@ use Rattle.tally.specs.Counts.{counts}
 use Rattle.picture.specs.Reading.{Reading}
 use Rattle.degas.specs.Layout.{elite_length}
 use Rattle.reader.specs.Reading.{kind_degas, read_file}
-use Rattle.report.specs.declared.SummaryAnswer.{SummaryAnswer}
 use Rattle.report.specs.Lines.{number_lines, tally_line, refusal_line}
 
 -- the bytes that a summary is lent, at least
@@ -31,9 +28,9 @@ abbrev pub whole_screen : Resolution → Rectangle
 whole_screen r = record { left = 0; top = 0; columns = width_of r; lines = height_of r }
 
 -- the counts of the whole screen; without a resolution, which no accepted reading lacks, there are none
-abbrev pub screen_counts : List ℕ → Chosen → List ℕ
-screen_counts s (Known r) = counts s r (whole_screen r)
-screen_counts s Unknown = replicate 16 0
+abbrev pub screen_counts : List ℕ → Option Resolution → List ℕ
+screen_counts s (Some r) = counts s r (whole_screen r)
+screen_counts s None = replicate 16 0
 
 -- the five lines of a reading: the tail is 1 where present, else 0; the tally is that of the whole screen
 unfoldable pub reading_text : Reading → List ℕ
@@ -43,8 +40,8 @@ reading_text q =
 
 -- five lines of an accepted reading, one of a refusal
 abbrev pub summary_text : Outcome Reading → List ℕ
-summary_text (accepted q) = reading_text q
-summary_text (refused why) = refusal_line why
+summary_text (Ok q) = reading_text q
+summary_text (Err why) = refusal_line why
 
 -- the summary of a file, which is read as DEGAS
 unfoldable pub summary : List ℕ → List ℕ
@@ -54,12 +51,7 @@ summary file = summary_text (read_file kind_degas file screen_bytes)
 
 -- the summary, for an output of `out` bytes
 unfoldable pub summarised : List ℕ → ℕ → Outcome (List ℕ)
-summarised file out = refuse_if (ltb out summary_bytes) area_too_short (accepted (summary file))
-
--- a refusal gives 0 for the length
-abbrev pub summary_answer : Outcome (List ℕ) → SummaryAnswer
-summary_answer (accepted text) = record { refusal = none; length = length text }
-summary_answer (refused why) = record { refusal = why; length = 0 }
+summarised file out = refuse_if (ltb out summary_bytes) area_too_short (Ok (summary file))
 
 -- the text over the output's front; after a refusal the output as it was
 abbrev pub summary_output : Outcome (List ℕ) → List ℕ → List ℕ

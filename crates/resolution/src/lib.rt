@@ -1,13 +1,12 @@
 // The three resolutions of the ST screen, with the shape of each as an associated constant. Definitions: specs/.
 #![tactic(auto)]
 
-ghost use Rattle.std.specs.Prelude.{◌≡◌};
+ghost use Rattle.std.specs.Prelude.{◌≡◌, Ok};
 ghost use Rattle.resolution.specs.Shapes.{shape_of, width_of, height_of, planes_of, row_bytes_of, plane_rows_of};
 ghost use Rattle.resolution.specs.Shapes.{groups_of, line_bytes_of, registers_of, raster_of};
-ghost use Rattle.outcome.specs.Outcome.{accepted};
-ghost use Rattle.resolution.specs.Choice.{chosen, number_of, judge_screen, screen_chosen};
+ghost use Rattle.resolution.specs.Choice.{number_of, with_resolution, judge_screen};
 
-use outcome::{AREA_TOO_SHORT, UNKNOWN_RESOLUTION};
+use outcome::{Reason, Refusal};
 use raster::Raster;
 
 // Bytes of a screen, at every resolution.
@@ -24,25 +23,27 @@ pub struct Shape {
 }
 
 // One of the three resolutions.
-#[derive(Clone, Copy)]
+#[derive(Clone, Copy, Debug, PartialEq, Eq)]
 pub enum Resolution {
-    Low,
-    Medium,
-    High,
+    Low = 0,
+    Medium = 1,
+    High = 2,
 }
 
-// The resolution that a number names, if any.
-#[derive(Clone, Copy)]
-pub enum Chosen {
-    Known(Resolution),
-    Unknown,
-}
+// 0 low, 1 medium, 2 high; any other number is refused.
+impl TryFrom<u16> for Resolution {
+    type Error = Refusal;
 
-// The resolution of a screen, or the number of the refusal.
-#[derive(Clone, Copy)]
-pub enum ScreenChosen {
-    Fits(Resolution),
-    Refused(u8),
+    ghost try_from_gives = { λ number chosen. chosen ≡ with_resolution number (λ r. Ok r) };
+
+    fn try_from(number: u16) -> Result<Self, Refusal> {
+        match number {
+            0 => Ok(Resolution::Low),
+            1 => Ok(Resolution::Medium),
+            2 => Ok(Resolution::High),
+            _ => Err(outcome::refuse(Reason::UnknownResolution)),
+        }
+    }
 }
 
 impl Resolution {
@@ -73,27 +74,11 @@ impl Resolution {
         plane_rows: 400,
     };
 
-    // 0 low, 1 medium, 2 high.
-    pub fn from_number(number: u16) -> Chosen
-        ensures { result ≡ chosen number }
-    {
-        match number {
-            0 => Chosen::Known(Resolution::Low),
-            1 => Chosen::Known(Resolution::Medium),
-            2 => Chosen::Known(Resolution::High),
-            _ => Chosen::Unknown,
-        }
-    }
-
     // The number that names it.
     pub fn number(self) -> u16
         ensures { result ≡ number_of self }
     {
-        match self {
-            Resolution::Low => 0,
-            Resolution::Medium => 1,
-            Resolution::High => 2,
-        }
+        self as u16
     }
 
     // Its width, height, planes, plane row bytes and plane rows.
@@ -150,6 +135,7 @@ impl Resolution {
     }
 
     // Bytes of a scan line, all planes.
+    // A table by match, as `registers`: no plainer as one.
     pub fn line_bytes(self) -> usize
         ensures { result ≡ line_bytes_of self }
     {
@@ -172,6 +158,7 @@ impl Resolution {
     }
 
     // Registers: two to the power of the planes.
+    // A table by match, as `line_bytes`: no plainer as one.
     pub fn registers(self) -> u8
         ensures { result ≡ registers_of self }
     {
@@ -184,14 +171,11 @@ impl Resolution {
 }
 
 // A screen's length judged, then the resolution's number.
-pub fn judge_screen(screen_len: usize, number: u16) -> ScreenChosen
-    ensures { result ≡ screen_chosen (judge_screen screen_len number (λ r. accepted r)) }
+pub fn judge_screen(screen_len: usize, number: u16) -> Result<Resolution, Refusal>
+    ensures { result ≡ judge_screen screen_len number (λ r. Ok r) }
 {
     if screen_len < SCREEN_BYTES {
-        return ScreenChosen::Refused(AREA_TOO_SHORT);
+        return Err(outcome::refuse(Reason::AreaTooShort));
     }
-    match Resolution::from_number(number) {
-        Chosen::Known(r) => ScreenChosen::Fits(r),
-        Chosen::Unknown => ScreenChosen::Refused(UNKNOWN_RESOLUTION),
-    }
+    Resolution::try_from(number)
 }

@@ -1,4 +1,5 @@
 -- Change request 12, one packed file per picture: what holds of the rewriting of an accepted packed DEGAS file.
+use Rattle.std.specs.Prelude.{Ok}
 use mathlib.Core.Path.{◌≡◌, refl, sym, ap, ap₂, ◌∙◌}
 use mathlib.Core.Logic.{◌↔◌}
 use mathlib.Core.Bool.{true, false≢true}
@@ -12,7 +13,7 @@ use Rattle.lists.specs.Bytes.{Bytes}
 use Rattle.lists.specs.Over.{over}
 use Rattle.lists.proofs.Over.{length_over, get_or-over-in}
 use Rattle.lists.proofs.Cond.{cond-ltb}
-use Rattle.outcome.specs.Outcome.{Outcome, accepted, bind, map, later}
+use Rattle.outcome.specs.Outcome.{Outcome, bind, map, later}
 use Rattle.words.specs.Word.{word_at}
 use Rattle.pack.specs.LeastRows.{least_rows}
 use Rattle.raster.specs.PlaneRows.{plane_rows}
@@ -76,13 +77,13 @@ by_kind file area = file-degas kind_degas file area refl
 area-room : {file : List ℕ} {q : Reading} (f : ReadsPacked file q) → screen_bytes ≤ f.area
 unfolding read_degas
 area-room {file} {q} f =
-    cond-ltb (λ (o : Outcome Reading). o ≡ accepted q → screen_bytes ≤ f.area) f.area screen_bytes
+    cond-ltb (λ (o : Outcome Reading). o ≡ Ok q → screen_bytes ≤ f.area) f.area screen_bytes
     (λ short e. let z : ◌≡◌ {A = ℕ} 0 1 = cc in absurd (omega arith))
     (λ full e. full)
     (sym (by_kind file f.area) ∙ f.reads)
 
 reads-into : {file : List ℕ} {q : Reading} → ReadsPacked file q → (area : ℕ) → screen_bytes ≤ area
-    → read_file kind_degas file area ≡ accepted q
+    → read_file kind_degas file area ≡ Ok q
 reads-into {file} f area room =
     by_kind file area
     ∙ read_fits file area room
@@ -132,7 +133,7 @@ module _ {file : List ℕ} (r : Resolution) (fits : PackedFits file r) where
 
   -- from any area with the screen's plane rows
   written : (s : List ℕ) → screen_bytes ≤ length s → plane_rows s (raster_of r) ≡ plane_rows fits.image (raster_of r)
-      → (out : ℕ) → file_bytes ≤ out → write_file form_packed picture s out ≡ accepted writing
+      → (out : ℕ) → file_bytes ≤ out → write_file form_packed picture s out ≡ Ok writing
   unfolding write_packed
   written s full same out enough =
       let body : least_body (raster_of r) s ≡ least = ap least_rows same in
@@ -144,11 +145,11 @@ module _ {file : List ℕ} (r : Resolution) (fits : PackedFits file r) where
       (omega (arith, ap length body, least-below, fits.below))))
       ∙ rw same
 
-  written-screen : write_file form_packed picture fits.image file_bytes ≡ accepted writing
+  written-screen : write_file form_packed picture fits.image file_bytes ≡ Ok writing
   written-screen = written fits.image (omega (arith, size)) refl file_bytes (omega arith)
 
   written-area : (area out : List ℕ) → Lent area out
-      → write_file form_packed picture (over fits.image area) (length out) ≡ accepted writing
+      → write_file form_packed picture (over fits.image area) (length out) ≡ Ok writing
   written-area area out lent =
       let long = length_over fits.image area (omega (arith, size, lent.room)) in
       written (over fits.image area) (omega (arith, long, lent.room))
@@ -159,7 +160,7 @@ module _ {file : List ℕ} (r : Resolution) (fits : PackedFits file r) where
 
   -- read again: the same picture and screen
   written_back : (area : ℕ) → screen_bytes ≤ area
-      → read_file kind_degas writing.file area ≡ accepted (read_again (packed_given r fits) writing)
+      → read_file kind_degas writing.file area ≡ Ok (read_again (packed_given r fits) writing)
   written_back area room =
       written_read picture whole fits.image area room form_packed file_bytes writing written-screen
       ∙ rw (take_all screen_bytes fits.image (omega (arith, size)))
@@ -186,16 +187,16 @@ module _ {file : List ℕ} {q : Reading} (bytes : Bytes file) (f : ReadsPacked f
   canonical = writing found.r found.fits
 
   canonical-back : (area : ℕ) → screen_bytes ≤ area
-      → read_file kind_degas canonical.file area ≡ accepted (read_again q canonical)
+      → read_file kind_degas canonical.file area ≡ Ok (read_again q canonical)
   canonical-back area room =
       written_back found.r found.fits area room
-      ∙ ap (λ (b : Reading). accepted (read_again b canonical)) (sym found.gives)
+      ∙ ap (λ (b : Reading). Ok (read_again b canonical)) (sym found.gives)
 
   module _ (area out : List ℕ) (lent : Lent area out) where
     rewrite-read : rewrite area out file ≡ write_read area out q
     rewrite-read = ap (λ (o : Outcome Reading). bind o (write_read area out)) (reads-into f (length area) lent.room)
 
-    rewrite-is : rewrite area out file ≡ accepted canonical
+    rewrite-is : rewrite area out file ≡ Ok canonical
     rewrite-is =
         rewrite-read
         ∙ ap (write_read area out) found.gives
@@ -250,12 +251,12 @@ module _ {file : List ℕ} {q : Reading} (bytes : Bytes file) (f : ReadsPacked f
     }
 
     pub converted-back : (area out : List ℕ) → Lent area out → (plain : ℕ) → file_bytes ≤ plain → (w : Writing)
-        → convert ToPlain file plain ≡ accepted w → convert ToElite w.file (length out) ≡ rewrite area out file
+        → convert ToPlain file plain ≡ Ok w → convert ToElite w.file (length out) ≡ rewrite area out file
     converted-back area out lent plain room w is =
         let write : Reading → Outcome Writing = λ b. write_elite b.picture b.screen (length out) in
         let r : Resolution = found.r in
         let fits : PackedFits file r = found.fits in
-        let packed : write_degas Packed (picture r fits) fits.image (length out) ≡ accepted canonical =
+        let packed : write_degas Packed (picture r fits) fits.image (length out) ≡ Ok canonical =
         sym (form-packed form_packed (picture r fits) fits.image (length out) refl)
         ∙ written r fits fits.image (omega (arith, size r fits)) refl (length out) lent.enough in
         to-plain-back converts plain room w is (length out) lent.enough

@@ -1,6 +1,6 @@
 -- A packed DEGAS file rewritten: read, and what it gives written as form 3 (document 02, ticket 12).
-use Rattle.std.specs.Prelude.{ℕ, ◌≤◌, ◌≡◌, true, List, length, take}
-use Rattle.outcome.specs.Outcome.{Outcome, accepted, bind}
+use Rattle.std.specs.Prelude.{ℕ, ◌≤◌, ◌≡◌, true, List, length, take, Ok}
+use Rattle.outcome.specs.Outcome.{Outcome, bind}
 use Rattle.resolution.specs.Shapes.{screen_bytes}
 use Rattle.picture.specs.Reading.{Reading, read_area}
 use Rattle.picture.specs.Writing.{Writing, file_bytes, write_answer, write_output}
@@ -15,7 +15,7 @@ pub record Lent (area out : List ℕ) : Type 0 where
 
 -- the picture that reading gave, and the area that it was lent, written as form 3
 abbrev pub write_read : List ℕ → List ℕ → Reading → Outcome Writing
-write_read area out q = write_file form_packed q.picture (read_area (accepted q) area) (length out)
+write_read area out q = write_file form_packed q.picture (read_area (Ok q) area) (length out)
 
 -- a DEGAS file rewritten, by way of a lent area and into a lent output; a refusal of the reading stays
 abbrev pub rewrite : List ℕ → List ℕ → List ℕ → Outcome Writing
@@ -33,7 +33,7 @@ rewritten area out file = file_in out (rewrite area out file)
 pub record ReadsPacked (file : List ℕ) (q : Reading) : Type 0 where
   pub packed : is_packed file ≡ true
   pub area : ℕ
-  pub reads : read_file kind_degas file area ≡ accepted q
+  pub reads : read_file kind_degas file area ≡ Ok q
 
 -- resolution, palette words, tail words and screen are equal
 pub record SamePicture (q other : Reading) : Type 0 where

@@ -1,5 +1,6 @@
 -- A Spectrum 512 file is accepted exactly where `AcceptsSpectrum` holds, and refused, and why, exactly where
 -- `RefusesSpectrum` does.
+use Rattle.std.specs.Prelude.{Ok, Err}
 use mathlib.Core.Path.{◌≡◌, refl, sym, ap, ◌∙◌, subst}
 use mathlib.Core.Bool.{Bool, true, false}
 use mathlib.Core.Logic.{◌⊎◌, inl, inr}
@@ -15,7 +16,7 @@ use Rattle.lists.specs.Bytes.{Bytes}
 use Rattle.lists.proofs.Bytes.{bytes_take}
 use Rattle.lists.proofs.Tabulate.{length-tabulate}
 use Rattle.outcome.specs.declared.Refusal.{Refusal}
-use Rattle.outcome.specs.Outcome.{Outcome, accepted, refused, refusal, refuse}
+use Rattle.outcome.specs.Outcome.{Outcome, refusal, refuse}
 use Rattle.outcome.specs.Refusal.{wrong_header}
 use Rattle.words.specs.Word.{words_at, words_bytes}
 use Rattle.words.proofs.Word.{words_back, words-restored, length-words_bytes}
@@ -53,14 +54,14 @@ reading-is screen words r e f = rw (e, f)
 -- ---- the functions from the relations
 
 module _ (file : List ℕ) where
-  spu-accepted : (r : Reading) → AcceptsSpu file r → read_spu file ≡ accepted r
+  spu-accepted : (r : Reading) → AcceptsSpu file r → read_spu file ≡ Ok r
   spu-accepted r a =
       let size : length file ≡ spu_bytes =
       ap length a.parts
       ∙ length-append r.screen (words_bytes r.palettes)
       ∙ omega (arith, a.screen_size, a.palette_size, length-words_bytes r.palettes) in
       spu-right file size
-      ∙ ap accepted
+      ∙ ap Ok
       (reading-is _ _ r
       (ap (take 32000) a.parts ∙ take_at r.screen (words_bytes r.palettes) 32000 a.screen_size)
       (ap (λ (l : List ℕ). words_at palette_words l 32000)
@@ -81,7 +82,7 @@ module _ (file : List ℕ) where
   -- the maps
   module _ (packed colours planes : List ℕ) (m : MapsAt file packed colours) (h : HoldsPlanes packed planes) where
     maps-accepted : (r : Reading) → ScreenOf planes r.screen
-        → HoldsPalettes palette_count no_palette colours [] r.palettes → read_spc file ≡ accepted r
+        → HoldsPalettes palette_count no_palette colours [] r.palettes → read_spc file ≡ Ok r
     maps-accepted r s p =
         let u = unpacked file packed colours m h.behind planes h.unpacks in
         let few : colour_start file ≤ u.end + 1 = omega (arith, u.left, h.few) in
@@ -89,23 +90,23 @@ module _ (file : List ℕ) where
         omega (arith, ap length u.made, map-all (before_colours file) header_bytes plane_bytes u.end u.is) in
         to-maps file packed colours m
         ∙ maps-read file u.end u.is few r.palettes (colours-read file packed colours m r.palettes p)
-        ∙ ap accepted
+        ∙ ap Ok
         (reading-is _ _ r
         (ap spc_screen u.made ∙ screen-same planes (spc_screen planes) r.screen (screen-of planes full) s) refl)
 
-    maps-refused : (why : Refusal) → read_map file (colour_start file) palette_words ≡ refused why
-        → read_spc file ≡ refused why
+    maps-refused : (why : Refusal) → read_map file (colour_start file) palette_words ≡ Err why
+        → read_spc file ≡ Err why
     maps-refused why e =
         let u = unpacked file packed colours m h.behind planes h.unpacks in
         let few : colour_start file ≤ u.end + 1 = omega (arith, u.left, h.few) in
         to-maps file packed colours m ∙ colours-refused file u.end u.is few why e
 
-  spc-accepted : (r : Reading) → AcceptsSpc file r → read_spc file ≡ accepted r
+  spc-accepted : (r : Reading) → AcceptsSpc file r → read_spc file ≡ Ok r
   spc-accepted r a =
       maps-accepted a.packed a.colours a.planes (maps-at file a.packed a.colours a.maps) a.unpacks
       r a.screen a.palettes
 
-  spc-refused : Bytes file → (why : Refusal) → RefusesSpc file why → read_spc file ≡ refused why
+  spc-refused : Bytes file → (why : Refusal) → RefusesSpc file why → read_spc file ≡ Err why
   spc-refused bytes why (file_short h) = file-short file h
   spc-refused bytes why (length_wrong b bad) =
       let t = headed b in
@@ -133,14 +134,14 @@ module _ (file : List ℕ) where
       maps-refused packed colours planes m u _ (colours-left file packed colours m rest words p some)
 
 pub spectrum-accepted : (kind : ℕ) (file : List ℕ) (screen palettes : ℕ) (r : Reading)
-    → AcceptsSpectrum file screen palettes r kind → read_spectrum kind file screen palettes ≡ accepted r
+    → AcceptsSpectrum file screen palettes r kind → read_spectrum kind file screen palettes ≡ Ok r
 spectrum-accepted kind file screen palettes r (spu room enough a) =
     kind-spu file kind_spu screen palettes room enough refl ∙ spu-accepted file r a
 spectrum-accepted kind file screen palettes r (spc room enough a) =
     kind-spc file kind_spc screen palettes room enough refl ∙ spc-accepted file r a
 
 pub spectrum-refused : (kind : ℕ) (file : List ℕ) (screen palettes : ℕ) (why : Refusal) → Bytes file
-    → RefusesSpectrum file screen palettes kind why → read_spectrum kind file screen palettes ≡ refused why
+    → RefusesSpectrum file screen palettes kind why → read_spectrum kind file screen palettes ≡ Err why
 spectrum-refused kind file screen palettes why bytes (screen_short h) = screen-short file kind screen palettes h
 spectrum-refused kind file screen palettes why bytes (palettes_short h) = palettes-short file kind screen palettes h
 spectrum-refused kind file screen palettes why bytes (other_kind room enough u c) =
@@ -198,10 +199,10 @@ module _ (file : List ℕ) (bytes : Bytes file) where
     palettes-refuse number place l s (inr k) = rw k (vector_wrong h u (rw k at s))
 
     colours-either : (o : Outcome ℕ) → judge_palettes palette_count file start ≡ o → Spc
-    colours-either (refused why) e =
+    colours-either (Err why) e =
         let t = palettes-stop file bytes palette_count start why inside e in
         inr (_, palettes-refuse t.number t.place t.inside t.stops (stops-number t.stops))
-    colours-either (accepted end) e = go (dec_lt end (length file))
+    colours-either (Ok end) e = go (dec_lt end (length file))
       where
         words : List ℕ
         words = palettes palette_count file start no_palette
@@ -237,13 +238,13 @@ module _ (file : List ℕ) (bytes : Bytes file) where
     size = before-length file packed colours m
 
     data-either : (o : Outcome ℕ) → (unpacked_data file).ends ≡ o → Spc
-    data-either (refused why) e =
+    data-either (Err why) e =
         let t = map-stops (before_colours file) (bytes_take (colour_start file) file bytes) header_bytes plane_bytes why
         (omega (arith, m.data_at.inside)) e in
         let at : header_bytes + length packed - length (drop t.place (before_colours file)) ≡ t.place =
         omega (arith, size, m.start, length-drop t.place (before_colours file), t.inside) in
         inr (_, subst (λ (k : ℕ). RefusesSpc file (refusal t.number k)) at (in_data h t.stops))
-    data-either (accepted end) e = go (dec_lt (end + 1) (colour_start file))
+    data-either (Ok end) e = go (dec_lt (end + 1) (colour_start file))
       where
         planes : List ℕ
         planes = (unpacked_data file).made
@@ -338,7 +339,7 @@ module _ (file : List ℕ) (bytes : Bytes file) where
 
     -- ---- the relations from the function
 
-    pub spectrum-accepts : (r : Reading) → read_spectrum kind file screen palettes ≡ accepted r
+    pub spectrum-accepts : (r : Reading) → read_spectrum kind file screen palettes ≡ Ok r
         → AcceptsSpectrum file screen palettes r kind
     spectrum-accepts r e = go either
       where
@@ -352,7 +353,7 @@ module _ (file : List ℕ) (bytes : Bytes file) where
             let z : ◌≡◌ {A = ℕ} 0 1 = cc in
             absurd (omega arith)
 
-    pub spectrum-refuses : (why : Refusal) → read_spectrum kind file screen palettes ≡ refused why
+    pub spectrum-refuses : (why : Refusal) → read_spectrum kind file screen palettes ≡ Err why
         → RefusesSpectrum file screen palettes kind why
     spectrum-refuses why e = go either
       where

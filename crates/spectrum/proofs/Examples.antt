@@ -1,9 +1,10 @@
 -- Worked examples of each rule of ticket 5 on whole files, computed.
+use Rattle.std.specs.Prelude.{Err}
 use mathlib.Core.Path.{◌≡◌, refl}
 use mathlib.Core.List.{List, [], ◌∷◌, ◌++◌}
 use Prim.Native.Nat.{ℕ, ◌+◌, ◌*◌}
 use lib.ListN.{replicate}
-use Rattle.outcome.specs.Outcome.{Outcome, refused, refusal}
+use Rattle.outcome.specs.Outcome.{Outcome, refusal}
 use Rattle.words.specs.Word.{word_at}
 use Rattle.raster.specs.Shape.{bytes}
 use Rattle.resolution.specs.Shapes.{screen_bytes}
@@ -35,7 +36,7 @@ header n m = 0x53 ∷ 0x50 ∷ 0 ∷ 0 ∷ 0 ∷ 0 ∷ 0 ∷ n ∷ 0 ∷ 0 ∷ 0
 
 -- refused with this number at this place
 abbrev no : ℕ → ℕ → Outcome Reading
-no number place = refused (refusal number place)
+no number place = Err (refusal number place)
 
 abbrev read : List ℕ → Outcome Reading
 read file = read_spectrum 5 file 32000 9552

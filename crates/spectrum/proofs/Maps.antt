@@ -1,4 +1,5 @@
 -- Laws of the maps of an SPC file: where they stand, and what the data map makes.
+use Rattle.std.specs.Prelude.{Ok, Err}
 use mathlib.Core.Path.{◌≡◌, refl, sym, ap, ◌∙◌}
 use mathlib.Core.List.{List, [], ◌++◌}
 use Prim.Native.Nat.{ℕ, ◌+◌, ◌-◌, ◌≤◌, ◌<◌}
@@ -6,7 +7,7 @@ use native.Mathlib.Omega.{arith}
 use lib.ListN.{length, take, drop, length-append, length-drop, take-append-drop}
 use lib.Seq.{take_at, drop_at, drop-drop, length-take-le, take-add}
 use Rattle.lists.specs.Bytes.{Bytes}
-use Rattle.outcome.specs.Outcome.{accepted, refused, refusal, refuse}
+use Rattle.outcome.specs.Outcome.{refusal, refuse}
 use Rattle.outcome.specs.Refusal.{size_mismatch}
 use Rattle.filling.specs.Filling.{Filling}
 use Rattle.filling.specs.Makes.{Makes, Stops}
@@ -108,7 +109,7 @@ module _ (file packed colours : List ℕ) (m : MapsAt file packed colours) where
   -- the data map makes all its bytes, and these are left of it
   pub record Unpacked (behind planes : List ℕ) : Type 0 where
     pub end : ℕ
-    pub is : (unpacked_data file).ends ≡ accepted end
+    pub is : (unpacked_data file).ends ≡ Ok end
     pub made : (unpacked_data file).made ≡ planes
     pub left : end + length behind ≡ colour_start file
 
@@ -124,22 +125,22 @@ module _ (file packed colours : List ℕ) (m : MapsAt file packed colours) where
 
   -- or stops at a record at fault
   pub data-stops : (number : ℕ) (rest : List ℕ) → Stops WholeRecord FaultyRecord plane_bytes packed number rest
-      → (unpacked_data file).ends ≡ refused (refusal number (header_bytes + length packed - length rest))
+      → (unpacked_data file).ends ≡ Err (refusal number (header_bytes + length packed - length rest))
   data-stops number rest s =
       let t = stops-map (before_colours file) header_bytes m.data_at s in
       let place : t.place ≡ header_bytes + length packed - length rest =
       omega (arith, length-stands (before_colours file) t.place t.stands, before-length, m.start) in
-      t.ends ∙ ap (λ (k : ℕ). refused (refusal number k)) place
+      t.ends ∙ ap (λ (k : ℕ). Err (refusal number k)) place
 
   -- the colour map holds its palettes, and nothing is left of it or something is
   pub colours-read : (words : List ℕ) → HoldsPalettes palette_count no_palette colours [] words
-      → read_map file (colour_start file) palette_words ≡ accepted words
+      → read_map file (colour_start file) palette_words ≡ Ok words
   colours-read words h =
       let t = palettes-held file (colour_start file) m.colours_at h in
       let all : length file ≤ t.end = omega (arith, length-stands file t.end t.stands) in
       read-accepted file (colour_start file) palette_words (omega arith) t.end
       (map-accepted file (colour_start file) t.end t.judged all)
-      ∙ ap accepted t.makes
+      ∙ ap Ok t.makes
 
   pub colours-left : (rest words : List ℕ) → HoldsPalettes palette_count no_palette colours rest words
       → 0 < length rest → read_map file (colour_start file) palette_words ≡ refuse size_mismatch
@@ -151,10 +152,10 @@ module _ (file packed colours : List ℕ) (m : MapsAt file packed colours) where
 
   -- or stops at a palette at fault
   pub colours-stop : (number : ℕ) (rest : List ℕ) → StopsPalettes palette_count colours number rest
-      → read_map file (colour_start file) palette_words ≡ refused (refusal_at number (length file - length rest))
+      → read_map file (colour_start file) palette_words ≡ Err (refusal_at number (length file - length rest))
   colours-stop number rest s =
       let t = palettes-halt file (colour_start file) m.colours_at s in
       let place : t.place ≡ length file - length rest = omega (arith, length-stands file t.place t.stands) in
       read-refused file (colour_start file) palette_words (omega arith) _
       (map-refused file (colour_start file) _ t.judged)
-      ∙ ap (λ (k : ℕ). refused (refusal_at number k)) place
+      ∙ ap (λ (k : ℕ). Err (refusal_at number k)) place

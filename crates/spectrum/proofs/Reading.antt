@@ -1,4 +1,5 @@
 -- Laws of reading: each test picks a case.
+use Rattle.std.specs.Prelude.{Ok, Err, ⊤}
 use mathlib.Core.Path.{◌≡◌, refl, ap, ap₂, ◌∙◌}
 use mathlib.Core.Bool.{Bool, true, false}
 use mathlib.Core.List.{List}
@@ -8,10 +9,12 @@ use lib.ListN.{length, get_or, take, drop, length-drop}
 use lib.Seq.{take_all, get_or-drop}
 use lib.Dec.{ltb}
 use borrow.Author.Tests.{lt-ltb, le-ltb, eq-eqb, ne_eqb}
+use Rattle.lists.specs.Over.{over}
 use Rattle.lists.specs.Tabulate.{tabulate}
+use Rattle.lists.proofs.Cond.{cond-eqb}
 use Rattle.lists.proofs.Tabulate.{tabulate-ext, length-tabulate}
 use Rattle.outcome.specs.declared.Refusal.{Refusal}
-use Rattle.outcome.specs.Outcome.{accepted, refused, refuse}
+use Rattle.outcome.specs.Outcome.{Outcome, refusal, refuse, void}
 use Rattle.outcome.specs.Refusal.{area_too_short, unknown_kind, wrong_length, size_mismatch, wrong_header}
 use Rattle.words.specs.Word.{word_at, words_at}
 use Rattle.resolution.specs.Shapes.{screen_bytes}
@@ -20,7 +23,10 @@ use Rattle.spectrum_colour_map.specs.ColourMap.{palette_words, read_map}
 use Rattle.spectrum.specs.Layout.{kind_spu, kind_spc, spu_bytes, header_bytes, spc_flag, flag, reserved, colour_start}
 use Rattle.spectrum.specs.Layout.{spc_length}
 use Rattle.spectrum.specs.Screen.{plane_bytes, spc_screen}
-use Rattle.spectrum.specs.Reading.{read_spu, unpacked_data, read_maps, read_spc, read_spectrum}
+use Rattle.spectrum.specs.declared.Kind.{Kind}
+use Rattle.spectrum.specs.declared.Kind.TheVariants.{Spu, Spc}
+use Rattle.spectrum.specs.Reading.{chosen_kind, Reading, Reads, read_spu, unpacked_data, read_maps, read_spc}
+use Rattle.spectrum.specs.Reading.{read_spectrum}
 
 module _ (file : List ℕ) where
   -- ---- SPU
@@ -30,7 +36,7 @@ module _ (file : List ℕ) where
   spu-wrong h = rw (ne_eqb (length file) spu_bytes h)
 
   pub spu-right : length file ≡ spu_bytes → read_spu file
-      ≡ accepted (record { screen = take screen_bytes file; palettes = words_at palette_words file screen_bytes })
+      ≡ Ok (record { screen = take screen_bytes file; palettes = words_at palette_words file screen_bytes })
   unfolding read_spu
   spu-right h = rw (eq-eqb (length file) spu_bytes h)
 
@@ -58,23 +64,23 @@ module _ (file : List ℕ) where
 
   -- ---- SPC: the maps
 
-  pub data-refused : (why : Refusal) → (unpacked_data file).ends ≡ refused why → read_maps file ≡ refused why
+  pub data-refused : (why : Refusal) → (unpacked_data file).ends ≡ Err why → read_maps file ≡ Err why
   unfolding read_maps
   data-refused why e = rw e
 
-  module _ (end : ℕ) (is : (unpacked_data file).ends ≡ accepted end) where
+  module _ (end : ℕ) (is : (unpacked_data file).ends ≡ Ok end) where
     pub data-left : end + 1 < colour_start file → read_maps file ≡ refuse size_mismatch
     unfolding read_maps
     data-left h = rw (is, lt-ltb (end + 1) (colour_start file) h)
 
     module _ (few : colour_start file ≤ end + 1) where
-      pub colours-refused : (why : Refusal) → read_map file (colour_start file) palette_words ≡ refused why
-          → read_maps file ≡ refused why
+      pub colours-refused : (why : Refusal) → read_map file (colour_start file) palette_words ≡ Err why
+          → read_maps file ≡ Err why
       unfolding read_maps
       colours-refused why e = rw (is, le-ltb (end + 1) (colour_start file) few, e)
 
-      pub maps-read : (words : List ℕ) → read_map file (colour_start file) palette_words ≡ accepted words → read_maps file
-          ≡ accepted (record { screen = spc_screen (unpacked_data file).made; palettes = words })
+      pub maps-read : (words : List ℕ) → read_map file (colour_start file) palette_words ≡ Ok words → read_maps file
+          ≡ Ok (record { screen = spc_screen (unpacked_data file).made; palettes = words })
       unfolding read_maps
       maps-read words e = rw (is, le-ltb (end + 1) (colour_start file) few, e)
 
@@ -171,3 +177,50 @@ module _ (file : List ℕ) where
             ne_eqb kind kind_spu u,
             ne_eqb kind kind_spc c,
           )
+
+      pub kind-unknown : (why : Refusal) → chosen_kind kind ≡ Err why
+          → read_spectrum kind file screen palettes ≡ Err why
+      kind-unknown why =
+          cond-eqb (λ (o : Outcome Kind). o ≡ Err why → read_spectrum kind file screen palettes ≡ Err why) kind kind_spu
+          (λ k e. let z : ◌≡◌ {A = ℕ} 0 1 = cc in absurd (omega arith))
+          (λ u.
+          cond-eqb (λ (o : Outcome Kind). o ≡ Err why → read_spectrum kind file screen palettes ≡ Err why) kind kind_spc
+          (λ k e. let z : ◌≡◌ {A = ℕ} 0 1 = cc in absurd (omega arith))
+          (λ c e. kind-other u c ∙ same_refusal e))
+        where
+          same_refusal : refuse {A = Kind} unknown_kind ≡ Err why → refuse {A = Reading} unknown_kind ≡ Err why
+          same_refusal e = let is : refusal unknown_kind 0 ≡ why = cc in ap Err is
+
+-- the kind that a number names has that number
+pub spu-chosen : (kind : ℕ) → chosen_kind kind ≡ Ok Spu → kind ≡ kind_spu
+spu-chosen kind =
+    cond-eqb (λ (o : Outcome Kind). o ≡ Ok Spu → kind ≡ kind_spu) kind kind_spu
+    (λ k e. k)
+    (λ u.
+    cond-eqb (λ (o : Outcome Kind). o ≡ Ok Spu → kind ≡ kind_spu) kind kind_spc
+    (λ k e. let z : ◌≡◌ {A = ℕ} 0 1 = cc in absurd (omega arith))
+    (λ c e. let z : ◌≡◌ {A = ℕ} 0 1 = cc in absurd (omega arith)))
+
+pub spc-chosen : (kind : ℕ) → chosen_kind kind ≡ Ok Spc → kind ≡ kind_spc
+spc-chosen kind =
+    cond-eqb (λ (o : Outcome Kind). o ≡ Ok Spc → kind ≡ kind_spc) kind kind_spu
+    (λ k e. let z : ◌≡◌ {A = ℕ} 0 1 = cc in absurd (omega arith))
+    (λ u.
+    cond-eqb (λ (o : Outcome Kind). o ≡ Ok Spc → kind ≡ kind_spc) kind kind_spc
+    (λ k e. k)
+    (λ c e. let z : ◌≡◌ {A = ℕ} 0 1 = cc in absurd (omega arith)))
+
+-- ---- what reading promises
+
+-- what is accepted, known by the answer
+pub void-accepted : {A : Type 0} (o : Outcome A) (u : ⊤) → void o ≡ Ok u → (a : A) × (o ≡ Ok a)
+void-accepted (Ok a) u e = (a, refl)
+void-accepted (Err why) u e = let z : ◌≡◌ {A = ℕ} 0 1 = cc in absurd (omega arith)
+
+module _ (o : Outcome Reading) (screen palettes : List ℕ) where
+  pub reads-refused : (why : Refusal) → o ≡ Err why → Reads o screen palettes (Err why) screen palettes
+  reads-refused why e = rw e (record { answer = refl; screen_put = refl; palettes_put = refl })
+
+  pub reads-accepted : (r : Reading) (next last : List ℕ) → o ≡ Ok r → next ≡ over r.screen screen
+      → last ≡ over r.palettes palettes → Reads o screen palettes (Ok tt) next last
+  reads-accepted r next last e s p = rw e (record { answer = refl; screen_put = s; palettes_put = p })

@@ -1,11 +1,11 @@
 -- The sizes of an accepted reading, and the areas it is read into.
+use Rattle.std.specs.Prelude.{Ok}
 use mathlib.Core.Path.{◌≡◌, sym, ap, ◌∙◌}
 use mathlib.Core.List.{List}
 use Prim.Native.Nat.{ℕ, ◌≤◌, ◌<◌}
 use native.Mathlib.Omega.{arith}
 use lib.ListN.{length, get_or}
 use Rattle.lists.proofs.Over.{get_or-over-in, get_or-over-past}
-use Rattle.outcome.specs.Outcome.{accepted}
 use Rattle.resolution.specs.Shapes.{screen_bytes}
 use Rattle.spectrum_colour_map.specs.ColourMap.{palette_words}
 use Rattle.spectrum_colour_map.proofs.ColourMap.{length-map}
@@ -29,7 +29,7 @@ reading-sizes {file} (spc room enough a) =
 -- the areas then hold them at the front, and behind them what they held
 module _ (kind : ℕ) (file screen palettes : List ℕ) (r : Reading)
     (a : AcceptsSpectrum file (length screen) (length palettes) r kind) (k : ℕ) where
-  is : read_spectrum kind file (length screen) (length palettes) ≡ accepted r
+  is : read_spectrum kind file (length screen) (length palettes) ≡ Ok r
   is = spectrum-accepted kind file (length screen) (length palettes) r a
 
   pub screen-front : k < screen_bytes

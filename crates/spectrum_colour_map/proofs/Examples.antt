@@ -1,11 +1,12 @@
 -- Worked examples of each rule of ticket 5 on the colour map, computed.
+use Rattle.std.specs.Prelude.{Ok, Err}
 use mathlib.Core.Path.{◌≡◌, refl}
 use mathlib.Core.List.{List, [], ◌∷◌, ◌++◌}
 use Prim.Native.Nat.{ℕ}
 use lib.ListN.{replicate}
 use Rattle.lists.specs.Sum.{sum}
 use Rattle.lists.specs.Tabulate.{tabulate}
-use Rattle.outcome.specs.Outcome.{Outcome, accepted, refused, refusal}
+use Rattle.outcome.specs.Outcome.{Outcome, refusal}
 use Rattle.words.specs.Word.{word_at}
 use Rattle.spectrum_colour_map.specs.Vector.{bit, named_below, named}
 use Rattle.spectrum_colour_map.specs.Palettes.{palette_end, entry, palette, palettes, judge_palette, judge_palettes}
@@ -13,7 +14,7 @@ use Rattle.spectrum_colour_map.specs.ColourMap.{no_palette, judge_map, read_map}
 
 -- refused with this number at this place
 abbrev no : {A : Type 0} → ℕ → ℕ → Outcome A
-no number place = refused (refusal number place)
+no number place = Err (refusal number place)
 
 -- bits 0 and 2, and two words; then bit 1, and one word
 abbrev first : List ℕ
@@ -36,7 +37,7 @@ pub kept : (palettes 1 first 0 no_palette ≡ 0x0111 ∷ 0 ∷ 0x0222 ∷ replic
     × (palettes 2 (first ++ second) 0 no_palette
     ≡ (0x0111 ∷ 0 ∷ 0x0222 ∷ replicate 13 0) ++ (0x0111 ∷ 0x0333 ∷ 0x0222 ∷ replicate 13 0))
     × (palettes 1 (0 ∷ 0 ∷ []) 0 (replicate 16 7) ≡ replicate 16 7)
-    × (judge_palettes 2 (first ++ second) 0 ≡ accepted 10)
+    × (judge_palettes 2 (first ++ second) 0 ≡ Ok 10)
 unfolding palettes palette entry palette_end judge_palettes judge_palette word_at named_below sum bit tabulate
 kept = (refl, refl, refl, refl)
 
@@ -53,7 +54,7 @@ faults = (refl, refl, refl, refl, refl, refl, refl)
 
 -- 597 palettes without a word: a byte short, whole, and a byte left; the area is judged first
 pub maps : (judge_map (replicate 1193 0) 0 ≡ no 6 1192)
-    × (judge_map (replicate 1194 0) 0 ≡ accepted 1194)
+    × (judge_map (replicate 1194 0) 0 ≡ Ok 1194)
     × (judge_map (replicate 1195 0) 0 ≡ no 13 0)
     × (read_map (replicate 1195 0) 0 9551 ≡ no 1 0)
 unfolding read_map judge_map judge_palettes judge_palette palette_end word_at named_below sum bit

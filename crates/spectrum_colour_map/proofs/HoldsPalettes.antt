@@ -1,4 +1,5 @@
 -- Palettes are judged and written exactly as the relation `HoldsPalettes` says.
+use Rattle.std.specs.Prelude.{Ok}
 use mathlib.Core.Path.{◌≡◌, refl, sym, ap, ◌∙◌, subst}
 use mathlib.Core.List.{List, [], ◌++◌}
 use Prim.Native.Nat.{ℕ, zero, suc, ◌+◌, ◌-◌, ◌^◌, ◌≤◌, ◌<◌}
@@ -7,7 +8,6 @@ use lib.ListN.{length, take, drop, length-append, length-drop, take-append-drop}
 use lib.Seq.{drop-drop, drop_at, length-take-le}
 use Rattle.lists.specs.Bytes.{Bytes}
 use Rattle.lists.proofs.Tabulate.{length-tabulate}
-use Rattle.outcome.specs.Outcome.{accepted}
 use Rattle.words.specs.Word.{word_at, words_at, word_bytes, words_bytes}
 use Rattle.words.proofs.Word.{word_at-lt, word-restored, words-restored, word_back, words_back, length-words_bytes}
 use Rattle.filling.proofs.Makes.{Stands}
@@ -66,7 +66,7 @@ module _ (file : List ℕ) (at v : ℕ) (words input : List ℕ) (many : length 
       palette-of file before words at v vector-is
       (ap (λ (n : ℕ). words_at n file (at + 2)) (sym many) ∙ words-stand file (at + 2) words input words-behind)
 
-  pub palette-accepted : v < 2 ^ 15 → judge_palette file at ≡ accepted (palette_end file at)
+  pub palette-accepted : v < 2 ^ 15 → judge_palette file at ≡ Ok (palette_end file at)
   palette-accepted small =
       palette-whole file at words-behind.inside
       (λ b. below-clear v small (sym (ap (λ (u : ℕ). bit u 15) vector-is) ∙ b))
@@ -78,7 +78,7 @@ module _ (file : List ℕ) (at v : ℕ) (words input : List ℕ) (many : length 
 pub record HeldAt (file : List ℕ) (at n : ℕ) (before rest made : List ℕ) : Type 0 where
   pub end : ℕ
   pub stands : Stands file end rest
-  pub judged : judge_palettes n file at ≡ accepted end
+  pub judged : judge_palettes n file at ≡ Ok end
   pub makes : palettes n file at before ≡ made
 
 pub palettes-held : (file : List ℕ) (at : ℕ) {n : ℕ} {before input rest made : List ℕ} → Stands file at input
@@ -111,7 +111,7 @@ module _ (file : List ℕ) (bytes : Bytes file) where
       )
 
   pub palettes-hold : (n at end : ℕ) (before : List ℕ) → length before ≡ 16
-      → judge_palettes n file at ≡ accepted end
+      → judge_palettes n file at ≡ Ok end
       → HoldsPalettes n before (drop at file) (drop end file) (palettes n file at before)
   unfolding judge_palettes palettes words_at
   palettes-hold zero at end before all e =

@@ -1,22 +1,22 @@
 -- Laws of the palettes of a colour map: judged and written, one after the other.
+use Rattle.std.specs.Prelude.{Ok, Err}
 use mathlib.Core.Path.{◌≡◌, refl, sym, ap, ◌∙◌, subst}
 use mathlib.Core.Bool.{Bool, true, false, cond}
 use mathlib.Core.List.{List, [], ◌++◌}
 use Prim.Native.Nat.{ℕ, zero, suc, ◌+◌, ◌-◌, ◌*◌, ◌≤◌, ◌<◌}
 use native.Mathlib.Omega.{arith}
-use lib.ListN.{length, get_or, take, drop, length-append, length-drop}
+use lib.ListN.{length, get_or, take, drop, length-append}
 use lib.Seq.{length-take-le}
 use lib.Dec.{ltb, eqb}
 use borrow.Rule.Slice.PartMut.{put_mid}
-use borrow.Author.Tests.{ltb-true, ltb-false, lt-ltb, le-ltb, eq-eqb, ne_eqb, eqb-true, eqb-false}
+use borrow.Author.Tests.{ltb-false, lt-ltb, le-ltb, eq-eqb, ne_eqb, eqb-true, eqb-false}
 use Rattle.lists.specs.Over.{over}
 use Rattle.lists.specs.Sum.{sum}
 use Rattle.lists.specs.Tabulate.{tabulate}
 use Rattle.lists.proofs.Over.{get_or-over-past}
-use Rattle.lists.proofs.Parts.{tail-part}
-use Rattle.lists.proofs.Pieces.{PartlyWritten, piece-fits, writing_more}
+use Rattle.lists.proofs.Pieces.{PartlyWritten, writing_more}
 use Rattle.lists.proofs.Tabulate.{length-tabulate, tabulate-ext, tabulate-get_or}
-use Rattle.outcome.specs.Outcome.{Outcome, accepted, refused, refusal, refuse, refuse_at_if, bind}
+use Rattle.outcome.specs.Outcome.{Outcome, refusal, refuse, refuse_at_if, bind}
 use Rattle.outcome.specs.Refusal.{input_ends, bit15_set}
 use Rattle.outcome.proofs.Outcome.{passed}
 use Rattle.words.specs.Word.{word_at}
@@ -24,18 +24,10 @@ use Rattle.spectrum_colour_map.specs.Vector.{bit, named_below}
 use Rattle.spectrum_colour_map.specs.Palettes.{palette_end, entry, palette, judge_palette, palettes, judge_palettes}
 use Rattle.spectrum_colour_map.proofs.Vector.{no-bit, named-among}
 
--- a length compared with a sum, by the difference
-pub ltb-difference : (len at n : ℕ) → at ≤ len → ltb (len - at) n ≡ ltb len (at + n)
-ltb-difference len at n h = go (ltb (len - at) n) refl
-  where
-    go : (b : Bool) → ltb (len - at) n ≡ b → ltb (len - at) n ≡ ltb len (at + n)
-    go true e = e ∙ sym (lt-ltb len (at + n) (omega (arith, ltb-true (len - at) n e)))
-    go false e = e ∙ sym (le-ltb len (at + n) (omega (arith, ltb-false (len - at) n e)))
-
 -- ---- a palette judged
 
 module _ (file : List ℕ) (at : ℕ) where
-  pub vector-cut : length file < at + 2 → judge_palette file at ≡ refused (refusal input_ends at)
+  pub vector-cut : length file < at + 2 → judge_palette file at ≡ Err (refusal input_ends at)
   unfolding judge_palette
   vector-cut h = rw (lt-ltb (length file) (at + 2) h)
 
@@ -45,7 +37,7 @@ module _ (file : List ℕ) (at : ℕ) where
     vector-wrong b = rw (le-ltb (length file) (at + 2) has, eq-eqb (bit (word_at file at) 15) 1 b)
 
     module _ (right : bit (word_at file at) 15 ≡ 1 → ⊥) where
-      pub words-cut : length file < palette_end file at → judge_palette file at ≡ refused (refusal input_ends at)
+      pub words-cut : length file < palette_end file at → judge_palette file at ≡ Err (refusal input_ends at)
       unfolding judge_palette
       words-cut h =
           rw (
@@ -54,7 +46,7 @@ module _ (file : List ℕ) (at : ℕ) where
             lt-ltb (length file) (palette_end file at) h,
           )
 
-      pub palette-whole : palette_end file at ≤ length file → judge_palette file at ≡ accepted (palette_end file at)
+      pub palette-whole : palette_end file at ≤ length file → judge_palette file at ≡ Ok (palette_end file at)
       unfolding judge_palette
       palette-whole h =
           rw (
@@ -69,7 +61,7 @@ pub record WholeAt (file : List ℕ) (at next : ℕ) : Type 0 where
   pub ends : next ≡ palette_end file at
   pub has : next ≤ length file
 
-pub whole_here : (file : List ℕ) (at next : ℕ) → judge_palette file at ≡ accepted next → WholeAt file at next
+pub whole_here : (file : List ℕ) (at next : ℕ) → judge_palette file at ≡ Ok next → WholeAt file at next
 unfolding judge_palette
 whole_here file at next e =
     let a = passed-at (ltb (length file) (at + 2)) input_ends at _ next e in
@@ -83,14 +75,14 @@ whole_here file at next e =
     }
   where
     passed-at : (t : Bool) (number place : ℕ) (further : Outcome ℕ) (end : ℕ)
-        → refuse_at_if t number place further ≡ accepted end → (t ≡ false) × (further ≡ accepted end)
+        → refuse_at_if t number place further ≡ Ok end → (t ≡ false) × (further ≡ Ok end)
     passed-at true number place further end e = let z : ◌≡◌ {A = ℕ} 0 1 = cc in absurd (omega arith)
     passed-at false number place further end e = (refl, e)
 
 -- ---- palettes judged one after the other
 
 module _ (file : List ℕ) where
-  pub judge-none : (n at : ℕ) → n ≡ 0 → judge_palettes n file at ≡ accepted at
+  pub judge-none : (n at : ℕ) → n ≡ 0 → judge_palettes n file at ≡ Ok at
   unfolding judge_palettes
   judge-none n at e = rw e
 
@@ -103,18 +95,18 @@ module _ (file : List ℕ) where
   -- the first of palettes that are accepted
   pub record FirstAt (n at end : ℕ) : Type 0 where
     pub whole : WholeAt file at (palette_end file at)
-    pub rest : judge_palettes (n - 1) file (palette_end file at) ≡ accepted end
+    pub rest : judge_palettes (n - 1) file (palette_end file at) ≡ Ok end
 
-  pub first-whole : (n at end : ℕ) → 0 < n → judge_palettes n file at ≡ accepted end → FirstAt n at end
+  pub first-whole : (n at end : ℕ) → 0 < n → judge_palettes n file at ≡ Ok end → FirstAt n at end
   first-whole n at end h e = go (judge_palette file at) refl
     where
       go : (o : Outcome ℕ) → judge_palette file at ≡ o → FirstAt n at end
-      go (accepted next) is =
+      go (Ok next) is =
           let w = whole_here file at next is in
-          let rest : judge_palettes (n - 1) file next ≡ accepted end = sym (judge-one n at h ∙ rw is) ∙ e in
+          let rest : judge_palettes (n - 1) file next ≡ Ok end = sym (judge-one n at h ∙ rw is) ∙ e in
           record { whole = rw w.ends at w; rest = rw w.ends at rest }
-      go (refused why) is =
-          let r : refused why ≡ accepted end = sym (judge-one n at h ∙ rw is) ∙ e in
+      go (Err why) is =
+          let r : Err why ≡ Ok end = sym (judge-one n at h ∙ rw is) ∙ e in
           let z : ◌≡◌ {A = ℕ} 0 1 = cc in
           absurd (omega arith)
 
@@ -199,13 +191,6 @@ module _ (file : List ℕ) where
 
     begun : PartlyWritten whole (palette file from last ++ rest) out₀ out to
     begun = subst (λ (l : List ℕ). PartlyWritten whole l out₀ out to) (palettes-one left from last more) w
-
-    pub palette-fits : 16 ≤ length (take (length out - to) (drop to out))
-    palette-fits =
-        omega (arith, piece-fits (palette file from last) rest fits begun, length-palette file from last)
-
-    pub palette-room : to + 16 ≤ length out
-    palette-room = omega (arith, palette-fits, ap length (tail-part out to), length-drop to out, w.room)
 
     pub palettes-turn : (next : ℕ) (new part : List ℕ) → next ≡ palette_end file from → new ≡ palette file from last
         → part ≡ over (palette file from last) (take (length out - to) (drop to out))

@@ -1,4 +1,5 @@
 -- Palettes are refused exactly as the relation `StopsPalettes` says.
+use Rattle.std.specs.Prelude.{Ok, Err}
 use mathlib.Core.Path.{◌≡◌, refl, sym, ap, ◌∙◌, subst}
 use mathlib.Core.Logic.{◌⊎◌, inl, inr}
 use mathlib.Core.Bool.{Bool, true, false, cond}
@@ -11,7 +12,7 @@ use lib.Dec.{ltb, eqb}
 use Rattle.lists.specs.Bytes.{Bytes}
 use Rattle.lists.proofs.Tabulate.{length-tabulate}
 use Rattle.outcome.specs.declared.Refusal.{Refusal}
-use Rattle.outcome.specs.Outcome.{Outcome, accepted, refused, refusal, refuse_at_if, bind}
+use Rattle.outcome.specs.Outcome.{Outcome, refusal, refuse_at_if, bind}
 use Rattle.outcome.specs.Refusal.{bit15_set}
 use Rattle.words.specs.Word.{word_at, words_at, word_bytes}
 use Rattle.words.proofs.Word.{word_at-lt, word-restored}
@@ -31,11 +32,11 @@ refusal_at number place = refusal number (cond (eqb number bit15_set) 0 place)
 -- ---- the first palette decides where it is refused, and else the others
 
 module _ (file : List ℕ) (n at : ℕ) where
-  first-refused : (why : Refusal) → judge_palette file at ≡ refused why → judge_palettes (suc n) file at ≡ refused why
+  first-refused : (why : Refusal) → judge_palette file at ≡ Err why → judge_palettes (suc n) file at ≡ Err why
   unfolding judge_palettes
   first-refused why e = rw e
 
-  first-accepted : (next : ℕ) → judge_palette file at ≡ accepted next
+  first-accepted : (next : ℕ) → judge_palette file at ≡ Ok next
       → judge_palettes (suc n) file at ≡ judge_palettes n file next
   unfolding judge_palettes
   first-accepted next e = rw e
@@ -46,7 +47,7 @@ module _ (file : List ℕ) (n at : ℕ) where
 pub record HaltsAt (file : List ℕ) (at n number : ℕ) (rest : List ℕ) : Type 0 where
   pub place : ℕ
   pub stands : Stands file place rest
-  pub judged : judge_palettes n file at ≡ refused (refusal_at number place)
+  pub judged : judge_palettes n file at ≡ Err (refusal_at number place)
 
 module _ (file : List ℕ) where
   -- how many bytes stand at an offset
@@ -93,10 +94,10 @@ pub record StoppedAt (file : List ℕ) (at n : ℕ) (why : Refusal) : Type 0 whe
 module _ (file : List ℕ) (bytes : Bytes file) where
   -- at the first palette
   stopped-here : (n at number : ℕ) (why : Refusal) → at ≤ length file
-      → judge_palette file at ≡ refused (refusal_at number at) → judge_palettes (suc n) file at ≡ refused why
+      → judge_palette file at ≡ Err (refusal_at number at) → judge_palettes (suc n) file at ≡ Err why
       → StopsPalettes (suc n) (drop at file) number (drop at file) → StoppedAt file at (suc n) why
   stopped-here n at number why h fault e stops =
-      let same : refused (refusal_at number at) ≡ refused why = sym (first-refused file n at _ fault) ∙ e in
+      let same : Err (refusal_at number at) ≡ Err why = sym (first-refused file n at _ fault) ∙ e in
       record { number = number; place = at; inside = h; is = cc; stops = stops }
 
   -- at a later one
@@ -115,8 +116,8 @@ module _ (file : List ℕ) (bytes : Bytes file) where
             (after_palette v (words_at (named v) file (at + 2)) small (length-tabulate (named v) _) t.stops);
       }
 
-  stopped-at : (n at : ℕ) (why : Refusal) → at ≤ length file → judge_palettes (suc n) file at ≡ refused why
-      → ((next : ℕ) → next ≤ length file → judge_palettes n file next ≡ refused why → StoppedAt file next n why)
+  stopped-at : (n at : ℕ) (why : Refusal) → at ≤ length file → judge_palettes (suc n) file at ≡ Err why
+      → ((next : ℕ) → next ≤ length file → judge_palettes n file next ≡ Err why → StoppedAt file next n why)
       → Dec (length file < at + 2) → Dec (word_at file at < 2 ^ 15) → Dec (length file < palette_end file at)
       → StoppedAt file at (suc n) why
   unfolding palette_end
@@ -141,7 +142,7 @@ module _ (file : List ℕ) (bytes : Bytes file) where
       let whole = palette-whole file at (omega arith) (below-clear (word_at file at) small) has in
       stopped-later n at why small has (later (palette_end file at) has (sym (first-accepted file n at _ whole) ∙ e))
 
-  pub palettes-stop : (n at : ℕ) (why : Refusal) → at ≤ length file → judge_palettes n file at ≡ refused why
+  pub palettes-stop : (n at : ℕ) (why : Refusal) → at ≤ length file → judge_palettes n file at ≡ Err why
       → StoppedAt file at n why
   unfolding judge_palettes
   palettes-stop zero at why h e = let z : ◌≡◌ {A = ℕ} 0 1 = cc in absurd (omega arith)
@@ -163,8 +164,8 @@ stops-number (after_palette v words small many further) = stops-number further
 
 -- the same of the function, at every offset
 abbrev Numbered : Outcome ℕ → Type 0
-Numbered (accepted end) = Unit {0}
-Numbered (refused why) = PaletteNumber why.number
+Numbered (Ok end) = Unit {0}
+Numbered (Err why) = PaletteNumber why.number
 
 numbered-if : (t : Bool) (number place : ℕ) (further : Outcome ℕ) → PaletteNumber number → Numbered further
     → Numbered (refuse_at_if t number place further)
@@ -177,7 +178,7 @@ module _ (file : List ℕ) where
   palette-numbered at =
       numbered-if (ltb (length file) (at + 2)) 6 at _ (inl refl)
       (numbered-if (eqb (bit (word_at file at) 15) 1) 15 0 _ (inr refl)
-      (numbered-if (ltb (length file) (palette_end file at)) 6 at (accepted (palette_end file at)) (inl refl) tt))
+      (numbered-if (ltb (length file) (palette_end file at)) 6 at (Ok (palette_end file at)) (inl refl) tt))
 
   palettes-numbered : (n at : ℕ) → Numbered (judge_palettes n file at)
   unfolding judge_palettes
@@ -187,9 +188,9 @@ module _ (file : List ℕ) where
     where
       go : (o : Outcome ℕ) → Numbered o → ((next : ℕ) → Numbered (judge_palettes n file next))
           → Numbered (bind o (λ next. judge_palettes n file next))
-      go (accepted next) m later = later next
-      go (refused why) m later = m
+      go (Ok next) m later = later next
+      go (Err why) m later = m
 
-  pub palettes-number : (n at : ℕ) (why : Refusal) → judge_palettes n file at ≡ refused why
+  pub palettes-number : (n at : ℕ) (why : Refusal) → judge_palettes n file at ≡ Err why
       → PaletteNumber why.number
   palettes-number n at why e = subst Numbered e (palettes-numbered n at)

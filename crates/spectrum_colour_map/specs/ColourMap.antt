@@ -1,7 +1,7 @@
 -- The colour map of an SPC file, read whole (document 02, ticket 5).
-use Rattle.std.specs.Prelude.{ℕ, List, length, replicate, ltb}
+use Rattle.std.specs.Prelude.{ℕ, List, length, replicate, ltb, Ok}
 use Rattle.lists.specs.Over.{over}
-use Rattle.outcome.specs.Outcome.{Outcome, accepted, refuse_if, map, bind, later}
+use Rattle.outcome.specs.Outcome.{Outcome, refuse_if, map, bind, later}
 use Rattle.outcome.specs.Refusal.{area_too_short, size_mismatch}
 use Rattle.spectrum_colour_map.specs.Vector.{entries}
 use Rattle.spectrum_colour_map.specs.Palettes.{palettes, judge_palettes}
@@ -23,7 +23,7 @@ unfoldable pub judge_map : List ℕ → ℕ → Outcome ℕ
 judge_map file at =
     bind (judge_palettes palette_count file at) (λ end.
     refuse_if (ltb end (length file)) size_mismatch
-    (accepted end))
+    (Ok end))
 
 -- the colour map from an offset of a file to its end, into an area of `area` words: the words of its palettes
 unfoldable pub read_map : List ℕ → ℕ → ℕ → Outcome (List ℕ)

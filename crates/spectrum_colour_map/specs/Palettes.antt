@@ -1,9 +1,9 @@
 -- The palettes of a colour map, one after the other (document 02, ticket 5). Offsets count from the file's start, and
 -- the file's end is the map's.
-use Rattle.std.specs.Prelude.{ℕ, zero, suc, ◌+◌, ◌*◌, ◌≡◌, cond, List, [], ◌++◌, length, get_or, ltb, eqb}
+use Rattle.std.specs.Prelude.{ℕ, zero, suc, ◌+◌, ◌*◌, ◌≡◌, cond, List, [], ◌++◌, length, get_or, ltb, eqb, Ok}
 use Rattle.lists.specs.Over.{over}
 use Rattle.lists.specs.Tabulate.{tabulate}
-use Rattle.outcome.specs.Outcome.{Outcome, accepted, refuse_if, refuse_at_if, bind}
+use Rattle.outcome.specs.Outcome.{Outcome, refuse_if, refuse_at_if, bind}
 use Rattle.outcome.specs.Refusal.{input_ends, bit15_set}
 use Rattle.words.specs.Word.{word_at}
 use Rattle.spectrum_colour_map.specs.Vector.{entries, bit, named_below, named}
@@ -46,7 +46,7 @@ module _ (file : List ℕ) (at : ℕ) where
       refuse_at_if (ltb (length file) words_from) input_ends at
       (refuse_if (eqb (bit vector_at unused_entry) 1) bit15_set
       (refuse_at_if (ltb (length file) palette_end) input_ends at
-      (accepted palette_end)))
+      (Ok palette_end)))
 
 -- n palettes from an offset on, after a palette before them
 unfoldable pub palettes : ℕ → List ℕ → ℕ → List ℕ → List ℕ
@@ -56,7 +56,7 @@ palettes (suc n) file at before =
 
 -- judged: where the last one ends
 unfoldable pub judge_palettes : ℕ → List ℕ → ℕ → Outcome ℕ
-judge_palettes zero file at = accepted at
+judge_palettes zero file at = Ok at
 judge_palettes (suc n) file at = bind (judge_palette file at) (λ next. judge_palettes n file next)
 
 -- what writing a palette promises: `next` is where it ends, `last` is the palette, and `after` is the output with the

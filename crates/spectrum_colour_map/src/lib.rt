@@ -1,18 +1,16 @@
 // The colour map of an SPC file read (document 02, ticket 5; sources 000 and 001). Definitions: specs/.
 #![tactic(auto)]
 
-ghost use Rattle.std.specs.Prelude.{◌≡◌, ℕ, ◌+◌, ◌*◌, ◌≤◌, ◌<◌, cond, length, ltb, eqb};
+ghost use Rattle.std.specs.Prelude.{◌≡◌, ℕ, ◌+◌, ◌*◌, ◌≤◌, ◌<◌, cond, length, ltb, eqb, Ok};
 ghost use Rattle.lists.specs.Over.{over};
-ghost use Rattle.outcome.specs.Outcome.{accepted, refusal_of};
-ghost use Rattle.filling.specs.Ended.{ended};
+ghost use Rattle.outcome.specs.Outcome.{void};
 ghost use Rattle.words.specs.Word.{word_at};
 ghost use Rattle.spectrum_colour_map.specs.Vector.{bit, named};
 ghost use Rattle.spectrum_colour_map.specs.Palettes.{palette_end, palettes, judge_palette, judge_palettes};
 ghost use Rattle.spectrum_colour_map.specs.Palettes.{PaletteWritten};
 ghost use Rattle.spectrum_colour_map.specs.ColourMap.{no_palette, judge_map, read_map, map_area};
 
-use filling::Ended;
-use outcome::{AREA_TOO_SHORT, BIT_15_SET, INPUT_ENDS, Refusal, SIZE_MISMATCH};
+use outcome::{Reason, Refusal};
 
 // The entries of a palette.
 const ENTRIES: usize = 16;
@@ -34,6 +32,7 @@ const UNUSED_ENTRY: usize = 15;
 // ---- a palette judged
 
 // The word at an offset inside a file.
+#[tactic(auto, unfolding(words::specs::Word::word_at))]
 fn word_inside(file: &[u8], at: usize) -> u16
     requires { at + 2 ≤ length file.now }
     ensures { result ≡ word_at file.now at }
@@ -42,6 +41,7 @@ fn word_inside(file: &[u8], at: usize) -> u16
 }
 
 // Whether a vector names an entry: its bit, 0 or 1.
+#[tactic(auto, unfolding(crate::specs::Vector::bit))]
 fn bit(vector: u16, i: usize) -> usize
     requires { i < 16 }
     ensures { (result ≡ bit vector i) × (result < 2) }
@@ -60,59 +60,47 @@ fn named(vector: u16) -> usize
 fn lacks(len: usize, at: usize, n: usize) -> bool
     ensures { result ≡ ltb len (at + n) }
 {
-    if len < at {
-        return true;
-    }
-    len - at < n
+    len < at || len - at < n
 }
 
 // Judges the palette whose vector stands at an offset: where it ends.
-fn judge_palette(file: &[u8], at: usize) -> Ended
-    ensures { result ≡ ended (judge_palette file.now at) }
+fn judge_palette(file: &[u8], at: usize) -> Result<usize, Refusal>
+    ensures { result ≡ judge_palette file.now at }
 {
     if lacks(file.len(), at, VECTOR_BYTES) {
-        return Ended::Refused(outcome::refuse_at(INPUT_ENDS, at));
+        return Err(outcome::refuse_at(Reason::InputEnds, at));
     }
     let vector = word_inside(file, at);
     if bit(vector, UNUSED_ENTRY) == 1 {
-        return Ended::Refused(outcome::refuse(BIT_15_SET));
+        return Err(outcome::refuse(Reason::Bit15Set));
     }
     let bytes = VECTOR_BYTES + named(vector) * WORD_BYTES;
     if lacks(file.len(), at, bytes) {
-        return Ended::Refused(outcome::refuse_at(INPUT_ENDS, at));
+        return Err(outcome::refuse_at(Reason::InputEnds, at));
     }
-    Ended::At(at + bytes)
+    Ok(at + bytes)
 }
 
 // Judges n palettes, one after the other: where the last one ends.
-fn judge_palettes(file: &[u8], at: usize, n: usize) -> Ended
-    ensures { result ≡ ended (judge_palettes n file.now at) }
+fn judge_palettes(file: &[u8], at: usize, n: usize) -> Result<usize, Refusal>
+    ensures { result ≡ judge_palettes n file.now at }
 {
     let mut from = at;
-    let mut left = n;
-    while 0 < left {
-        let one = judge_palette(file, from);
-        let Ended::At(next) = one else {
-            return one;
-        };
-        from = next;
-        left -= 1;
+    for _ in 0..n {
+        from = judge_palette(file, from)?;
     }
-    Ended::At(from)
+    Ok(from)
 }
 
 // Judges all palettes, and that no byte is left behind the last one.
-fn judge_map(file: &[u8], at: usize) -> Ended
-    ensures { result ≡ ended (judge_map file.now at) }
+fn judge_map(file: &[u8], at: usize) -> Result<usize, Refusal>
+    ensures { result ≡ judge_map file.now at }
 {
-    let all = judge_palettes(file, at, PALETTE_COUNT);
-    let Ended::At(end) = all else {
-        return all;
-    };
+    let end = judge_palettes(file, at, PALETTE_COUNT)?;
     if end < file.len() {
-        return Ended::Refused(outcome::refuse(SIZE_MISMATCH));
+        return Err(outcome::refuse(Reason::SizeMismatch));
     }
-    all
+    Ok(end)
 }
 
 // ---- palettes written
@@ -125,47 +113,38 @@ fn chosen(set: usize, word: u16, before: u16) -> u16
 }
 
 // Writes the words of a palette over the front of an output.
-fn put_words(palette: &[u16], out: &mut [u16])
-    requires palette_len { length palette.now ≡ 16 }
+fn put_words(palette: &[u16; 16], out: &mut [u16])
     requires in_bounds { 16 ≤ length out.old }
     ensures { out.new ≡ over palette.now out.old }
 {
-    let mut i: usize = 0;
-    while i < ENTRIES {
-        out[i] = palette[i];
-        i += 1;
-    }
+    out[..ENTRIES].copy_from_slice(palette);
 }
 
 // Writes the entries of the whole palette whose vector stands at an offset over the palette before it, and over the
 // front of an output: where it ends. For each entry, named or not, the last word that is named so far is read: it is
 // always inside the palette, so that no entry needs a branch.
-fn put_entries(file: &[u8], at: usize, last: &mut [u16], out: &mut [u16]) -> usize
+fn put_entries(file: &[u8], at: usize, last: &mut [u16; 16], out: &mut [u16]) -> usize
     requires at_in_bounds { palette_end file.now at ≤ length file.now }
-    requires last_len { length last.old ≡ 16 }
     requires in_bounds { 16 ≤ length out.old }
     ensures { PaletteWritten file.now at last.old out.old result last.new
         out.new }
 {
     let vector = word_inside(file, at);
     let mut from = at;
-    let mut i: usize = 0;
-    while i < ENTRIES {
+    for i in 0..ENTRIES {
         let set = bit(vector, i);
         from += set * WORD_BYTES;
         let word = chosen(set, word_inside(file, from), last[i]);
         last[i] = word;
         out[i] = word;
-        i += 1;
     }
     from + WORD_BYTES
 }
 
 // Writes the whole palette whose vector stands at an offset over the palette before it, and over the front of an
 // output: where it ends. One that names no entry is the palette before.
-fn put_palette(file: &[u8], at: usize, last: &mut [u16], out: &mut [u16]) -> usize
+fn put_palette(file: &[u8], at: usize, last: &mut [u16; 16], out: &mut [u16]) -> usize
     requires at_in_bounds { palette_end file.now at ≤ length file.now }
-    requires last_len { length last.old ≡ 16 }
     requires in_bounds { 16 ≤ length out.old }
     ensures { PaletteWritten file.now at last.old out.old result last.new
         out.new }
@@ -179,18 +158,14 @@ fn put_palette(file: &[u8], at: usize, last: &mut [u16], out: &mut [u16]) -> usi
 
 // Writes n palettes that are judged, one after the other, over the front of an output.
 fn put_palettes(file: &[u8], at: usize, n: usize, out: &mut [u16])
-    requires by_index { (end : ℕ) × (judge_palettes n file.now at ≡ accepted end) }
+    requires by_index { (end : ℕ) × (judge_palettes n file.now at ≡ Ok end) }
     requires n_in_bounds { n * 16 ≤ length out.old }
     ensures { out.new ≡ over (palettes n file.now at no_palette) out.old }
 {
     let mut last = [0u16; 16];
     let mut from = at;
-    let mut to: usize = 0;
-    let mut left = n;
-    while 0 < left {
-        from = put_palette(file, from, &mut last, &mut out[to..]);
-        to += ENTRIES;
-        left -= 1;
+    for k in 0..n {
+        from = put_palette(file, from, &mut last, &mut out[k * ENTRIES..]);
     }
 }
 
@@ -198,18 +173,15 @@ fn put_palettes(file: &[u8], at: usize, n: usize, out: &mut [u16])
 
 // Reads the colour map from an offset of a file to its end, into the first 9,552 words of an area. All is judged before
 // the first word is written.
-pub fn read_map(file: &[u8], at: usize, area: &mut [u16]) -> Refusal
-    ensures answer { result ≡ refusal_of (read_map file.now at (length area.old)) }
+pub fn read_map(file: &[u8], at: usize, area: &mut [u16]) -> Result<(), Refusal>
+    ensures answer { result ≡ void (read_map file.now at (length area.old)) }
     ensures area { area.new
         ≡ map_area (read_map file.now at (length area.old)) area.old }
 {
     if area.len() < PALETTE_WORDS {
-        return outcome::refuse(AREA_TOO_SHORT);
+        return Err(outcome::refuse(Reason::AreaTooShort));
     }
-    let all = judge_map(file, at);
-    if let Ended::Refused(why) = all {
-        return why;
-    }
+    judge_map(file, at)?;
     put_palettes(file, at, PALETTE_COUNT, area);
-    outcome::none()
+    Ok(())
 }

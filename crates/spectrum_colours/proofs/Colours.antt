@@ -1,21 +1,23 @@
 -- Laws of colour words: what the tests show, a pixel's register and the place of its word, a scan line's words, and
 -- that line and pixel agree.
-use mathlib.Core.Path.{◌≡◌, refl, ap}
+use Rattle.std.specs.Prelude.{Ok}
+use mathlib.Core.Path.{◌≡◌, refl, ap, ◌∙◌}
 use mathlib.Core.Bool.{Bool, true, false, ◌||◌}
 use mathlib.Core.List.{List}
 use Prim.Native.Nat.{ℕ, ◌+◌, ◌-◌, ◌*◌, ◌/◌, ◌%◌, ◌≤◌, ◌<◌}
 use native.Mathlib.Nat.{add-zero}
 use native.Mathlib.Omega.{arith}
 use lib.Dec.{ltb, leb, eqb}
-use lib.ListN.{length, get_or}
+use lib.ListN.{length, get_or, take}
+use lib.Seq.{length-take-le}
 use borrow.Author.Tests.{ltb-false, leb-false, eqb-false, le-ltb, lt-leb}
 use Rattle.lists.specs.Over.{over}
 use Rattle.lists.specs.Sum.{sum}
 use Rattle.lists.specs.Tabulate.{tabulate}
 use Rattle.lists.proofs.Cond.{or-false}
-use Rattle.lists.proofs.Over.{over-whole}
-use Rattle.lists.proofs.Tabulate.{get_or-tabulate, tabulate-ext, tabulate-all}
-use Rattle.outcome.specs.Outcome.{accepted, refuse_if, map, later}
+use Rattle.lists.proofs.Over.{over-whole, get_or-over-past}
+use Rattle.lists.proofs.Tabulate.{length-tabulate, get_or-tabulate, tabulate-ext, tabulate-all}
+use Rattle.outcome.specs.Outcome.{refuse_if, map, later}
 use Rattle.outcome.specs.Refusal.{area_too_short, out_of_range}
 use Rattle.outcome.proofs.Outcome.{passed}
 use Rattle.words.specs.Word.{word_at}
@@ -25,7 +27,7 @@ use Rattle.resolution.specs.Shapes.{screen_bytes, width_of, height_of}
 use Rattle.lines.specs.Lines.{line_out}
 use Rattle.lines.specs.Registers.{pixel_bit, register, scan_line}
 use Rattle.lines.proofs.Registers.{register-lt, length-scan_line, get_or-scan_line}
-use Rattle.spectrum_positions.specs.Positions.{columns, registers, position_of}
+use Rattle.spectrum_positions.specs.Positions.{columns, position_of}
 use Rattle.spectrum_positions.proofs.Positions.{position-below}
 use Rattle.spectrum_colour_map.specs.ColourMap.{palette_words}
 use Rattle.spectrum_colours.specs.Colours.{line_words, shown_word, without_palette, pixel_word, line_of_words}
@@ -78,21 +80,22 @@ module _ (screen : List ℕ) (y : ℕ) where
       )
       (over-whole (scan_line screen Low y) d (omega (arith, length-scan_line screen Low y)))
 
-  pub registers-below : (x : ℕ) → get_or (scan_line screen Low y) x 0 < registers
-  unfolding scan_line
-  registers-below =
-      tabulate-all (λ r. r < registers) (width_of Low) (λ x. register screen Low x y) 0 (omega arith)
-      (λ x. register-lt screen Low x y)
-
   -- the position of a pixel
   abbrev shown_at : ℕ → ℕ
   shown_at x = position_of x (register screen Low x y)
 
-  pub registers-positions : tabulate columns (λ x. position_of x (get_or (scan_line screen Low y) x 0))
-      ≡ tabulate columns shown_at
-  registers-positions =
-      tabulate-ext columns (λ x. position_of x (get_or (scan_line screen Low y) x 0)) shown_at
-      (λ x h. ap (position_of x) (get_or-scan_line screen Low x y h))
+  -- in the place of a register its position: the first x are written
+  pub position-written : (positions : List ℕ) (x p : ℕ) → x < columns
+      → positions ≡ over (take x (tabulate columns shown_at)) (scan_line screen Low y)
+      → p ≡ position_of x (get_or positions x 0) → p ≡ shown_at x
+  position-written positions x p h is e =
+      let front : List ℕ = take x (tabulate columns shown_at) in
+      let size : length front ≡ x =
+      length-take-le x (tabulate columns shown_at) (omega (arith, length-tabulate columns shown_at)) in
+      e ∙ ap (position_of x)
+      (ap (λ (d : List ℕ). get_or d x 0) is
+      ∙ get_or-over-past front (scan_line screen Low y) x 0 (omega arith)
+      ∙ get_or-scan_line screen Low x y h)
 
   pub positions-below : (x : ℕ) → get_or (tabulate columns shown_at) x 0 < line_words
   positions-below =
@@ -127,15 +130,15 @@ line-pixel screen palettes x y room h k =
 
     go : (areas line : Bool)
         → map (λ words. get_or words x 0)
-        (refuse_if areas area_too_short (refuse_if line out_of_range (accepted (tabulate columns shown))))
-        ≡ refuse_if areas area_too_short (refuse_if line out_of_range (accepted (shown x)))
+        (refuse_if areas area_too_short (refuse_if line out_of_range (Ok (tabulate columns shown))))
+        ≡ refuse_if areas area_too_short (refuse_if line out_of_range (Ok (shown x)))
     go true line = refl
     go false true = refl
-    go false false = ap accepted (get_or-tabulate columns shown x 0 h)
+    go false false = ap Ok (get_or-tabulate columns shown x 0 h)
 
 -- of an accepted question the place of the word is below 9,552, and the palettes have so many words: none is read past
 -- their end
-pub accepted-within : (screen palettes : List ℕ) (x y word : ℕ) → pixel_word screen palettes x y ≡ accepted word
+pub accepted-within : (screen palettes : List ℕ) (x y word : ℕ) → pixel_word screen palettes x y ≡ Ok word
     → (line_words * (y - 1) + position_of x (register screen Low x y) < palette_words) × (palette_words ≤ length palettes)
 unfolding pixel_word
 accepted-within screen palettes x y word e =

@@ -1,8 +1,8 @@
 -- The colour words of a Spectrum 512 picture, from the areas that reading fills: of a pixel, and of a scan line
 -- (document 02, ticket 5; sources 000 and 001).
-use Rattle.std.specs.Prelude.{ℕ, ◌+◌, ◌-◌, ◌*◌, Bool, ◌||◌, List, length, get_or, ltb, leb, eqb}
+use Rattle.std.specs.Prelude.{ℕ, ◌+◌, ◌-◌, ◌*◌, Bool, ◌||◌, List, length, get_or, ltb, leb, eqb, Ok, Err}
 use Rattle.lists.specs.Tabulate.{tabulate}
-use Rattle.outcome.specs.Outcome.{Outcome, accepted, refused, none, refuse_if}
+use Rattle.outcome.specs.Outcome.{Outcome, none, refuse_if}
 use Rattle.outcome.specs.Refusal.{area_too_short, out_of_range}
 use Rattle.resolution.specs.declared.Resolution.TheVariants.{Low}
 use Rattle.resolution.specs.Shapes.{screen_bytes, height_of}
@@ -34,12 +34,12 @@ unfoldable pub pixel_word : List ℕ → List ℕ → ℕ → ℕ → Outcome �
 pixel_word screen palettes x y =
     judge_areas screen palettes
     (refuse_if (leb columns x || without_palette y) out_of_range
-    (accepted (shown_word screen palettes x y)))
+    (Ok (shown_word screen palettes x y)))
 
 -- a refusal gives 0 in all else
 abbrev pub word_answer : Outcome ℕ → ColourWordAnswer
-word_answer (accepted w) = record { refusal = none; word = w }
-word_answer (refused why) = record { refusal = why; word = 0 }
+word_answer (Ok w) = record { refusal = none; word = w }
+word_answer (Err why) = record { refusal = why; word = 0 }
 
 -- of a scan line from the left, into an output of `room` words
 unfoldable pub line_of_words : List ℕ → List ℕ → ℕ → ℕ → Outcome (List ℕ)
@@ -47,4 +47,4 @@ line_of_words screen palettes y room =
     judge_areas screen palettes
     (refuse_if (without_palette y) out_of_range
     (refuse_if (ltb room columns) area_too_short
-    (accepted (tabulate columns (λ x. shown_word screen palettes x y)))))
+    (Ok (tabulate columns (λ x. shown_word screen palettes x y)))))

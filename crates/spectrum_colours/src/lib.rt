@@ -5,17 +5,17 @@
 ghost use Rattle.std.specs.Prelude.{◌≡◌, ◌||◌, ℕ, ◌+◌, ◌≤◌, ◌<◌, length, get_or, ltb};
 ghost use Rattle.lists.specs.Over.{over};
 ghost use Rattle.lists.specs.Tabulate.{tabulate};
-ghost use Rattle.outcome.specs.Outcome.{accepted, refuse, refusal_of, later};
+ghost use Rattle.outcome.specs.Outcome.{void, later};
 ghost use Rattle.resolution.specs.Shapes.{screen_bytes, height_of};
 ghost use Rattle.resolution.specs.declared.Resolution.TheVariants.{Low};
 ghost use Rattle.lines.specs.Registers.{pixel_bit, register};
-ghost use Rattle.spectrum_positions.specs.Positions.{columns, registers, position_of};
+ghost use Rattle.spectrum_positions.specs.Positions.{columns, position_of};
 ghost use Rattle.spectrum_colour_map.specs.ColourMap.{palette_words};
 ghost use Rattle.spectrum_colours.specs.Colours.{line_words, shown_word, without_palette};
 ghost use Rattle.spectrum_colours.specs.Colours.{pixel_word, word_answer, line_of_words};
 
-use outcome::{AREA_TOO_SHORT, OUT_OF_RANGE, Refusal};
-use resolution::SCREEN_BYTES;
+use outcome::{Reason, Refusal};
+use resolution::{Resolution, SCREEN_BYTES};
 use spectrum_colour_map::PALETTE_WORDS;
 use spectrum_positions::COLUMNS;
 
@@ -25,15 +25,13 @@ pub const LINE_WORDS: usize = 48;
 // The scan lines; line 0 has no palette.
 pub const LINES: usize = 200;
 
-// The number of the low resolution.
-const LOW: u16 = 0;
-
 // The groups of 16 pixels in a scan line, and the bytes of a group: a word for each plane.
 const GROUPS: usize = 20;
 
 const GROUP_BYTES: usize = 8;
 
-// The answer of a colour word question; the word is 0 of a refusal.
+// The answer of a colour word question in C; the word is 0 of a refusal.
+// C's struct: the exported function gives it back.
 #[repr(C)]
 #[derive(Clone, Copy)]
 pub struct ColourWordAnswer {
@@ -41,23 +39,17 @@ pub struct ColourWordAnswer {
     pub word: u16,
 }
 
-// The answer of an accepted question.
-fn word_done(word: u16) -> ColourWordAnswer
-    ensures { result ≡ word_answer (accepted word) }
-{
-    ColourWordAnswer {
-        refusal: outcome::none(),
-        word,
-    }
-}
+impl From<Result<u16, Refusal>> for ColourWordAnswer {
+    ghost from_gives = { λ given answer. answer ≡ word_answer given };
 
-// The answer of a question refused with a number.
-fn word_refused(number: u8) -> ColourWordAnswer
-    ensures { result ≡ word_answer (refuse number) }
-{
-    ColourWordAnswer {
-        refusal: outcome::refuse(number),
-        word: 0,
+    fn from(given: Result<u16, Refusal>) -> ColourWordAnswer {
+        match given {
+            Ok(word) => ColourWordAnswer {
+                refusal: outcome::none(),
+                word,
+            },
+            Err(refusal) => ColourWordAnswer { refusal, word: 0 },
+        }
     }
 }
 
@@ -65,25 +57,20 @@ fn word_refused(number: u8) -> ColourWordAnswer
 fn areas_short(screen_len: usize, palettes_len: usize) -> bool
     ensures { result ≡ ltb screen_len screen_bytes || ltb palettes_len palette_words }
 {
-    if screen_len < SCREEN_BYTES {
-        return true;
-    }
-    palettes_len < PALETTE_WORDS
+    screen_len < SCREEN_BYTES || palettes_len < PALETTE_WORDS
 }
 
 // Whether a scan line has no palette, or is not there.
 fn without_palette(line: usize) -> bool
     ensures { result ≡ without_palette line }
 {
-    if line == 0 {
-        return true;
-    }
-    LINES <= line
+    line == 0 || LINES <= line
 }
 
 // ---- a pixel
 
 // Pixel k of a word of 16.
+#[tactic(auto, unfolding(lines::specs::Registers::pixel_bit))]
 fn pixel_bit(word: u16, k: usize) -> u16
     requires { k < 16 }
     ensures { (result ≡ pixel_bit word k) × (result < 2) }
@@ -106,6 +93,7 @@ fn pixel_register(screen: &[u8], column: usize, line: usize) -> u8
 }
 
 // The word that a pixel shows.
+#[tactic(auto, unfolding(crate::specs::Colours::shown_word))]
 fn shown_word(screen: &[u8], palettes: &[u16], column: usize, line: usize) -> u16
     requires { (column < columns) × (0 < line) × (line < height_of Low) × (palette_words ≤ length palettes.now) }
     ensures { result ≡ shown_word screen.now palettes.now column line }
@@ -116,45 +104,36 @@ fn shown_word(screen: &[u8], palettes: &[u16], column: usize, line: usize) -> u1
 }
 
 // The colour word of a pixel.
-pub fn pixel_word(screen: &[u8], palettes: &[u16], column: usize, line: usize) -> ColourWordAnswer
-    ensures { result ≡ word_answer (pixel_word screen.now palettes.now column line) }
+#[tactic(auto, unfolding(crate::specs::Colours::pixel_word))]
+pub fn pixel_word(
+    screen: &[u8],
+    palettes: &[u16],
+    column: usize,
+    line: usize,
+) -> Result<u16, Refusal>
+    ensures { result ≡ pixel_word screen.now palettes.now column line }
 {
     if areas_short(screen.len(), palettes.len()) {
-        return word_refused(AREA_TOO_SHORT);
+        return Err(outcome::refuse(Reason::AreaTooShort));
     }
-    if COLUMNS <= column {
-        return word_refused(OUT_OF_RANGE);
+    if COLUMNS <= column || without_palette(line) {
+        return Err(outcome::refuse(Reason::OutOfRange));
     }
-    if without_palette(line) {
-        return word_refused(OUT_OF_RANGE);
-    }
-    word_done(shown_word(screen, palettes, column, line))
+    Ok(shown_word(screen, palettes, column, line))
 }
 
 // ---- a scan line
 
-// The positions of a line's pixels from their registers.
-fn fill_positions(positions: &mut [u8; 320], registers: &[u8; 320])
-    requires { (length positions.old ≡ columns) × ((x : ℕ) → get_or registers.now x 0 < 16) }
-    ensures { positions.new
-        ≡ tabulate columns (λ x. position_of x (get_or registers.now x 0)) }
-{
-    let mut x: usize = 0;
-    while x < COLUMNS {
-        positions[x] = spectrum_positions::position_at(x as u16, registers[x]) as u8;
-        x += 1;
-    }
-}
-
-// The positions of a scan line's pixels, from the left.
+// The positions of a scan line's pixels, from the left: its registers, and in the place of each its position.
 fn line_positions(screen: &[u8], line: usize) -> [u8; 320]
     requires { (screen_bytes ≤ length screen.now) × (line < height_of Low) }
     ensures { result ≡ tabulate columns (λ x. position_of x (register screen.now Low x line)) }
 {
-    let mut registers = [0u8; 320];
-    lines::line_out(screen, LOW, line, &mut registers);
     let mut positions = [0u8; 320];
-    fill_positions(&mut positions, &registers);
+    let _ = lines::line_out(screen, Resolution::Low.number(), line, &mut positions);
+    for x in 0..COLUMNS {
+        positions[x] = spectrum_positions::position_at(x as u16, positions[x]) as u8;
+    }
     positions
 }
 
@@ -166,10 +145,8 @@ fn put_words(palettes: &[u16], first: usize, positions: &[u8; 320], out: &mut [u
         ≡ over (tabulate columns (λ x. get_or palettes.now (first + get_or positions.now x 0) 0))
         out.old }
 {
-    let mut x: usize = 0;
-    while x < COLUMNS {
+    for x in 0..COLUMNS {
         out[x] = palettes[first + positions[x] as usize];
-        x += 1;
     }
 }
 
@@ -186,21 +163,27 @@ fn put_line(screen: &[u8], palettes: &[u16], line: usize, out: &mut [u16])
 }
 
 // The colour words of a scan line, from the left, into the first 320 words of out.
-pub fn line_words(screen: &[u8], palettes: &[u16], line: usize, out: &mut [u16]) -> Refusal
-    ensures value { result ≡ refusal_of (line_of_words screen.now palettes.now line
+#[tactic(auto, unfolding(crate::specs::Colours::line_of_words))]
+pub fn line_words(
+    screen: &[u8],
+    palettes: &[u16],
+    line: usize,
+    out: &mut [u16],
+) -> Result<(), Refusal>
+    ensures value { result ≡ void (line_of_words screen.now palettes.now line
         (length out.old)) }
     ensures out_after { out.new ≡ later (line_of_words screen.now palettes.now line
         (length out.old)) (λ words. over words out.old) out.old }
 {
     if areas_short(screen.len(), palettes.len()) {
-        return outcome::refuse(AREA_TOO_SHORT);
+        return Err(outcome::refuse(Reason::AreaTooShort));
     }
     if without_palette(line) {
-        return outcome::refuse(OUT_OF_RANGE);
+        return Err(outcome::refuse(Reason::OutOfRange));
     }
     if out.len() < COLUMNS {
-        return outcome::refuse(AREA_TOO_SHORT);
+        return Err(outcome::refuse(Reason::AreaTooShort));
     }
     put_line(screen, palettes, line, out);
-    outcome::none()
+    Ok(())
 }

@@ -1,20 +1,21 @@
 -- Maps unpacked, computed.
+use Rattle.std.specs.Prelude.{Ok, Err}
 use mathlib.Core.Path.{◌≡◌, refl}
 use mathlib.Core.List.{List, [], ◌∷◌}
 use Prim.Native.Nat.{ℕ}
 use lib.ListN.{replicate}
-use Rattle.outcome.specs.Outcome.{accepted, refused, refusal}
+use Rattle.outcome.specs.Outcome.{refusal}
 use Rattle.filling.specs.Filling.{Filling, fill_within, fill}
 use Rattle.spectrum_data_map.specs.Records.{makes, takes, record_bytes, fault_at}
 use Rattle.spectrum_data_map.specs.DataMap.{record_step, fill_map}
 
 -- all is made, up to this offset
 abbrev full : ℕ → List ℕ → Filling
-full end made = record { made = made; ends = accepted end }
+full end made = record { made = made; ends = Ok end }
 
 -- stopped behind these bytes, with this number at this place
 abbrev halted : ℕ → ℕ → List ℕ → Filling
-halted number place made = record { made = made; ends = refused (refusal number place) }
+halted number place made = record { made = made; ends = Err (refusal number place) }
 
 -- a literal of 1 byte and of 128
 pub literals : (fill_map (0 ∷ 5 ∷ []) 0 1 ≡ full 2 (5 ∷ []))

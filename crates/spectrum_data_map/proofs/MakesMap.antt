@@ -1,4 +1,5 @@
 -- A map is unpacked exactly as the relations say: all is made where `Makes` holds, and it stops where `Stops` does.
+use Rattle.std.specs.Prelude.{Ok, Err}
 use mathlib.Core.Path.{◌≡◌}
 use mathlib.Core.Logic.{◌⊎◌}
 use mathlib.Core.List.{List}
@@ -6,7 +7,7 @@ use Prim.Native.Nat.{ℕ, ◌≤◌}
 use lib.ListN.{length, drop}
 use Rattle.lists.specs.Bytes.{Bytes}
 use Rattle.outcome.specs.declared.Refusal.{Refusal}
-use Rattle.outcome.specs.Outcome.{accepted, refused, refusal}
+use Rattle.outcome.specs.Outcome.{refusal}
 use Rattle.outcome.specs.Refusal.{input_ends, record_crosses}
 use Rattle.filling.specs.Makes.{Makes, Stops}
 use Rattle.filling.proofs.Makes.{Stands, FullAt, HaltsAt, StoppedAt, fill-makes, fill_stops, makes-fill, stops-fill}
@@ -19,13 +20,13 @@ use Rattle.spectrum_data_map.proofs.WholeRecord.{map-sound, map-complete, faulty
 
 module _ (map : List ℕ) where
   -- the relations from the function
-  pub map-makes : Bytes map → (at room end : ℕ) → at ≤ length map → (fill_map map at room).ends ≡ accepted end
+  pub map-makes : Bytes map → (at room end : ℕ) → at ≤ length map → (fill_map map at room).ends ≡ Ok end
       → Makes WholeRecord room (drop at map) (drop end map) (fill_map map at room).made
   unfolding fill_map record_step
   map-makes bytes = fill-makes (map_records map) WholeRecord FaultyRecord (map-sound map bytes)
 
   pub map-stops : Bytes map → (at room : ℕ) (why : Refusal) → at ≤ length map
-      → (fill_map map at room).ends ≡ refused why
+      → (fill_map map at room).ends ≡ Err why
       → StoppedAt (map_records map) WholeRecord FaultyRecord at room why
   unfolding fill_map record_step
   map-stops bytes = fill_stops (map_records map) WholeRecord FaultyRecord (map-sound map bytes)

@@ -1,7 +1,7 @@
 -- The data map of an SPC file, unpacked record by record: records cross scan lines and planes freely (document 02,
 -- ticket 5). The map is the file up to the map's end, so that offsets count from the file's start.
-use Rattle.std.specs.Prelude.{ℕ, ◌+◌, cond, List, eqb}
-use Rattle.outcome.specs.Outcome.{Outcome, accepted, refused, refusal}
+use Rattle.std.specs.Prelude.{ℕ, ◌+◌, cond, List, eqb, Ok, Err}
+use Rattle.outcome.specs.Outcome.{Outcome, refusal}
 use Rattle.filling.specs.Filling.{Step, Filling, fill}
 use Rattle.spectrum_data_map.specs.Records.{makes, takes, control, record_bytes, fault_at}
 
@@ -10,12 +10,12 @@ module _ (map : List ℕ) where
   unfoldable pub record_step : ℕ → ℕ → Outcome Step
   record_step at room =
       cond (eqb (fault_at map at room) 0)
-      (accepted (record {
+      (Ok (record {
         next = at + takes (control map at);
         filled = makes (control map at);
         made = record_bytes map at;
       }))
-      (refused (refusal (fault_at map at room) at))
+      (Err (refusal (fault_at map at room) at))
 
   -- each record makes a byte at least
   abbrev pub bytes_left : ℕ → ℕ → ℕ

@@ -1,4 +1,5 @@
 -- Laws of palette positions: a register passes through its three palettes from the left to the right.
+use Rattle.std.specs.Prelude.{Ok}
 use mathlib.Core.Path.{◌≡◌}
 use mathlib.Core.Bool.{or-true}
 use mathlib.Core.Logic.{◌⊎◌, inl, inr, ⊎_elim, ◌↔◌}
@@ -8,7 +9,7 @@ use native.Mathlib.Omega.{arith}
 use lib.Dec.{leb}
 use borrow.Author.Tests.{lt-ltb, le-ltb, le-leb, lt-leb}
 use Rattle.lists.proofs.Cond.{cond-ltb, cond-eqb}
-use Rattle.outcome.specs.Outcome.{accepted, refuse}
+use Rattle.outcome.specs.Outcome.{refuse}
 use Rattle.outcome.specs.Refusal.{out_of_range}
 use Rattle.spectrum_positions.specs.Positions.{columns, registers, second_from, palette_columns, position_of}
 use Rattle.spectrum_positions.specs.Positions.{judge_position}
@@ -91,7 +92,7 @@ position-below x c h =
     by-palette c (λ p. p < 3 * registers) x (λ a. omega arith) (λ a b. omega arith) (λ a. omega arith)
 
 -- a question is accepted, with the position, exactly within 320 columns and 16 registers
-pub within-accepted : (x c : ℕ) → x < columns → c < registers → judge_position x c ≡ accepted (position_of x c)
+pub within-accepted : (x c : ℕ) → x < columns → c < registers → judge_position x c ≡ Ok (position_of x c)
 unfolding judge_position
 within-accepted x c h k = rw (lt-leb columns x h, lt-leb registers c k)
 

@@ -1,7 +1,7 @@
 -- The palette position in force at a column for a register (document 02, ticket 5; source 000, "FindIndex"): which of
 -- the 48 palette words of a scan line, three palettes of 16, the register shows there.
-use Rattle.std.specs.Prelude.{ℕ, ◌+◌, ◌-◌, ◌*◌, ◌%◌, cond, ◌||◌, ltb, leb, eqb}
-use Rattle.outcome.specs.Outcome.{Outcome, accepted, refused, none, refuse_if}
+use Rattle.std.specs.Prelude.{ℕ, ◌+◌, ◌-◌, ◌*◌, ◌%◌, cond, ◌||◌, ltb, leb, eqb, Ok, Err}
+use Rattle.outcome.specs.Outcome.{Outcome, none, refuse_if}
 use Rattle.outcome.specs.Refusal.{out_of_range}
 use Rattle.spectrum_positions.specs.declared.PositionAnswer.{PositionAnswer}
 
@@ -28,9 +28,9 @@ position_of x c =
 
 -- a question outside 320 columns or 16 registers gets 10
 unfoldable pub judge_position : ℕ → ℕ → Outcome ℕ
-judge_position x c = refuse_if (leb columns x || leb registers c) out_of_range (accepted (position_of x c))
+judge_position x c = refuse_if (leb columns x || leb registers c) out_of_range (Ok (position_of x c))
 
 -- a refusal gives 0 in all else
 abbrev pub position_answer : Outcome ℕ → PositionAnswer
-position_answer (accepted n) = record { refusal = none; position = n }
-position_answer (refused why) = record { refusal = why; position = 0 }
+position_answer (Ok n) = record { refusal = none; position = n }
+position_answer (Err why) = record { refusal = why; position = 0 }

@@ -3,14 +3,13 @@
 #![tactic(auto)]
 
 ghost use Rattle.std.specs.Prelude.{◌≡◌, ◌<◌};
-ghost use Rattle.outcome.specs.Outcome.{accepted, refused};
 ghost use Rattle.spectrum_positions.specs.Positions.{columns, registers, second_from, position_of};
 ghost use Rattle.spectrum_positions.specs.Positions.{judge_position, position_answer};
 ghost use Rattle.spectrum_positions.specs.PositionTable.{position_table};
 
 mod table;
 
-use outcome::{OUT_OF_RANGE, Refusal};
+use outcome::{Reason, Refusal};
 use table::POSITIONS;
 
 // The columns of a scan line.
@@ -24,7 +23,8 @@ const PALETTE_ENTRIES: u16 = 16;
 // So many columns after a register's second palette its third one begins.
 const PALETTE_COLUMNS: u16 = 160;
 
-// The answer of a position question: 0 to 47; 0 of a refusal.
+// The answer of a position question in C: 0 to 47; 0 of a refusal.
+// C's struct: the exported function gives it back.
 #[repr(C)]
 #[derive(Clone, Copy)]
 pub struct PositionAnswer {
@@ -32,23 +32,20 @@ pub struct PositionAnswer {
     pub position: u8,
 }
 
-// The answer of an accepted question.
-fn position_done(position: u8) -> PositionAnswer
-    ensures { result ≡ position_answer (accepted position) }
-{
-    PositionAnswer {
-        refusal: outcome::none(),
-        position,
-    }
-}
+impl From<Result<u8, Refusal>> for PositionAnswer {
+    ghost from_gives = { λ given answer. answer ≡ position_answer given };
 
-// The answer of a refused question.
-fn position_refused(refusal: Refusal) -> PositionAnswer
-    ensures { result ≡ position_answer (refused refusal) }
-{
-    PositionAnswer {
-        refusal,
-        position: 0,
+    fn from(given: Result<u8, Refusal>) -> PositionAnswer {
+        match given {
+            Ok(position) => PositionAnswer {
+                refusal: outcome::none(),
+                position,
+            },
+            Err(refusal) => PositionAnswer {
+                refusal,
+                position: 0,
+            },
+        }
     }
 }
 
@@ -64,24 +61,22 @@ fn table_entry(column: usize, register: u8) -> u8
     requires { (column < columns) × (register < registers) }
     ensures { result ≡ position_of column register }
 {
-    let table = position_table();
-    table[column * 16 + register as usize]
+    position_table()[column * 16 + register as usize]
 }
 
 // The palette position at a column for a register, by the table.
-pub fn position(column: usize, register: u8) -> PositionAnswer
-    ensures { result ≡ position_answer (judge_position column register) }
+#[tactic(auto, unfolding(crate::specs::Positions::judge_position))]
+pub fn position(column: usize, register: u8) -> Result<u8, Refusal>
+    ensures { result ≡ judge_position column register }
 {
-    if COLUMNS <= column {
-        return position_refused(outcome::refuse(OUT_OF_RANGE));
+    if COLUMNS <= column || REGISTERS <= register {
+        return Err(outcome::refuse(Reason::OutOfRange));
     }
-    if REGISTERS <= register {
-        return position_refused(outcome::refuse(OUT_OF_RANGE));
-    }
-    position_done(table_entry(column, register))
+    Ok(table_entry(column, register))
 }
 
 // The first column of a register's second palette.
+#[tactic(auto, unfolding(crate::specs::Positions::second_from))]
 fn second_from(register: u8) -> u16
     ensures { (result ≡ second_from register) × (result < 2560) }
 {
@@ -90,6 +85,7 @@ fn second_from(register: u8) -> u16
 }
 
 // The same by the rule: for the pixels of a line it is faster than the table, which is copied at each question.
+#[tactic(auto, unfolding(crate::specs::Positions::position_of))]
 pub fn position_at(column: u16, register: u8) -> u16
     ensures { result ≡ position_of column register }
 {

@@ -1,4 +1,5 @@
 -- What both lists answer of a file, as specs/Animations.antt says.
+use Rattle.std.specs.Prelude.{Ok, Err}
 use mathlib.Core.Path.{◌≡◌, refl, sym, ap, subst, ◌∙◌}
 use mathlib.Core.List.{List}
 use Prim.Native.Nat.{ℕ, ◌/◌, ◌%◌, ◌^◌}
@@ -6,7 +7,7 @@ use native.Mathlib.Omega.{arith}
 use Rattle.lists.specs.Bytes.{Bytes}
 use Rattle.lists.proofs.Cond.{cond-eqb}
 use Rattle.outcome.specs.declared.Refusal.{Refusal}
-use Rattle.outcome.specs.Outcome.{Outcome, accepted, refused, refusal_of}
+use Rattle.outcome.specs.Outcome.{Outcome, refusal_of}
 use Rattle.outcome.specs.Refusal.{wrong_flag}
 use Rattle.outcome.proofs.Outcome.{judged-accepted}
 use Rattle.words.specs.Word.{word_at}
@@ -26,8 +27,8 @@ use Rattle.statements.specs.Animations.{MarkedWithoutSteps, AcceptsBoth, ShowsBo
 use Rattle.statements.specs.Animations.{answers_by_list}
 
 answer-refusal : (o : Outcome ColourAnimation) → (animation_answer o).refusal ≡ refusal_of o
-answer-refusal (accepted a) = refl
-answer-refusal (refused why) = refl
+answer-refusal (Ok a) = refl
+answer-refusal (Err why) = refl
 
 -- 5 in place of 4 is no acceptance
 flag-refused : (why : Refusal) → (flag_as_resolution why).number ≡ 0 → why.number ≡ 0
@@ -51,10 +52,10 @@ module _ (file : List ℕ) where
   }
 
   module _ (fits : AcceptsNeochrome file) where
-    by-1989 : animation 1 file ≡ accepted (shown1989 file)
+    by-1989 : animation 1 file ≡ Ok (shown1989 file)
     by-1989 = (acceptance-1989 file (shown1989 file)).1 (fits, refl)
 
-    by-2008 : animation 2 file ≡ accepted (shown2008 file)
+    by-2008 : animation 2 file ≡ Ok (shown2008 file)
     by-2008 = (acceptance-2008 file (shown2008 file)).1 (fits, refl)
 
   pub accepts-both : AcceptsBoth file (answers_by_list file)

@@ -1,4 +1,5 @@
 -- Outcomes of conversions, as the contracts say them.
+use Rattle.std.specs.Prelude.{Err}
 use mathlib.Core.Path.{◌≡◌, refl, sym, ap, ap₂, ◌∙◌, subst}
 use mathlib.Core.Logic.{◌↔◌}
 use mathlib.Core.List.{List, ◌++◌, append_assoc}
@@ -11,19 +12,19 @@ use Rattle.lists.specs.Over.{over}
 use Rattle.lists.specs.Tabulate.{tabulate}
 use Rattle.lists.proofs.Tabulate.{tabulate-ext}
 use Rattle.outcome.specs.declared.Refusal.{Refusal}
-use Rattle.outcome.specs.Outcome.{Outcome, none, refusal_of}
+use Rattle.outcome.specs.Outcome.{Outcome, none, map, refusal_of}
 use Rattle.words.specs.Word.{word_at, words_at}
 use Rattle.resolution.specs.declared.Resolution.TheVariants.{Low}
 use Rattle.picture.specs.declared.WriteAnswer.{WriteAnswer}
 use Rattle.picture.specs.Tables.{tables_at, zero_tables, held, tail_bytes}
-use Rattle.picture.specs.Writing.{Writing, raw_writing, write_answer, write_output}
+use Rattle.picture.specs.Writing.{Writing, raw_writing, file_written, write_answer, write_output}
 use Rattle.degas.specs.Layout.{tail_length, plain_length, elite_length}
 use Rattle.degas.specs.Accepts as fitting
 use Rattle.conversion.specs.declared.Conversion.{Conversion}
 use Rattle.conversion.specs.declared.Conversion.TheVariants.{ToElite, ToPlain}
 use Rattle.conversion.specs.Converting.{convert}
 use Rattle.conversion.specs.Accepts.{AcceptsToElite, AcceptsToPlain}
-use Rattle.conversion.proofs.Acceptance.{to-elite-writes, to-elite-exactly, plain-length, to-plain-is, to-plain-exactly}
+use Rattle.conversion.proofs.Acceptance.{to-elite-judged, to-elite-writes, to-elite-exactly, plain-length, to-plain-is, to-plain-exactly}
 use Rattle.conversion.proofs.RoundTrip.{zero_held, to-elite-last, to-elite-back}
 use Rattle.demands.specs.Refusals.{Refuses}
 use Rattle.demands.proofs.Answers.{write-answer}
@@ -33,6 +34,7 @@ use Rattle.statements.specs.Areas.{HoldsFile}
 use Rattle.statements.specs.Blank.{zeros}
 use Rattle.statements.specs.Conversions.{WritesEliteFile, WritesPlainFile, AnswersConversion, Restores}
 use Rattle.statements.specs.Writing.{WritesNothing}
+use Rattle.statements.proofs.Writing.{refused-number}
 
 -- the number of an answer is its outcome's
 number_of : (o : Outcome Writing) → (write_answer o).refusal.number ≡ (refusal_of o).number
@@ -149,6 +151,12 @@ module _ (file out : List ℕ) (room : HoldsFile out) (bytes : Bytes file) where
 
   pub blank-to-plain : file ≡ zeros elite_length → (write_answer (convert ToPlain file (length out))).refusal.number ≡ 0
   blank-to-plain e = (plain-exactly file out room bytes).1 (subst AcceptsToPlain (sym e) blank-elite)
+
+-- a refused conversion to Elite has a number
+pub elite-numbered : (file : List ℕ) (out : ℕ) → Bytes file → (why : Refusal)
+    → map file_written (convert ToElite file out) ≡ Err why → why.number ≡ 0 → ⊥
+elite-numbered file out bytes why =
+    refused-number _ (convert ToElite file out) (to-elite-judged file out bytes) why
 
 -- ---- there and back
 

@@ -1,4 +1,5 @@
 -- Outcomes of reading and writing plates, as the contracts say them.
+use Rattle.std.specs.Prelude.{Ok, Err}
 use mathlib.Core.Path.{◌≡◌, refl, sym, ap, ap₂, ◌∙◌, subst}
 use mathlib.Core.Logic.{◌↔◌}
 use mathlib.Core.List.{List, flatten}
@@ -9,7 +10,7 @@ use lib.Seq.{take-append_seam, drop_at}
 use Rattle.lists.specs.Bytes.{Bytes}
 use Rattle.lists.specs.Over.{over}
 use Rattle.outcome.specs.declared.Refusal.{Refusal}
-use Rattle.outcome.specs.Outcome.{Outcome, accepted, refused, refuse, Judged}
+use Rattle.outcome.specs.Outcome.{Outcome, refuse, map, Judged}
 use Rattle.outcome.specs.Refusal.{no_packed_body}
 use Rattle.packbits.specs.Unpacks as unpacks
 use Rattle.packbits.specs.UnpacksRows.{UnpacksRows}
@@ -21,7 +22,7 @@ use Rattle.bodies.specs.Unpacking.{UnpackedBody, unpacked_answer}
 use Rattle.bodies.specs.Unpacks.{UnpacksImage, ShortestBody}
 use Rattle.bodies.proofs.Least.{least-shortest}
 use Rattle.picture.specs.declared.WriteAnswer.{WriteAnswer}
-use Rattle.picture.specs.Writing.{Writing, write_answer, write_output}
+use Rattle.picture.specs.Writing.{Writing, file_written, write_answer, write_output}
 use Rattle.macpaint.specs.Layout.{body_limit, zero_header}
 use Rattle.macpaint.specs.Plate.{plate_raster, plate_bytes}
 use Rattle.macpaint.specs.Reading.{read_plate}
@@ -42,6 +43,7 @@ use Rattle.statements.specs.Plates.{UnpacksPlate, NoPlateBodyBelow, ShortestPlat
 use Rattle.statements.specs.Plates.{PlateNeverAbove, PlateAttained, AnswersPlateRead, PlateBack}
 use Rattle.statements.specs.Blank.{zeros}
 use Rattle.statements.specs.Writing.{WritesNothing}
+use Rattle.statements.proofs.Writing.{refused-number}
 use Rattle.statements.proofs.Blank.{zero-rows, unpacks-equal, bytes-equal, pair-bytes}
 
 -- ---- reading
@@ -55,8 +57,8 @@ module _ (file area : List ℕ) where
 
   accepts-number : (o : Outcome UnpackedBody) → Judged (Given file (length area)) o
       → (unpacked_answer o).refusal.number ≡ 0 → AcceptsPlate file
-  accepts-number (accepted u) g e = g.0
-  accepts-number (refused why) h e = absurd (h e)
+  accepts-number (Ok u) g e = g.0
+  accepts-number (Err why) h e = absurd (h e)
 
   pub reads-plate : HoldsPlate area → (fits : AcceptsPlate file)
       → ReadsPlate (plate_given fits) answer area (body_area outcome area)
@@ -129,7 +131,7 @@ module _ (plate out : List ℕ) where
           λ none. e.1 (λ body n b u below. none body n b (to-plate plate stated.plate-fits u) below),
         )
 
-    otherwise : (NoPlateBodyBelow plate → ⊥) → (w : Writing) × (written ≡ accepted w) × WritesPlate plate w
+    otherwise : (NoPlateBodyBelow plate → ⊥) → (w : Writing) × (written ≡ Ok w) × WritesPlate plate w
     otherwise some =
         plate-otherwise plate (length out) stated.plate-fits stated.output-fits (λ e. some (exactly.0 e))
 
@@ -215,19 +217,25 @@ plate-both-occur plate out stated bytes =
       longest = λ most e. (plate-refuses-exactly plate out stated bytes).1 (rw e (none-below-plate most));
     }
 
+-- a refused writing has a number
+pub plate-numbered : (plate : List ℕ) (out : ℕ) (why : Refusal) → map file_written (write_plate plate out) ≡ Err why
+    → why.number ≡ 0 → ⊥
+plate-numbered plate out why =
+    refused-number _ (write_plate plate out) (round_trip plate plate_bytes (omega arith) out) why
+
 -- ---- written and read back
 
 module _ (plate out area : List ℕ) (room : HoldsPlate area) where
   -- the file is the output's front, as long as the writing answers
   file-back : (o : Outcome Writing) → Judged (ReadsBack plate (length area) room) o → (write_answer o).refusal.number ≡ 0
-      → (w : Writing) × (write_answer o ≡ write_answer (accepted w))
-      × (read_plate (take (write_answer o).length (write_output o out)) (length area) ≡ accepted (plate_back plate w))
-  file-back (accepted w) back ok = (
+      → (w : Writing) × (write_answer o ≡ write_answer (Ok w))
+      × (read_plate (take (write_answer o).length (write_output o out)) (length area) ≡ Ok (plate_back plate w))
+  file-back (Ok w) back ok = (
     w,
     refl,
     ap (λ (f : List ℕ). read_plate f (length area)) (take-append_seam w.file (drop (length w.file) out)) ∙ back,
   )
-  file-back (refused why) number ok = absurd (number ok)
+  file-back (Err why) number ok = absurd (number ok)
 
   pub plate-read-back : (b : PlateRoundTrip) (file after : List ℕ)
       → b.written ≡ write_answer (write_plate plate (length out))
@@ -237,12 +245,12 @@ module _ (plate out area : List ℕ) (room : HoldsPlate area) where
   plate-read-back b file after is left read ok =
       let o : Outcome Writing = write_plate plate (length out) in
       let f = file-back o (round_trip plate (length area) room (length out)) (rw is at ok) in
-      let written : b.written ≡ write_answer (accepted f.0) = is ∙ f.1 in
+      let written : b.written ≡ write_answer (Ok f.0) = is ∙ f.1 in
       let front : take b.written.length file ≡ take (write_answer o).length (write_output o out) =
       ap₂ (λ (a : WriteAnswer) (l : List ℕ). take a.length l) is left in
-      let back : read_plate (take b.written.length file) (length area) ≡ accepted (plate_back plate f.0) =
+      let back : read_plate (take b.written.length file) (length area) ≡ Ok (plate_back plate f.0) =
       ap (λ (l : List ℕ). read_plate l (length area)) front ∙ f.2 in
-      let answer : b.read ≡ unpacked_answer (accepted (plate_back plate f.0)) =
+      let answer : b.read ≡ unpacked_answer (Ok (plate_back plate f.0)) =
       read.answer ∙ ap unpacked_answer back in
       record {
         accepted = ap (λ (a : BodyAnswer). a.refusal) answer;

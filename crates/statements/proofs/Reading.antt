@@ -1,10 +1,10 @@
 -- An outcome of reading, as the contracts say it.
+use Rattle.outcome.specs.Outcome.{Outcome}
 use mathlib.Core.Path.{◌≡◌, ap}
 use mathlib.Core.List.{List}
 use Prim.Native.Nat.{ℕ}
 use lib.ListN.{length}
 use Rattle.outcome.specs.declared.Refusal.{Refusal}
-use Rattle.outcome.specs.Outcome.{Outcome}
 use Rattle.picture.specs.Reading.{Reading, read_answer, read_area}
 use Rattle.reader.specs.Reading.{read_file}
 use Rattle.demands.specs.Accepted.{Accepts, given}

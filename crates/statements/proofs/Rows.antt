@@ -1,4 +1,5 @@
 -- A row packed and a row unpacked, as the contracts say them.
+use Rattle.std.specs.Prelude.{Ok, Err}
 use mathlib.Core.Path.{◌≡◌, refl, sym, ap, ◌∙◌, subst}
 use mathlib.Core.Logic.{◌↔◌}
 use mathlib.Core.List.{List}
@@ -7,7 +8,7 @@ use native.Mathlib.Omega.{arith}
 use lib.ListN.{length}
 use Rattle.lists.specs.Bytes.{Bytes}
 use Rattle.lists.proofs.Cond.{cond-elim, cond-ltb, cond-eqb}
-use Rattle.outcome.specs.Outcome.{Outcome, accepted, refused, refusal_of, Judged}
+use Rattle.outcome.specs.Outcome.{Outcome, refusal_of, Judged}
 use Rattle.outcome.proofs.Outcome.{judged-accepted}
 use Rattle.packbits.specs.Row.{Row, done, row_answer, row_output, width_out_of_range}
 use Rattle.packbits.specs.Unpack.{progress, outcome_of, unpack_row}
@@ -28,11 +29,11 @@ abbrev number : Outcome Row → ℕ
 number o = (row_answer o).refusal.number
 
 refusal-number : (o : Outcome Row) → (refusal_of o).number ≡ number o
-refusal-number (accepted r) = refl
-refusal-number (refused why) = refl
+refusal-number (Ok r) = refl
+refusal-number (Err why) = refl
 
 -- where the number is 0, the row that was accepted
-accepted-row : (P : Row → Type 0) (o : Outcome Row) → Judged P o → number o ≡ 0 → (r : Row) × (o ≡ accepted r) × P r
+accepted-row : (P : Row → Type 0) (o : Outcome Row) → Judged P o → number o ≡ 0 → (r : Row) × (o ≡ Ok r) × P r
 accepted-row P o judged e = judged-accepted P o judged (refusal-number o ∙ e)
 
 pub row-refused : (o : Outcome Row) (out : List ℕ) → RowRefusal o out → Refuses (row_answer o).refusal

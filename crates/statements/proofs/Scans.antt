@@ -1,4 +1,6 @@
 -- Outcomes of reading a scan, as the contract says them.
+use Rattle.std.specs.Prelude.{Ok, Err}
+use Rattle.outcome.specs.Outcome.{Outcome}
 use mathlib.Core.Path.{◌≡◌, refl, sym, ap, ◌∙◌}
 use mathlib.Core.Logic.{◌↔◌}
 use mathlib.Core.List.{List}
@@ -7,7 +9,6 @@ use native.Mathlib.Omega.{arith}
 use lib.ListN.{length}
 use Rattle.lists.specs.Bytes.{Bytes}
 use Rattle.outcome.specs.declared.Refusal.{Refusal}
-use Rattle.outcome.specs.Outcome.{Outcome, accepted, refused}
 use Rattle.gem_img.specs.declared.ImgAnswer.{ImgAnswer}
 use Rattle.gem_img.specs.Accepts.{AcceptsImg}
 use Rattle.gem_img.specs.Refuses.{RefusesImg}
@@ -50,9 +51,9 @@ module _ (file area : List ℕ) where
 
   module _ (bytes : Bytes file) where
     accepts-number : (o : Outcome Image) → outcome ≡ o → (img_answer o).refusal.number ≡ 0 → AcceptsSome file
-    accepts-number (accepted image) e n =
+    accepts-number (Ok image) e n =
         record { image = image; fits = (img-accepts file bytes (length area) image e).1 }
-    accepts-number (refused why) e n =
+    accepts-number (Err why) e n =
         absurd (refuses-number file (length area) why (img-refuses file bytes (length area) why e) n)
 
     pub reads-exactly : HoldsScreen area → (answer.refusal.number ≡ 0) ↔ AcceptsSome file
@@ -64,8 +65,8 @@ module _ (file area : List ℕ) where
 
     refuses-why : (o : Outcome Image) → outcome ≡ o → Refuses (img_answer o).refusal
         → RefusesImg file (length area) (img_answer o).refusal
-    refuses-why (accepted image) e h = absurd (h refl)
-    refuses-why (refused why) e h = img-refuses file bytes (length area) why e
+    refuses-why (Ok image) e h = absurd (h refl)
+    refuses-why (Err why) e h = img-refuses file bytes (length area) why e
 
     pub reads-why : Refuses answer.refusal → RefusesImg file (length area) answer.refusal
         × ReadsNoImage answer.refusal answer area (img_area outcome area)

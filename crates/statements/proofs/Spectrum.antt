@@ -1,4 +1,5 @@
 -- Outcomes of reading a Spectrum 512 file, as the contract says them.
+use Rattle.std.specs.Prelude.{Ok, Err}
 use mathlib.Core.Path.{◌≡◌, refl, sym, ap, ◌∙◌}
 use mathlib.Core.Logic.{◌↔◌}
 use mathlib.Core.List.{List}
@@ -12,7 +13,7 @@ use Rattle.lists.specs.Sum.{sum}
 use Rattle.lists.proofs.Over.{get_or-over-in}
 use Rattle.lists.proofs.Sum.{sum-ext}
 use Rattle.outcome.specs.declared.Refusal.{Refusal}
-use Rattle.outcome.specs.Outcome.{Outcome, accepted, refused, refusal_of}
+use Rattle.outcome.specs.Outcome.{Outcome, refusal_of}
 use Rattle.words.specs.Word.{word_at}
 use Rattle.raster.specs.PlaneRows.{plane_row}
 use Rattle.resolution.specs.declared.Resolution.TheVariants.{Low}
@@ -128,9 +129,9 @@ module _ (kind : ℕ) (file screen palettes : List ℕ) where
   module _ (bytes : Bytes file) where
     accepts-number : (o : Outcome Reading) → outcome ≡ o → (refusal_of o).number ≡ 0
         → AcceptsReading kind file screen palettes
-    accepts-number (accepted r) e n =
+    accepts-number (Ok r) e n =
         record { reading = r; fits = spectrum-accepts file bytes kind (length screen) (length palettes) r e }
-    accepts-number (refused why) e n =
+    accepts-number (Err why) e n =
         absurd (refuses-number kind file (length screen) (length palettes) why
         (spectrum-refuses file bytes kind (length screen) (length palettes) why e) n)
 
@@ -142,8 +143,8 @@ module _ (kind : ℕ) (file screen palettes : List ℕ) where
 
     refuses-why : (o : Outcome Reading) → outcome ≡ o → Refuses (refusal_of o)
         → RefusesSpectrum file (length screen) (length palettes) kind (refusal_of o)
-    refuses-why (accepted r) e h = absurd (h refl)
-    refuses-why (refused why) e h = spectrum-refuses file bytes kind (length screen) (length palettes) why e
+    refuses-why (Ok r) e h = absurd (h refl)
+    refuses-why (Err why) e h = spectrum-refuses file bytes kind (length screen) (length palettes) why e
 
     pub reads-why : Refuses answer → RefusesSpectrum file (length screen) (length palettes) kind answer
         × ReadsNoSpectrum answer answer screen (screen_area outcome screen) palettes (palette_area outcome palettes)
@@ -164,6 +165,6 @@ module _ (kind : ℕ) (file screen palettes : List ℕ) where
         unlisted : (o : Outcome Reading) → outcome ≡ o
             → ((why : Refusal) → RefusesSpectrum file (length screen) (length palettes) kind why → ⊥)
             → (refusal_of o).number ≡ 0
-        unlisted (accepted r) e none = refl
-        unlisted (refused why) e none =
+        unlisted (Ok r) e none = refl
+        unlisted (Err why) e none =
             absurd (none why (spectrum-refuses file bytes kind (length screen) (length palettes) why e))

@@ -1,4 +1,5 @@
 -- An outcome of writing, as the contracts say it.
+use Rattle.std.specs.Prelude.{Ok, Err}
 use mathlib.Core.Path.{◌≡◌, sym, ap, ◌∙◌, subst}
 use mathlib.Core.Logic.{◌↔◌}
 use mathlib.Core.List.{List, ◌++◌, append_assoc}
@@ -9,7 +10,7 @@ use lib.Seq.{take-append_seam}
 use Rattle.lists.specs.Bytes.{Bytes}
 use Rattle.lists.specs.Over.{over}
 use Rattle.outcome.specs.declared.Refusal.{Refusal}
-use Rattle.outcome.specs.Outcome.{Outcome, accepted, refused, refuse}
+use Rattle.outcome.specs.Outcome.{Outcome, refuse, map, Judged}
 use Rattle.outcome.specs.Refusal.{no_packed_body}
 use Rattle.resolution.specs.declared.Resolution.{Resolution}
 use Rattle.resolution.specs.declared.Resolution.TheVariants.{Low, Medium, High}
@@ -20,7 +21,8 @@ use Rattle.bodies.specs.Unpacks.{LeastBelow}
 use Rattle.picture.specs.declared.Picture.{Picture}
 use Rattle.picture.specs.Tables.{tail_bytes}
 use Rattle.picture.specs.Whole.{WholePicture}
-use Rattle.picture.specs.Writing.{Writing, write_answer, write_output}
+use Rattle.picture.specs.declared.FileWritten.{FileWritten}
+use Rattle.picture.specs.Writing.{Writing, file_written, write_answer, write_output}
 use Rattle.degas.specs.Layout.{header_length, body_limit, packed_bit, header, packed_file}
 use Rattle.degas.proofs.LeastBody.{bound-attained}
 use Rattle.degas.proofs.ScreenRaster.{in-range}
@@ -64,7 +66,7 @@ module _ (r : Resolution) (p : Picture) (screen out : List ℕ) (stated : Stated
   exactly : (packed ≡ refuse no_packed_body) ↔ NoBodyBelow r screen
   exactly = refused-exactly r p screen (length out) stated.known stated.screen-fits stated.output-fits bytes
 
-  otherwise : (NoBodyBelow r screen → ⊥) → (w : Writing) × (packed ≡ accepted w) × WritesPacked r p screen w
+  otherwise : (NoBodyBelow r screen → ⊥) → (w : Writing) × (packed ≡ Ok w) × WritesPacked r p screen w
   otherwise some =
       written-otherwise r p screen (length out) stated.known stated.screen-fits stated.output-fits whole
       (λ e. some (exactly.0 e))
@@ -102,9 +104,21 @@ module _ (r : Resolution) (p : Picture) (screen out : List ℕ) (stated : Stated
       }
 
 -- the file that is answered is within the output
-pub length-within : (o : Outcome Writing) (out : List ℕ) → (write_answer o).length ≤ length (write_output o out)
-length-within (accepted w) out = omega (arith, length-append w.file (drop (length w.file) out))
-length-within (refused why) out = omega arith
+pub written-within : (o : Outcome Writing) (given : FileWritten) (out : List ℕ) → map file_written o ≡ Ok given
+    → given.length ≤ length (write_output o out)
+written-within (Ok w) given out is =
+    let same : file_written w ≡ given = cc in
+    let total : given.length ≡ length w.file = sym (ap (λ (g : FileWritten). g.length) same) in
+    omega (arith, length-append w.file (drop (length w.file) out))
+written-within (Err why) given out is = cc
+
+-- a refusal of what is judged has a number
+pub refused-number : (P : Writing → Type 0) (o : Outcome Writing) → Judged P o → (why : Refusal)
+    → map file_written o ≡ Err why → why.number ≡ 0 → ⊥
+refused-number P (Ok w) judged why is n = cc
+refused-number P (Err it) judged why is n =
+    let same : it ≡ why = cc in
+    judged (ap (λ (r : Refusal). r.number) same ∙ n)
 
 -- ---- how long a least body can be
 

@@ -1,7 +1,7 @@
 -- What converting a DEGAS file, and converting it back, promises (document 02, ticket 7).
-use Rattle.std.specs.Prelude.{ℕ, ◌-◌, ◌≡◌, List, length, take, drop}
+use Rattle.std.specs.Prelude.{ℕ, ◌-◌, ◌≡◌, List, length, take, drop, Err}
 use Rattle.lists.specs.Over.{over}
-use Rattle.outcome.specs.Outcome.{none, refused}
+use Rattle.outcome.specs.Outcome.{none}
 use Rattle.picture.specs.declared.WriteAnswer.{WriteAnswer}
 use Rattle.picture.specs.Writing.{Writing, write_answer, write_output}
 use Rattle.degas.specs.Layout.{tail_length, plain_length, plain_file}
@@ -55,4 +55,4 @@ pub record AnswersRestoring (file : List ℕ) (b : ConversionRoundTrip) (out eli
   pub to-plain : b.to_elite.refusal.number ≡ 0
       → AnswersConversion ToPlain (take b.to_elite.length elite) b.to_plain into after
   pub unconverted : Refuses b.to_elite.refusal
-      → (b.to_plain ≡ write_answer (refused b.to_elite.refusal)) × (after ≡ into)
+      → (b.to_plain ≡ write_answer (Err b.to_elite.refusal)) × (after ≡ into)

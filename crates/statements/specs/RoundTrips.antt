@@ -1,6 +1,6 @@
 -- What writing a picture and reading it back promises (document 00, demand 2).
-use Rattle.std.specs.Prelude.{ℕ, ◌≡◌, ◌⊎◌, List, take}
-use Rattle.outcome.specs.Outcome.{none, refused}
+use Rattle.std.specs.Prelude.{ℕ, ◌≡◌, ◌⊎◌, List, take, Err}
+use Rattle.outcome.specs.Outcome.{none}
 use Rattle.resolution.specs.declared.Resolution.{Resolution}
 use Rattle.picture.specs.declared.Picture.{Picture}
 use Rattle.picture.specs.Reading.{read_answer}
@@ -38,4 +38,4 @@ pub record AnswersRoundTrip (form : ℕ) (p : Picture) (screen : List ℕ) (b : 
   pub write : AnswersWrite form p screen b.written out file
   pub read : b.written.refusal.number ≡ 0
       → AnswersRead (kind_of form) (take b.written.length file) b.read area after
-  pub unread : Refuses b.written.refusal → (b.read ≡ read_answer (refused b.written.refusal)) × (after ≡ area)
+  pub unread : Refuses b.written.refusal → (b.read ≡ read_answer (Err b.written.refusal)) × (after ≡ area)

@@ -2,6 +2,7 @@
 // themselves: each function here only calls public operations, and promises the demand. Nothing is assumed of an
 // argument but its type. The clause `refused` is demand 1, "then no byte of any lent area has changed", and `whole` the
 // complete answer of the operations. Definitions: specs/.
+// The answers are C's: the theorems speak of their fields.
 #![tactic(auto)]
 
 ghost use Rattle.std.specs.Prelude.{◌≡◌, ◌↔◌, List, ℕ, length};
@@ -48,14 +49,14 @@ ghost use Rattle.statements.specs.Writing.{WritesNothing, AnswersWrite};
 
 use bodies::BodyAnswer;
 use conversion::Conversion;
-use degas_records::Found;
+use degas_records::ListedRecord;
 use gem_img::ImgAnswer;
-use neochrome_animation::{AnimationAnswer, LIST_1989, LIST_2008};
+use neochrome_animation::{AnimationAnswer, FormatList};
 use outcome::Refusal;
 use packbits::RowAnswer;
 use picture::{Picture, ReadAnswer, WriteAnswer};
-use reader::{KIND_DEGAS, KIND_NEOCHROME};
-use writer::{FORM_NEOCHROME, FORM_PACKED};
+use reader::Kind;
+use writer::Form;
 
 // The answers of a writing and of its reading back.
 #[derive(Clone, Copy)]
@@ -96,7 +97,7 @@ pub fn read_file(kind: u8, file: &[u8], area: &mut [u8]) -> ReadAnswer
     ensures refused { Refuses result.refusal → ReadsNothing result area.old area.new }
     ensures whole { AnswersRead kind file.now result area.old area.new }
 {
-    reader::read(kind, file, area)
+    reader::read(kind, file, area).into()
 }
 
 // Demand 3: "Given resolution 0, 1 or 2 and lent areas of at least the stated sizes, whatever the screen, palette and
@@ -114,17 +115,24 @@ pub fn write_packed(picture: Picture, screen: &[u8], out: &mut [u8]) -> WriteAns
     ensures refused { Refuses result.refusal → WritesNothing result out.old out.new }
     ensures whole { AnswersWrite form_packed picture screen.now result out.old out.new }
 {
-    writer::write(FORM_PACKED, picture, screen, out)
+    writer::write(
+        Form::Degas(degas::Form::Packed).number(),
+        picture,
+        screen,
+        out,
+    )
+    .into()
 }
 
 // The kind that a form is read back as.
+// By number: the clause `whole` of `write_and_read` speaks of it.
 fn kind_of(form: u8) -> u8
     ensures { result ≡ kind_of form }
 {
-    if form == FORM_NEOCHROME {
-        KIND_NEOCHROME
+    if form == Form::Neochrome.number() {
+        Kind::Neochrome as u8
     } else {
-        KIND_DEGAS
+        Kind::Degas as u8
     }
 }
 
@@ -146,14 +154,14 @@ pub fn write_and_read(
         area.old area.new }
 {
     let written = writer::write(form, picture, screen, out);
-    let refusal = written.refusal;
-    if refusal.number != 0 {
-        let read = picture::read_refused(refusal);
-        return RoundTrip { written, read };
+    let read = match written {
+        Ok(file) => reader::read(kind_of(form), &out[..file.length], area),
+        Err(why) => Err(why),
+    };
+    RoundTrip {
+        written: written.into(),
+        read: read.into(),
     }
-    let length = written.length;
-    let read = reader::read(kind_of(form), &out[..length], area);
-    RoundTrip { written, read }
 }
 
 // Document 01: "The writer's row is the shortest byte string that unpacks to the row; among equally short ones, the
@@ -165,7 +173,7 @@ pub fn pack_row_least(row: &[u8], out: &mut [u8]) -> RowAnswer
     ensures refused { Refuses result.refusal → RowRefused result out.old out.new }
     ensures whole { AnswersPack row.now result out.old out.new }
 {
-    pack::pack_row(row, out)
+    pack::pack_row(row, out).into()
 }
 
 // Document 01: "A byte string, however long, unpacks to a row when its records fill the row with exactly that row's
@@ -178,7 +186,7 @@ pub fn unpack_row_exactly(packed: &[u8], width: usize, out: &mut [u8]) -> RowAns
     ensures refused { Refuses result.refusal → RowRefused result out.old out.new }
     ensures whole { AnswersUnpack packed.now width result out.old out.new }
 {
-    unpack::unpack_row(packed, width, out)
+    unpack::unpack_row(packed, width, out).into()
 }
 
 // Document 02, ticket 9: a MacPaint file is "accepted exactly when no listed refusal comes" (ticket 5), and what an
@@ -191,7 +199,7 @@ pub fn read_plate(file: &[u8], plate: &mut [u8]) -> BodyAnswer
     ensures refused { Refuses result.refusal → ReadsNoPlate result plate.old plate.new }
     ensures whole { AnswersPlateRead file.now result plate.old plate.new }
 {
-    macpaint::read(file, plate)
+    macpaint::read(file, plate).into()
 }
 
 // Document 02, ticket 11, with demands 1 and 2: a file is accepted exactly when its header is within the profile and
@@ -210,7 +218,7 @@ pub fn read_img(file: &[u8], area: &mut [u8]) -> ImgAnswer
     ensures blank { HoldsScreen area.old → file.now ≡ white_line_file → result.refusal.number ≡ 0 }
     ensures whole { AnswersImgRead file.now result area.old area.new }
 {
-    gem_img::read(file, area)
+    gem_img::read(file, area).into()
 }
 
 // Document 02, ticket 5, with demands 1 and 2: a Spectrum 512 file is accepted exactly when it has the parts of its
@@ -241,7 +249,7 @@ pub fn read_spectrum(kind: u8, file: &[u8], screen: &mut [u8], palettes: &mut [u
     ensures whole { AnswersSpectrumRead kind file.now result screen.old screen.new
         palettes.old palettes.new }
 {
-    spectrum::read(kind, file, screen, palettes)
+    spectrum::read(kind, file, screen, palettes).into()
 }
 
 // Document 02, ticket 9: "Demand 3's exactness holds with this limit, a plate's 720 rows standing for the plane rows
@@ -256,7 +264,7 @@ pub fn write_plate(plate: &[u8], out: &mut [u8]) -> WriteAnswer
     ensures refused { Refuses result.refusal → WritesNothing result out.old out.new }
     ensures whole { AnswersPlateWrite plate.now result out.old out.new }
 {
-    macpaint::write(plate, out)
+    macpaint::write(plate, out).into()
 }
 
 // A plate written and read back. The file is the output's front, as long as the writing answers; a writing that is
@@ -270,14 +278,14 @@ pub fn write_and_read_plate(plate: &[u8], out: &mut [u8], area: &mut [u8]) -> Pl
         area.new }
 {
     let written = macpaint::write(plate, out);
-    let why = written.refusal;
-    if why.number != 0 {
-        let read = bodies::body_refused(why);
-        return PlateRoundTrip { written, read };
+    let read = match written {
+        Ok(file) => macpaint::read(&out[..file.length], area),
+        Err(refusal) => Err(refusal),
+    };
+    PlateRoundTrip {
+        written: written.into(),
+        read: read.into(),
     }
-    let length = written.length;
-    let read = macpaint::read(&out[..length], area);
-    PlateRoundTrip { written, read }
 }
 
 // Document 02, ticket 7: "The plain DEGAS shelf becomes Elite packed where a packed body exists, Elite raw where number
@@ -291,7 +299,7 @@ pub fn convert_to_elite(file: &[u8], out: &mut [u8]) -> WriteAnswer
     ensures refused { Refuses result.refusal → WritesNothing result out.old out.new }
     ensures whole { AnswersConversion ToElite file.now result out.old out.new }
 {
-    conversion::convert(Conversion::ToElite, file, out)
+    conversion::convert(Conversion::ToElite, file, out).into()
 }
 
 // The way back: accepted are exactly the Elite files, raw or packed, with a zero tail; the blank raw one is among them,
@@ -304,7 +312,7 @@ pub fn convert_to_plain(file: &[u8], out: &mut [u8]) -> WriteAnswer
     ensures refused { Refuses result.refusal → WritesNothing result out.old out.new }
     ensures whole { AnswersConversion ToPlain file.now result out.old out.new }
 {
-    conversion::convert(Conversion::ToPlain, file, out)
+    conversion::convert(Conversion::ToPlain, file, out).into()
 }
 
 // Document 02, ticket 7: "The way back must restore each plain file byte for byte, given that bits 2 to 14 of its first
@@ -317,33 +325,28 @@ pub fn convert_and_back(file: &[u8], out: &mut [u8], into: &mut [u8]) -> Convers
         into.new }
 {
     let to_elite = conversion::convert(Conversion::ToElite, file, out);
-    let why = to_elite.refusal;
-    if why.number != 0 {
-        let to_plain = picture::write_refused(why);
-        return ConversionRoundTrip { to_elite, to_plain };
+    let to_plain = match to_elite {
+        Ok(elite) => conversion::convert(Conversion::ToPlain, &out[..elite.length], into),
+        Err(refusal) => Err(refusal),
+    };
+    ConversionRoundTrip {
+        to_elite: to_elite.into(),
+        to_plain: to_plain.into(),
     }
-    let length = to_elite.length;
-    let to_plain = conversion::convert(Conversion::ToPlain, &out[..length], into);
-    ConversionRoundTrip { to_elite, to_plain }
 }
 
 // Document 02, ticket 13: "Each step gives offset, plane row, kind .. and length .., or done, or the whole reading's
 // refusal with its place, again on each later step." Step k over a file, from 0: its records come in file order, each
 // once, and after them, for every later k, done or the refusal.
-pub fn nth_step(file: &[u8], k: usize) -> Found
+pub fn nth_step(file: &[u8], k: usize) -> Result<Option<ListedRecord>, Refusal>
     ensures step { result ≡ listed file.now k }
     ensures records { RecordsAsRead file.now }
 {
-    let opened = degas_records::open_records(file);
-    let mut cursor = opened.cursor;
-    let mut i: usize = 0;
-    while i < k {
-        let s = degas_records::step(file, cursor);
-        cursor = s.next;
-        i += 1;
+    let mut cursor = degas_records::open_records(file)?;
+    for _ in 0..k {
+        cursor = degas_records::next_record(file, cursor).next;
     }
-    let last = degas_records::step(file, cursor);
-    last.found
+    degas_records::next_record(file, cursor).found
 }
 
 // Document 02, ticket 10: "The 1989 (001) and 2008 (000) lists read the header differently; keep both"; "For an
@@ -355,10 +358,8 @@ pub fn animation_by_both(file: &[u8]) -> AnswersByList
     ensures as_read { RefusesAsRead file.now result }
     ensures whole { result ≡ answers_by_list file.now }
 {
-    let list_1989 = neochrome_animation::animation(LIST_1989, file);
-    let list_2008 = neochrome_animation::animation(LIST_2008, file);
     AnswersByList {
-        list_1989,
-        list_2008,
+        list_1989: neochrome_animation::animation(FormatList::Of1989 as u8, file).into(),
+        list_2008: neochrome_animation::animation(FormatList::Of2008 as u8, file).into(),
     }
 }

@@ -1,5 +1,5 @@
 -- What is written is the summary of the whole input.
-use Rattle.std.proofs.Common.{◌≡◌, ℕ, ◌≤◌, ◌<◌, List, ◌++◌, length, take, sym, ap, ◌∙◌, arith, append-nil}
+use Rattle.std.proofs.Common.{◌≡◌, ℕ, ◌≤◌, ◌<◌, List, ◌++◌, length, take, refl, sym, ap, ◌∙◌, arith, append-nil}
 use Rattle.std.proofs.Common.{None, Some, Ok, Err, IfSome, OnOk, subst}
 use Rattle.std.proofs.Math.Seq.{take-append_seam}
 use Rattle.std.specs.Io.KnownBytes.{Consumes, IsAtEnd, Appends}
@@ -7,8 +7,8 @@ use Rattle.std.specs.declared.option.Option.{Option}
 use Rattle.std.specs.declared.result.Result.{Result}
 use native.Mathlib.Decide.{dec_lt}
 use lib.Seq.{length-take-le}
-use Rattle.report.specs.declared.SummaryAnswer.{SummaryAnswer}
-use Rattle.report.specs.Summary.{summary_bytes, deciding_bytes, summary, summarised, summary_answer, summary_output}
+use Rattle.outcome.specs.Outcome.{Outcome, map}
+use Rattle.report.specs.Summary.{summary_bytes, deciding_bytes, summary, summarised, summary_output}
 use Rattle.report.proofs.Long.{summary-first}
 
 -- the front that was read decides the summary of all that there was to read
@@ -29,12 +29,17 @@ summary-read (Some file) (Some rest) buffer n enough within front end = go (dec_
         ∙ take-append_seam (take n buffer) rest) in
         ap summary same ∙ summary-first file n (omega arith)
 
--- the text that is written is a file's summary
-pub text-written : (file out new : List ℕ) (answer : SummaryAnswer) → length out ≡ summary_bytes
-    → answer ≡ summary_answer (summarised file (length out)) → new ≡ summary_output (summarised file (length out)) out
-    → take answer.length new ≡ summary file
+-- an output of 512 bytes holds a file's summary
+pub summary-made : (file out : List ℕ) (made : Outcome ℕ) → length out ≡ summary_bytes
+    → made ≡ map length (summarised file (length out)) → made ≡ Ok (length (summary file))
 unfolding summarised
-text-written file out new answer size is written = rw (is, written, size) (take-append_seam (summary file) _)
+summary-made file out made size is = is ∙ rw size refl
+
+-- the text that is written is a file's summary
+pub text-written : (file out new : List ℕ) (n : ℕ) → length out ≡ summary_bytes → n ≡ length (summary file)
+    → new ≡ summary_output (summarised file (length out)) out → take n new ≡ summary file
+unfolding summarised
+text-written file out new n size is written = rw (is, written, size) (take-append_seam (summary file) _)
 
 -- what a successful write appends, where the front decides the summary
 pub appended : {T E : Type 0} (r : Result T E) (known before after : Option (List ℕ)) (front text : List ℕ)

@@ -19,6 +19,7 @@ fn read_front<R: Read>(input: &mut R, buffer: &mut [u8]) -> io::Result<usize>
     ensures end { IfOk result (λ n. n < length buffer.new → IsAtEnd (R.remaining input.new)) }
 {
     let mut count = 0;
+    // By while: the step is what one read gives.
     while count < buffer.len() {
         let read = input.read(&mut buffer[count..])?;
         if read == 0 {
@@ -41,8 +42,7 @@ fn summarise_input<R: Read, W: Write>(
 {
     let count = read_front(input, buffer)?;
     let mut text = [0u8; SUMMARY_BYTES];
-    let answer = report::summarise(&buffer[..count], &mut text);
-    let length = answer.length;
+    let length = report::summarise(&buffer[..count], &mut text).unwrap();
     output.write_all(&text[..length])
 }
 

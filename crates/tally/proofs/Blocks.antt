@@ -3,12 +3,12 @@ use mathlib.Core.Path.{◌≡◌, refl, sym, ap, ap₂, ◌∙◌}
 use mathlib.Core.Bool.{Bool, true, false, cond}
 use mathlib.Core.List.{List}
 use Prim.Native.Nat.{ℕ, zero, suc, ◌+◌, ◌-◌, ◌*◌, ◌/◌, ◌%◌, ◌^◌, ◌≤◌, ◌<◌}
-use native.Mathlib.Nat.{add-zero, add-mul, mul_assoc, mul-one, mul-zero, mul-le-mul, le_trans, zero-div}
+use native.Mathlib.Nat.{add-zero, add-mul, mul_assoc, mul-one, mul-zero, le_trans, zero-div}
 use native.Mathlib.Omega.{arith}
 use lib.Bits.{bit_and, and_le_l, and_le_r}
 use lib.Count.{ones}
 use lib.Dec.{eqb, ltb}
-use lib.ListN.{length, get_or, replicate, get_or-eq_default}
+use lib.ListN.{length, get_or, take, replicate, get_or-eq_default}
 use lib.Pow.{pow_mono, pow_pos}
 use borrow.Author.Tests.{eqb-true, eqb-false, ltb-true, ltb-false}
 use Rattle.lists.specs.Bytes.{Bytes}
@@ -23,16 +23,15 @@ use Rattle.words.proofs.Word.{word_at-lt}
 use Rattle.raster.specs.Offsets.{group_offset, word_offset}
 use Rattle.resolution.specs.declared.Resolution.{Resolution}
 use Rattle.resolution.specs.declared.Resolution.TheVariants.{Low, Medium, High}
-use Rattle.resolution.specs.Shapes.{screen_bytes, width_of, height_of, planes_of, line_bytes_of, raster_of}
-use Rattle.resolution.proofs.Shapes.{width-le, height-le}
+use Rattle.resolution.specs.Shapes.{width_of, planes_of, line_bytes_of, raster_of}
 use Rattle.lines.specs.Registers.{pixel_bit, register}
 use Rattle.lines.specs.Columns.{byte_of}
 use Rattle.tally.specs.declared.Block.{Block}
 use Rattle.tally.specs.declared.Rectangle.{Rectangle}
 use Rattle.tally.specs.Blocks.{digit, reversed, plane_block, block_at, reversed_block, block_register}
-use Rattle.tally.specs.Blocks.{part_register, blocks_register, alike, register_set, most_blocks, Spaced}
+use Rattle.tally.specs.Blocks.{part_register, blocks_register, alike, register_set}
 use Rattle.tally.specs.Rectangles.{line_sum, rectangle_sum}
-use Rattle.tally.specs.Counts.{is_register, counts, most_pixels, counted, counted_lines}
+use Rattle.tally.specs.Counts.{is_register, counts, counted, counted_lines}
 use Rattle.tally.proofs.Counts.{is_register-same, is_register-other, is_register-zero, is_register-one}
 use Rattle.tally.proofs.Counts.{counted_lines-counts}
 use Rattle.tally.proofs.Ones.{ones-zero, ones-digits, ones-part}
@@ -171,7 +170,7 @@ ones-reversed b wide v hv among h =
     ∙ sym (set-digit b wide v hv among (swapped_digit j) (omega arith)))
 
 -- the pixels with register v, of m that have t to their right, by the bytes in reverse order
-pub ones-pixels : (b : Block) → Digits64 b → (v m t : ℕ) → v < 16 → m + t ≤ 64
+ones-pixels : (b : Block) → Digits64 b → (v m t : ℕ) → v < 16 → m + t ≤ 64
     → ones (register_set (reversed_block b) (reversed (2 ^ (m + t) - 2 ^ t)) v)
     ≡ sum m (λ k. is_register v (part_register b m t k))
 ones-pixels b wide v m t hv h =
@@ -185,7 +184,7 @@ none-past v limit m f h below =
     ∙ omega (arith, sum-const m 0)
 
 -- what is counted when each set's size is added, and each register is below a limit
-pub counted-block : (b : Block) → Digits64 b → (limit : ℕ) → limit ≤ 16 → ((j : ℕ) → block_register b j < limit)
+counted-block : (b : Block) → Digits64 b → (limit : ℕ) → limit ≤ 16 → ((j : ℕ) → block_register b j < limit)
     → (c sets : List ℕ) (among m t : ℕ) → m + t ≤ 64 → among ≡ reversed (2 ^ (m + t) - 2 ^ t)
     → sets ≡ tabulate limit (λ v. register_set (reversed_block b) among v)
     → tabulate 16 (λ v. get_or c v 0 + ones (get_or sets v 0)) ≡ counted c (part_register b m t) m
@@ -210,38 +209,40 @@ counted-block b wide limit hl below c sets among m t h e is =
         ∙ ones-zero
         ∙ sym (none-past v limit m (part_register b m t) p (λ k. below (t + (m - 1 - k))))
 
-pub below-16 : (b : Block) (j : ℕ) → block_register b j < 16
-unfolding block_register
-below-16 b j = omega arith
-
-pub below-4 : (s : List ℕ) (at j : ℕ) → block_register (block_at s at 2) j < 4
-unfolding block_register
-below-4 s at j = omega (arith, zero-div (2 ^ j))
-
 pub below-2 : (s : List ℕ) (at j : ℕ) → block_register (block_at s at 1) j < 2
 unfolding block_register
 below-2 s at j = omega (arith, zero-div (2 ^ j))
 
--- a block of two planes
-abbrev pub block_of : ℕ → ℕ → Block
-block_of p0 p1 = record { first = p0; second = p1; third = 0; fourth = 0 }
+-- the planes can name each register
+below-planes : (s : List ℕ) (at planes j : ℕ) → 0 < planes → planes ≤ 4
+    → block_register (block_at s at planes) j < 2 ^ planes
+unfolding block_register
+below-planes s at zero j h l = absurd (omega arith)
+below-planes s at (suc zero) j h l = omega (arith, zero-div (2 ^ j))
+below-planes s at (suc (suc zero)) j h l = omega (arith, zero-div (2 ^ j))
+below-planes s at (suc (suc (suc zero))) j h l = omega (arith, zero-div (2 ^ j))
+below-planes s at (suc (suc (suc (suc zero)))) j h l = omega arith
+below-planes s at (suc (suc (suc (suc (suc n))))) j h l = absurd (omega arith)
+
+-- the sets of the registers that they name
+first-sets : (planes : ℕ) → 0 < planes → planes ≤ 4 → (f : ℕ → ℕ)
+    → (2 ^ planes ≤ 16) × (take (1 * 2 ^ planes % 2 ^ 64) (tabulate 16 f) ≡ tabulate (2 ^ planes) f)
+unfolding tabulate
+first-sets zero h l f = absurd (omega arith)
+first-sets (suc zero) h l f = (omega arith, refl)
+first-sets (suc (suc zero)) h l f = (omega arith, refl)
+first-sets (suc (suc (suc zero))) h l f = (omega arith, refl)
+first-sets (suc (suc (suc (suc zero)))) h l f = (omega arith, refl)
+first-sets (suc (suc (suc (suc (suc n))))) h l f = absurd (omega arith)
 
 reversed-zero : reversed 0 ≡ 0
 unfolding reversed from_bytes byte_of
 reversed-zero = refl
 
--- the planes that are not there are 0
-pub two-planes : (s : List ℕ) (at p q : ℕ) → p ≡ reversed (plane_block s at 4) → q ≡ reversed (plane_block s (at + 2) 4)
-    → block_of p q ≡ reversed_block (block_at s at 2)
-two-planes s at p q e f =
-    ap₂ (λ (m n : ℕ). block_of m n) e f
-    ∙ ap (λ (z : ℕ). record {
-      first = reversed (plane_block s at 4);
-      second = reversed (plane_block s (at + 2) 4);
-      third = z;
-      fourth = z;
-    })
-    (sym reversed-zero)
+-- a plane that is not there is 0, in either order of its bytes
+pub reversed-present : (present : Bool) (p : ℕ) → cond present (reversed p) 0 ≡ reversed (cond present p 0)
+reversed-present true p = refl
+reversed-present false p = sym reversed-zero
 
 -- ---- the pixels of a scan line
 
@@ -357,13 +358,26 @@ present-lt : (here : Bool) (p : ℕ) → p < 2 ^ 64 → cond here p 0 < 2 ^ 64
 present-lt true p h = h
 present-lt false p h = omega arith
 
-pub block-digits : (s : List ℕ) → Bytes s → (at planes : ℕ) → Digits64 (block_at s at planes)
+block-digits : (s : List ℕ) → Bytes s → (at planes : ℕ) → Digits64 (block_at s at planes)
 block-digits s bytes at planes = (
   plane_block-lt s bytes at (planes * 2),
   present-lt (ltb 1 planes) _ (plane_block-lt s bytes (at + 2) (planes * 2)),
   present-lt (ltb 2 planes) _ (plane_block-lt s bytes (at + 4) (planes * 2)),
   present-lt (ltb 3 planes) _ (plane_block-lt s bytes (at + 6) (planes * 2)),
 )
+
+-- what is counted in a part of a block of the screen
+pub counted-part : (s : List ℕ) → Bytes s → (at planes : ℕ) → 0 < planes → planes ≤ 4
+    → (c : List ℕ) (among m t : ℕ) → m + t ≤ 64 → among ≡ reversed (2 ^ (m + t) - 2 ^ t)
+    → (sets : List ℕ) → sets ≡ tabulate 16 (λ v. register_set (reversed_block (block_at s at planes)) among v)
+    → tabulate 16 (λ v. get_or c v 0 + ones (get_or (take (1 * 2 ^ planes % 2 ^ 64) sets) v 0))
+    ≡ counted c (part_register (block_at s at planes) m t) m
+counted-part s bytes at planes h l c among m t fits e sets is =
+    let b : Block = block_at s at planes in
+    let first = first-sets planes h l (λ v. register_set (reversed_block b) among v) in
+    counted-block b (block-digits s bytes at planes) (2 ^ planes) first.0 (λ j. below-planes s at planes j h l)
+    c (take (1 * 2 ^ planes % 2 ^ 64) sets) among m t fits e
+    (ap (λ (i : List ℕ). take (1 * 2 ^ planes % 2 ^ 64) i) is ∙ first.1)
 
 -- a digit of the one plane is the register
 one-register : (s : List ℕ) (at j : ℕ) → digit (plane_block s at 2) j ≡ is_register 1 (block_register (block_at s at 1) j)
@@ -410,34 +424,6 @@ lines-counted s r a bytes =
     ap (is_register v)
     (ap (λ (o : ℕ). blocks_register s o (planes_of r) (a.left + i)) (sym (add-mul a.top j (line_bytes_of r)))
     ∙ block-register s r (a.top + j) (a.left + i) bytes))))
-
--- where they lie
-pub lines-within : (r : Resolution) (left columns top lines : ℕ) → left + columns ≤ width_of r → top + lines ≤ height_of r
-    → (lines ≤ most_blocks) × (lines * columns ≤ most_pixels) × Spaced (planes_of r) (line_bytes_of r)
-    × (top * line_bytes_of r ≤ screen_bytes)
-    × ((j x : ℕ) → j < lines → x < left + columns
-    → top * line_bytes_of r + x / 64 * (planes_of r * 8) + j * line_bytes_of r + planes_of r * 8 ≤ screen_bytes)
-lines-within r left columns top lines across down =
-    let n : lines ≤ 400 = omega (arith, height-le r) in
-    let m : columns ≤ 640 = omega (arith, width-le r) in
-    (omega arith, mul-le-mul n m, spaced r, start r down, blocks r across down)
-  where
-    spaced : (r : Resolution) → Spaced (planes_of r) (line_bytes_of r)
-    spaced Low = (λ e. absurd (omega (arith, e)), λ e f. refl)
-    spaced Medium = (λ e. absurd (omega (arith, e)), λ e f. absurd (f refl))
-    spaced High = (λ e f. refl, λ e. absurd (e refl))
-
-    start : (r : Resolution) → top + lines ≤ height_of r → top * line_bytes_of r ≤ screen_bytes
-    start Low h = omega arith
-    start Medium h = omega arith
-    start High h = omega arith
-
-    blocks : (r : Resolution) → left + columns ≤ width_of r → top + lines ≤ height_of r → (j x : ℕ) → j < lines
-        → x < left + columns
-        → top * line_bytes_of r + x / 64 * (planes_of r * 8) + j * line_bytes_of r + planes_of r * 8 ≤ screen_bytes
-    blocks Low h k j x i l = omega arith
-    blocks Medium h k j x i l = omega arith
-    blocks High h k j x i l = omega arith
 
 -- pixel k of block q of a run of blocks
 run-pixel : (s : List ℕ) (start planes q k : ℕ) → k < 64
@@ -505,16 +491,3 @@ run-counted s r a bytes left all =
     ∙ line-pixel s r a.top y x
     ∙ block-register s r (a.top + y) x bytes
     ∙ ap (λ (i : ℕ). register s r i (a.top + y)) (sym e)))))
-
--- where they lie
-pub run-within : (r : Resolution) (top lines : ℕ) → top + lines ≤ height_of r
-    → (lines * (width_of r / 64) ≤ most_blocks) × (lines * (width_of r / 64) * 64 ≤ most_pixels)
-    × Spaced (planes_of r) (planes_of r * 8)
-    × ((j x : ℕ) → j < lines * (width_of r / 64) → x < 0 + 64
-    → top * line_bytes_of r + x / 64 * (planes_of r * 8) + j * (planes_of r * 8) + planes_of r * 8 ≤ screen_bytes)
-run-within Low top lines h =
-    (omega arith, omega arith, (λ e. absurd (omega (arith, e)), λ e f. refl), λ j x i l. omega arith)
-run-within Medium top lines h =
-    (omega arith, omega arith, (λ e. absurd (omega (arith, e)), λ e f. absurd (f refl)), λ j x i l. omega arith)
-run-within High top lines h =
-    (omega arith, omega arith, (λ e f. absurd (f refl), λ e. absurd (e refl)), λ j x i l. omega arith)

@@ -1,4 +1,5 @@
 -- Laws of bytes in reverse order: digit for digit, and as many digits are set.
+use Rattle.std.specs.Int.{w64, swap_bytes}
 use mathlib.Core.Path.{◌≡◌, sym, ap, ap₂, ◌∙◌}
 use Prim.Native.Nat.{ℕ, ◌+◌, ◌-◌, ◌*◌, ◌/◌, ◌%◌, ◌^◌, ◌<◌}
 use native.Mathlib.Omega.{arith}
@@ -67,8 +68,12 @@ ones-swapped a b ha hb e =
 
 -- ---- how the code reverses
 
+pub swapped_bytes : (x : ℕ) → swap_bytes w64 x ≡ reversed x
+unfolding reversed from_bytes byte_of
+swapped_bytes x = omega arith
+
 -- from words that are made of bytes
-pub from_bytes-words : (r : ℕ → ℕ)
+from_bytes-words : (r : ℕ → ℕ)
     → (((r 0 * 256 + r 1) * 65536 + (r 2 * 256 + r 3)) * 65536 + (r 4 * 256 + r 5)) * 65536 + (r 6 * 256 + r 7)
     ≡ from_bytes 8 (λ k. r (7 - k))
 unfolding from_bytes

@@ -4,3 +4,4 @@ pub mod Counts
 pub mod Ones
 pub mod Rectangles
 pub mod Totals
+pub mod Sets

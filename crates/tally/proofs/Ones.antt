@@ -1,12 +1,12 @@
 -- Laws of set digits: they are counted one by one, and those of `&` and of `!` are products and complements.
 use mathlib.Core.Path.{◌≡◌, refl, sym, ap, ◌∙◌}
-use Prim.Native.Nat.{ℕ, zero, suc, ◌+◌, ◌-◌, ◌*◌, ◌/◌, ◌%◌, ◌^◌, ◌<◌}
+use Prim.Native.Nat.{ℕ, zero, suc, ◌+◌, ◌-◌, ◌*◌, ◌/◌, ◌%◌, ◌^◌, ◌<◌, ◌≤◌}
 use native.Mathlib.Nat.{not-suc-le-zero, pow-suc, add-zero, mod-lt, zero-div, sub-zero}
 use native.Mathlib.Omega.{arith}
 use lib.Arith.{lt-one}
 use lib.Bits.{bit_and, and_shr, and_mod, and_high}
 use lib.Count.{ones, ones_step, ones_cat}
-use lib.Pow.{shr-shr, pow_pos}
+use lib.Pow.{shr-shr, pow_pos, ones_split, high_ones, high, ones_lt, shl_exact}
 use Rattle.lists.specs.Sum.{sum}
 use Rattle.lists.proofs.Digits.{digit-above, digit-below}
 use Rattle.lists.proofs.Sum.{sum-ext}
@@ -79,3 +79,18 @@ all-digit w j l =
     ap (λ (i : ℕ). digit i j) (sym (sub-zero (2 ^ w - 1)))
     ∙ not_digit w 0 j (pow_pos w) l
     ∙ ap (λ (i : ℕ). 1 - i % 2) (zero-div (2 ^ j))
+
+-- ---- the digits of a part
+
+-- the m highest of 64 digits that are all set
+all-high : (m n : ℕ) → (2 ^ (m + n) - 1) / 2 ^ n ≡ 2 ^ m - 1
+all-high m n = ap (λ (i : ℕ). i / 2 ^ n) (ones_split m n) ∙ high (2 ^ m - 1) n (ones_lt n)
+
+-- all digits but the lowest 64 - m, moved up
+pub part_digits : (m t : ℕ) → m + t ≤ 64 → ((2 ^ 64 - 1) / 2 ^ (64 - m) * 2 ^ t) % 2 ^ 64 ≡ 2 ^ (m + t) - 2 ^ t
+part_digits m t h =
+    let e : 64 ≡ m + (64 - m) = omega arith in
+    ap (λ (i : ℕ). ((2 ^ i - 1) / 2 ^ (64 - m) * 2 ^ t) % 2 ^ 64) e
+    ∙ ap (λ (i : ℕ). (i * 2 ^ t) % 2 ^ 64) (all-high m (64 - m))
+    ∙ shl_exact m t 64 (ones_lt m) h
+    ∙ sym (high_ones m t)

@@ -2,12 +2,14 @@
 -- A scan line is a run of blocks. Their registers are those of crate lines (proofs/Blocks.antt, `block-register`).
 -- The code reads each plane's eight bytes in reverse order (`reversed_block`); as many digits are set.
 -- Only contracts of private functions cite this file.
-use Rattle.std.specs.Prelude.{ℕ, zero, suc, ◌+◌, ◌*◌, ◌-◌, ◌/◌, ◌%◌, ◌^◌, cond, List, ◌≡◌, ltb}
+use Rattle.std.specs.Prelude.{ℕ, zero, suc, ◌+◌, ◌*◌, ◌-◌, ◌/◌, ◌%◌, ◌^◌, ◌<◌, ◌≤◌, cond, List, ◌≡◌, length, ltb}
 use Rattle.std.specs.Int.Bits.{bit_and}
 use Rattle.lists.specs.Digits.{from_bytes}
 use Rattle.words.specs.Word.{word_at}
 use Rattle.lines.specs.Columns.{byte_of}
+use Rattle.resolution.specs.Shapes.{screen_bytes}
 use Rattle.tally.specs.declared.Block.{Block}
+use Rattle.tally.specs.declared.Strip.{Strip}
 
 -- ---- numbers of 64 binary digits
 
@@ -78,7 +80,16 @@ register_set b among v =
 abbrev pub most_blocks : ℕ
 most_blocks = 4000
 
--- 1, 2 or 4 planes; blocks of one plane follow each other or lie one below the other
+-- blocks of one plane follow each other or lie one below the other
 abbrev pub Spaced : ℕ → ℕ → Type 0
-Spaced planes step =
-    (planes ≡ 1 → (step ≡ 8 → ⊥) → step ≡ 80) × ((planes ≡ 1 → ⊥) → (planes ≡ 2 → ⊥) → planes ≡ 4)
+Spaced planes step = planes ≡ 1 → (step ≡ 8 → ⊥) → step ≡ 80
+
+-- blocks that lie within the screen
+abbrev pub OnScreen : List ℕ → ℕ → Strip → Type 0
+OnScreen s planes b =
+    (b.blocks ≤ most_blocks) × ((j : ℕ) → j < b.blocks → b.at + j * b.step + planes * 8 ≤ screen_bytes)
+    × (screen_bytes ≤ length s)
+
+-- in block j of them, the register of pixel k of the m pixels that have t to their right
+abbrev pub strip_register : List ℕ → ℕ → Strip → ℕ → ℕ → ℕ → ℕ → ℕ
+strip_register s planes b m t j = part_register (block_at s (b.at + j * b.step) planes) m t

@@ -1,4 +1,5 @@
 -- Demand 2 of Tiny files: one is accepted exactly when it fits, and then gives what its parts are.
+use Rattle.std.specs.Prelude.{Ok, Some}
 use mathlib.Core.Path.{◌≡◌, refl, sym, ap, ◌∙◌}
 use mathlib.Core.Logic.{◌↔◌}
 use mathlib.Core.Bool.{not, ◌||◌}
@@ -11,12 +12,11 @@ use borrow.Author.Tests.{ltb-false, eqb-true, eqb-false, not-true, not-false}
 use Rattle.lists.specs.Bytes.{Bytes}
 use Rattle.lists.proofs.Bytes.{bytes_take, bytes_drop}
 use Rattle.lists.proofs.Cond.{cond-elim, cond-ltb, or-false}
-use Rattle.outcome.specs.Outcome.{Outcome, accepted, Judged}
+use Rattle.outcome.specs.Outcome.{Outcome, Judged}
 use Rattle.outcome.proofs.Outcome.{judged-value}
 use Rattle.words.specs.Word.{word_at}
 use Rattle.resolution.specs.declared.Resolution.{Resolution}
 use Rattle.resolution.specs.declared.Resolution.TheVariants.{Low, Medium, High}
-use Rattle.resolution.specs.declared.Chosen.TheVariants.{Known}
 use Rattle.resolution.specs.Shapes.{screen_bytes}
 use Rattle.resolution.specs.Choice.{chosen}
 use Rattle.picture.specs.Reading.{Reading}
@@ -36,7 +36,7 @@ use Rattle.tiny.proofs.Screens.{length-screen_bytes_of, screen-word, screen-word
 use Rattle.tiny.proofs.Reading.{tiny-sections, sections-fit, runs_done, length-controls}
 
 -- a number below 3 names a resolution
-known-below : (n : ℕ) → n < resolutions → (r : Resolution) × (chosen n ≡ Known r)
+known-below : (n : ℕ) → n < resolutions → (r : Resolution) × (chosen n ≡ Some r)
 known-below zero h = (Low, refl)
 known-below (suc zero) h = (Medium, refl)
 known-below (suc (suc zero)) h = (High, refl)
@@ -62,13 +62,13 @@ module _ (file : List ℕ) where
         cond-ltb (λ (k : ℕ). length file ≡ k + control_offset + body_length file → shortest_length ≤ length file)
         highest_plain (resolution_byte file) (λ _ e. omega arith) (λ _ e. omega arith) a.fits
 
-    fits-accepted : (area : ℕ) → screen_bytes ≤ area → read_tiny file area ≡ accepted (tiny_given a)
+    fits-accepted : (area : ℕ) → screen_bytes ≤ area → read_tiny file area ≡ Ok (tiny_given a)
     fits-accepted area room =
         let p : Expansion = filled (control_count file) (data_count file) a.runs a.words in
         tiny-sections file area room long a.allowed
         ∙ sections-fit file a.fits
         ∙ ap (read_runs file) expanded-is
-        ∙ runs_done file p refl refl (omega arith) (omega (arith, a.full))
+        ∙ runs_done file p refl (omega arith) (omega (arith, a.full))
 
   -- a file fits in one way only
   pub tiny-unique : (a b : AcceptsTiny file) → (a.words ≡ b.words) × (a.runs ≡ b.runs)
@@ -145,14 +145,14 @@ module _ (file : List ℕ) (area : ℕ) where
 
   module _ (room : screen_bytes ≤ area) where
     -- a file that fits is accepted
-    pub tiny-complete : (a : AcceptsTiny file) → read_tiny file area ≡ accepted (tiny_given a)
+    pub tiny-complete : (a : AcceptsTiny file) → read_tiny file area ≡ Ok (tiny_given a)
     tiny-complete a = fits-accepted file a area room
 
     -- accepted exactly when it fits, and then with this
-    pub tiny-acceptance : Bytes file → (q : Reading) → (read_tiny file area ≡ accepted q) ↔ Given q
+    pub tiny-acceptance : Bytes file → (q : Reading) → (read_tiny file area ≡ Ok q) ↔ Given q
     tiny-acceptance bytes q = (
       judged-value Given (read_tiny file area) q (tiny-judged bytes),
-      λ g. tiny-complete g.0 ∙ ap accepted (sym g.1),
+      λ g. tiny-complete g.0 ∙ ap Ok (sym g.1),
     )
 
   -- every accepted reading is whole

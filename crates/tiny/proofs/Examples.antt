@@ -1,11 +1,12 @@
 -- Small files worked out, each a case that is easily read wrong (document 02, ticket 1).
+use Rattle.std.specs.Prelude.{Ok, Err}
 use mathlib.Core.Path.{◌≡◌, refl}
 use mathlib.Core.List.{List, [], ◌∷◌, ◌++◌}
 use Prim.Native.Nat.{ℕ}
 use native.Mathlib.Omega.{arith}
 use lib.ListN.{replicate, length-append, length-replicate}
 use Rattle.lists.specs.Tabulate.{tabulate}
-use Rattle.outcome.specs.Outcome.{accepted, refused, refusal, refuse}
+use Rattle.outcome.specs.Outcome.{refusal, refuse}
 use Rattle.words.specs.Word.{word_at, words_at}
 use Rattle.resolution.specs.Shapes.{screen_bytes}
 use Rattle.tiny.specs.Layout.{palette_start}
@@ -55,7 +56,7 @@ one-byte-missing = refl
 
 -- a file is refused with a number at a place, counted from the file's start
 abbrev RefusedAt : List ℕ → ℕ → ℕ → Type 0
-RefusedAt file number place = read_tiny file screen_bytes ≡ refused (refusal number place)
+RefusedAt file number place = read_tiny file screen_bytes ≡ Err (refusal number place)
 
 pub record FaultyRuns : Type 0 where
   -- control byte 128 is not defined
@@ -104,7 +105,7 @@ one_run-accepts = record {
   expands = long_repeat {high = 62} {low = 128} {count = 16000} {w = 1801} (refl, omega arith, omega arith) empty;
 }
 
-pub one_run-read : read_tiny one_run screen_bytes ≡ accepted (tiny_reading one_run 1 one_word)
+pub one_run-read : read_tiny one_run screen_bytes ≡ Ok (tiny_reading one_run 1 one_word)
 unfolding one_run-accepts
 one_run-read = tiny-complete one_run screen_bytes (omega arith) one_run-accepts
 

@@ -1,5 +1,6 @@
 -- Laws of reading a Tiny file: each case of its judgement.
-use mathlib.Core.Path.{◌≡◌, sym, ap, ◌∙◌}
+use Rattle.std.specs.Prelude.{Ok, Err}
+use mathlib.Core.Path.{◌≡◌, ap, ◌∙◌}
 use Prim.Native.Nat.{ℕ, ◌+◌, ◌-◌, ◌*◌, ◌/◌, ◌≤◌, ◌<◌}
 use native.Mathlib.Omega.{arith}
 use mathlib.Core.List.{List}
@@ -10,20 +11,17 @@ use Rattle.lists.specs.Over.{over}
 use Rattle.lists.specs.Tabulate.{tabulate}
 use Rattle.lists.proofs.Over.{over-whole}
 use Rattle.lists.proofs.Parts.{tail-part}
-use Rattle.outcome.specs.Outcome.{accepted, refused, refusal, refuse, none}
+use Rattle.outcome.specs.Outcome.{refusal, refuse}
 use Rattle.outcome.specs.Refusal.{area_too_short, wrong_length, unknown_resolution, size_mismatch}
 use Rattle.words.specs.Word.{word_at, words_bytes}
 use Rattle.words.proofs.Word.{length-words_bytes}
 use Rattle.resolution.specs.Shapes.{screen_bytes}
-use Rattle.picture.specs.declared.Picture.{Picture}
-use Rattle.picture.specs.Reading.{read_answer}
 use Rattle.picture.proofs.Reading.{area-short, area-fits}
-use Rattle.tiny_runs.specs.declared.Expanded.{Expanded}
 use Rattle.tiny.specs.Layout.{shortest_length, highest_byte, resolution_byte, control_start, control_count, data_count}
 use Rattle.tiny.specs.Layout.{body_length, control_section, data_section}
-use Rattle.tiny_runs.specs.Expansion.{Expansion, expand_section, counted}
+use Rattle.tiny_runs.specs.Expansion.{Expansion, expand_section}
 use Rattle.tiny.specs.ScreenWords.{screen_words, expanded_word, screen_bytes_of}
-use Rattle.tiny.specs.Reading.{expanded, tiny_picture, tiny_reading, read_runs, read_sections, read_tiny}
+use Rattle.tiny.specs.Reading.{expanded, tiny_reading, read_runs, read_sections, read_tiny}
 use Rattle.tiny_runs.proofs.Expansion.{bounded}
 use Rattle.tiny.proofs.Screens.{ordered_words}
 
@@ -76,39 +74,33 @@ module _ (file : List ℕ) where
 
 -- ---- after the runs
 
-module _ (file : List ℕ) (p : Expansion) {done : Expanded} (is : done ≡ counted p) where
-  no-fault : done.fault ≡ 0 → p.fault ≡ 0
-  no-fault e = sym (ap (λ (d : Expanded). d.fault) is) ∙ e
-
-  pub runs-fault : (done.fault ≡ 0 → ⊥)
-      → read_runs file p ≡ refused (refusal done.fault (control_start file + done.controls.0))
+module _ (file : List ℕ) (p : Expansion) where
+  pub runs-fault : (p.fault ≡ 0 → ⊥) → read_runs file p ≡ Err (refusal p.fault (control_start file + p.controls))
   unfolding read_runs
-  runs-fault e =
-      let f : p.fault ≡ 0 → ⊥ = λ q. e (ap (λ (d : Expanded). d.fault) is ∙ q) in
-      rw is (simp (ne_eqb p.fault 0 f))
+  runs-fault e = simp (ne_eqb p.fault 0 e)
 
-  module _ (ok : done.fault ≡ 0) where
-    pub runs-data : done.datas.0 < data_count file → read_runs file p ≡ refuse size_mismatch
+  module _ (ok : p.fault ≡ 0) where
+    pub runs-data : p.datas < data_count file → read_runs file p ≡ refuse size_mismatch
     unfolding read_runs
-    runs-data h = simp (eq-eqb p.fault 0 (no-fault ok), lt-ltb p.datas (data_count file) (rw is at h))
+    runs-data h = simp (eq-eqb p.fault 0 ok, lt-ltb p.datas (data_count file) h)
 
-    module _ (all : data_count file ≤ done.datas.0) where
-      pub runs-words : done.words < screen_words → read_runs file p ≡ refuse size_mismatch
+    module _ (all : data_count file ≤ p.datas) where
+      pub runs-words : length p.made < screen_words → read_runs file p ≡ refuse size_mismatch
       unfolding read_runs
       runs-words k =
           simp (
-            eq-eqb p.fault 0 (no-fault ok),
-            le-ltb p.datas (data_count file) (rw is at all),
-            lt-ltb (length p.made) screen_words (rw is at k),
+            eq-eqb p.fault 0 ok,
+            le-ltb p.datas (data_count file) all,
+            lt-ltb (length p.made) screen_words k,
           )
 
-      pub runs_done : screen_words ≤ done.words → read_runs file p ≡ accepted (tiny_reading file p.runs p.made)
+      pub runs_done : screen_words ≤ length p.made → read_runs file p ≡ Ok (tiny_reading file p.runs p.made)
       unfolding read_runs
       runs_done k =
           simp (
-            eq-eqb p.fault 0 (no-fault ok),
-            le-ltb p.datas (data_count file) (rw is at all),
-            le-ltb (length p.made) screen_words (rw is at k),
+            eq-eqb p.fault 0 ok,
+            le-ltb p.datas (data_count file) all,
+            le-ltb (length p.made) screen_words k,
           )
 
 -- ---- the sections of a file
@@ -133,13 +125,6 @@ module _ (file : List ℕ) where
       is
       ∙ ap (λ (m : List ℕ). over (words_bytes (tabulate screen_words (λ p. word_at m (expanded_word p * 2)))) area) all
       ∙ ap (λ (ws : List ℕ). over (words_bytes ws) area) (ordered_words words full)
-
-  -- the answer of an accepted file
-  pub answer-is : (p : Expansion) (picture : Picture) (body runs : ℕ) → picture ≡ tiny_picture file
-      → body ≡ body_length file → runs ≡ p.runs
-      → record { refusal = none; picture = picture; body = body; records = runs }
-      ≡ read_answer (accepted (tiny_reading file p.runs p.made))
-  answer-is p picture body runs ep eb er = rw (ep, eb, er)
 
   module _ (fits : length file ≡ control_start file + body_length file) where
     pub length-controls : length (control_section file) ≡ control_count file

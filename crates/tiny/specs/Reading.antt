@@ -1,6 +1,6 @@
 -- Reading a Tiny file (document 02, ticket 1): the whole judgement, and what an accepted file holds.
-use Rattle.std.specs.Prelude.{ℕ, ◌+◌, not, cond, ◌||◌, List, length, ltb, eqb}
-use Rattle.outcome.specs.Outcome.{Outcome, accepted, refused, refusal, refuse_if}
+use Rattle.std.specs.Prelude.{ℕ, ◌+◌, not, cond, ◌||◌, List, length, ltb, eqb, Ok, Err}
+use Rattle.outcome.specs.Outcome.{Outcome, refusal, refuse_if}
 use Rattle.outcome.specs.Refusal.{wrong_length, unknown_resolution, size_mismatch}
 use Rattle.words.specs.Word.{words_at}
 use Rattle.picture.specs.declared.Picture.{Picture}
@@ -28,9 +28,9 @@ tiny_reading file runs words =
 -- missing
 unfoldable pub read_runs : List ℕ → Expansion → Outcome Reading
 read_runs file p =
-    cond (not (eqb p.fault 0)) (refused (refusal p.fault (control_start file + p.controls)))
+    cond (not (eqb p.fault 0)) (Err (refusal p.fault (control_start file + p.controls)))
     (refuse_if (ltb p.datas (data_count file) || ltb (length p.made) screen_words) size_mismatch
-    (accepted (tiny_reading file p.runs p.made)))
+    (Ok (tiny_reading file p.runs p.made)))
 
 -- 3 (under 41 with rotation, or not what its counts give), then the runs
 unfoldable pub read_sections : List ℕ → Outcome Reading

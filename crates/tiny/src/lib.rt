@@ -3,18 +3,19 @@
 
 ghost use Rattle.std.specs.Prelude.{◌≡◌, ◌+◌, ◌*◌, ◌≤◌, ◌<◌, length};
 ghost use Rattle.lists.specs.Over.{over};
+ghost use Rattle.outcome.specs.Outcome.{map};
 ghost use Rattle.lists.specs.Tabulate.{tabulate};
-ghost use Rattle.words.specs.Word.{word_at, word_bytes, words_bytes};
-ghost use Rattle.tiny_runs.specs.Expansion.{counted};
+ghost use Rattle.words.specs.Word.{word_at, words_bytes};
+ghost use Rattle.tiny_runs.specs.Expansion.{Counted};
 ghost use Rattle.resolution.specs.Shapes.{screen_bytes};
-ghost use Rattle.picture.specs.Reading.{read_answer, read_area};
+ghost use Rattle.picture.specs.Reading.{picture_read, read_area};
 ghost use Rattle.tiny.specs.Layout.{resolution_byte, palette_start, control_count, data_count, control_start};
 ghost use Rattle.tiny.specs.Layout.{body_length};
 ghost use Rattle.tiny.specs.ScreenWords.{screen_words, line_words, column_words, sets, groups, expanded_word};
 ghost use Rattle.tiny.specs.Reading.{expanded, tiny_picture, read_runs, read_sections, read_tiny};
 
-use outcome::{AREA_TOO_SHORT, SIZE_MISMATCH, UNKNOWN_RESOLUTION, WRONG_LENGTH};
-use picture::{Picture, ReadAnswer};
+use outcome::{Reason, Refusal};
+use picture::{Picture, PictureRead};
 use resolution::SCREEN_BYTES;
 use tiny_runs::{ControlBytes, DataWords, Expanded};
 
@@ -67,10 +68,11 @@ const GROUP_BYTES: usize = 8;
 fn resolution_byte(file: &[u8]) -> u8
     ensures { result ≡ resolution_byte file.now }
 {
-    if 0 < file.len() { file[0] } else { 0 }
+    words::byte_at(file, 0)
 }
 
 // Where the palette starts.
+#[tactic(auto, unfolding(crate::specs::Layout::palette_start))]
 fn palette_start(file: &[u8]) -> u32
     ensures { result ≡ palette_start file.now }
 {
@@ -81,6 +83,7 @@ fn palette_start(file: &[u8]) -> u32
 }
 
 // The count of control bytes.
+// Beside `data_count`: each gives a type of its own, so that one for both is no plainer.
 fn control_count(file: &[u8]) -> ControlBytes
     ensures result_value { result.0 ≡ control_count file.now }
     ensures result_bound { result.0 < 65536 }
@@ -90,6 +93,7 @@ fn control_count(file: &[u8]) -> ControlBytes
 }
 
 // The count of data words.
+// Beside `control_count`: each gives a type of its own, so that one for both is no plainer.
 fn data_count(file: &[u8]) -> DataWords
     ensures result_value { result.0 ≡ data_count file.now }
     ensures result_bound { result.0 < 65536 }
@@ -130,7 +134,7 @@ fn picture_of(file: &[u8]) -> Picture
 fn expand_sections(file: &[u8], made: &mut [u8]) -> Expanded
     requires file_len { length file.now ≡ control_start file.now + body_length file.now }
     requires made_len { length made.old ≡ screen_bytes }
-    ensures answer { result ≡ counted (expanded file.now) }
+    ensures answer { Counted result (expanded file.now) }
     ensures made { made.new ≡ over (words_bytes (expanded file.now).made) made.old }
     ensures used { result.controls.0 < 65536 }
 {
@@ -142,15 +146,6 @@ fn expand_sections(file: &[u8], made: &mut [u8]) -> Expanded
 
 // ---- the expanded words put into a screen
 
-// The word of two bytes.
-fn put_word(high: u8, low: u8, out: &mut [u8])
-    requires { 2 ≤ length out.old }
-    ensures { out.new ≡ over (word_bytes (high * 256 + low)) out.old }
-{
-    out[0] = high;
-    out[1] = low;
-}
-
 // Group g of line y: a word of each set.
 fn put_group(made: &[u8], y: usize, g: usize, out: &mut [u8])
     requires y_lt_column_words { (y < column_words) × (g < groups) }
@@ -161,7 +156,7 @@ fn put_group(made: &[u8], y: usize, g: usize, out: &mut [u8])
 {
     for s in 0..SETS {
         let at = g * COLUMN_BYTES + y * 2 + s * SET_BYTES;
-        put_word(made[at], made[at + 1], &mut out[s * 2..]);
+        words::put_word(words::word_of(made[at], made[at + 1]), &mut out[s * 2..]);
     }
 }
 
@@ -194,35 +189,36 @@ fn put_screen(made: &[u8], area: &mut [u8])
 // The runs of a file whose sections have their lengths, expanded into bytes of the reader's own and then put into the
 // area.
 #[inline(never)]
-fn read_by_buffer(file: &[u8], area: &mut [u8]) -> ReadAnswer
+#[tactic(auto, unfolding(crate::specs::Reading::read_runs))]
+fn read_by_buffer(file: &[u8], area: &mut [u8]) -> Result<PictureRead, Refusal>
     requires file_len { length file.now ≡ control_start file.now + body_length file.now }
     requires screen_bytes_in_bounds { screen_bytes ≤ length area.old }
-    ensures answer { result ≡ read_answer (read_runs file.now (expanded file.now)) }
+    ensures answer { result ≡ map picture_read (read_runs file.now (expanded file.now)) }
     ensures area { area.new
         ≡ read_area (read_runs file.now (expanded file.now)) area.old }
 {
     let start = control_start(file);
-    let datas = data_count(file);
     let mut made = [0u8; SCREEN_BYTES];
     let done = expand_sections(file, &mut made);
-    if done.fault != 0 {
-        return picture::read_refused(outcome::refuse_at(done.fault, start + done.controls.0));
+    if let Some(reason) = done.fault {
+        return Err(outcome::refuse_at(reason, start + done.controls.0));
     }
-    if done.datas.0 < datas.0 {
-        return picture::read_refused(outcome::refuse(SIZE_MISMATCH));
-    }
-    if done.words < SCREEN_WORDS {
-        return picture::read_refused(outcome::refuse(SIZE_MISMATCH));
+    if done.datas.0 < data_count(file).0 || done.words < SCREEN_WORDS {
+        return Err(outcome::refuse(Reason::SizeMismatch));
     }
     put_screen(&made, area);
-    picture::read_done(picture_of(file), file.len() - start, done.runs)
+    Ok(PictureRead {
+        picture: picture_of(file),
+        body: file.len() - start,
+        records: done.runs,
+    })
 }
 
 // The same, with an area cut to the screen.
-fn read_runs(file: &[u8], area: &mut [u8]) -> ReadAnswer
+fn read_runs(file: &[u8], area: &mut [u8]) -> Result<PictureRead, Refusal>
     requires file_len { length file.now ≡ control_start file.now + body_length file.now }
     requires screen_bytes_in_bounds { screen_bytes ≤ length area.old }
-    ensures answer { result ≡ read_answer (read_runs file.now (expanded file.now)) }
+    ensures answer { result ≡ map picture_read (read_runs file.now (expanded file.now)) }
     ensures area { area.new
         ≡ read_area (read_runs file.now (expanded file.now)) area.old }
 {
@@ -234,36 +230,38 @@ fn read_runs(file: &[u8], area: &mut [u8]) -> ReadAnswer
 }
 
 // A file with an allowed resolution byte: the length that its counts give is judged.
-fn read_sections(file: &[u8], area: &mut [u8]) -> ReadAnswer
+#[tactic(auto, unfolding(crate::specs::Reading::read_sections))]
+fn read_sections(file: &[u8], area: &mut [u8]) -> Result<PictureRead, Refusal>
     requires { screen_bytes ≤ length area.old }
-    ensures answer { result ≡ read_answer (read_sections file.now) }
+    ensures answer { result ≡ map picture_read (read_sections file.now) }
     ensures area { area.new ≡ read_area (read_sections file.now) area.old }
 {
     let start = control_start(file);
     if file.len() < start {
-        return picture::read_refused(outcome::refuse(WRONG_LENGTH));
+        return Err(outcome::refuse(Reason::WrongLength));
     }
     if file.len() - start != body_length(file) {
-        return picture::read_refused(outcome::refuse(WRONG_LENGTH));
+        return Err(outcome::refuse(Reason::WrongLength));
     }
     read_runs(file, area)
 }
 
 // Reads a file into the first 32,000 bytes of an area. All is judged before the first byte is written.
 #[inline(never)]
-pub fn read(file: &[u8], area: &mut [u8]) -> ReadAnswer
-    ensures answer { result ≡ read_answer (read_tiny file.now (length area.old)) }
+#[tactic(auto, unfolding(crate::specs::Reading::read_tiny))]
+pub fn read(file: &[u8], area: &mut [u8]) -> Result<PictureRead, Refusal>
+    ensures answer { result ≡ map picture_read (read_tiny file.now (length area.old)) }
     ensures area { area.new
         ≡ read_area (read_tiny file.now (length area.old)) area.old }
 {
     if area.len() < SCREEN_BYTES {
-        return picture::read_refused(outcome::refuse(AREA_TOO_SHORT));
+        return Err(outcome::refuse(Reason::AreaTooShort));
     }
     if file.len() < SHORTEST_LENGTH {
-        return picture::read_refused(outcome::refuse(WRONG_LENGTH));
+        return Err(outcome::refuse(Reason::WrongLength));
     }
     if HIGHEST_BYTE < resolution_byte(file) {
-        return picture::read_refused(outcome::refuse(UNKNOWN_RESOLUTION));
+        return Err(outcome::refuse(Reason::UnknownResolution));
     }
     read_sections(file, area)
 }

@@ -12,8 +12,7 @@ use lib.Seq.{length-take-le, take_at, drop_at, take-add, take-length}
 use Rattle.lists.specs.Bytes.{Bytes}
 use Rattle.lists.proofs.Bytes.{bytes_drop}
 use Rattle.words.specs.Word.{word_at}
-use Rattle.tiny_runs.specs.declared.Run.{Run}
-use Rattle.tiny_runs.specs.Runs.{least_count, most_count, defined, run_of, run_at, words_made}
+use Rattle.tiny_runs.specs.Runs.{Standing, least_count, most_count, defined, run_of, run_at, words_made}
 use Rattle.tiny_runs.specs.Expansion.{Expansion, run_before, expand}
 use Rattle.tiny_runs.specs.Expands.{LongCount, Expands, empty, repeat, literal, long_repeat, long_literal}
 use Rattle.tiny_runs.proofs.Runs.{run_long, run-repeat, run-literal, long-defined, run-front, run_fits, by-run}
@@ -26,8 +25,8 @@ filled controls datas runs made = record { controls = controls; datas = datas; r
 -- ---- complete: sections of the relation are used up
 
 -- one run r of control byte x, the bytes of its count and its data words, before sections that are used up
-filled-step : (r : Run) (x : ℕ) (count controls taken datas made words : List ℕ) (n room : ℕ)
-    → r ≡ run_of x (count ++ controls) → r.fault ≡ 0 → r.controls.0 ≡ suc (length count) → r.datas.0 ≡ length taken
+filled-step : (r : Standing) (x : ℕ) (count controls taken datas made words : List ℕ) (n room : ℕ)
+    → r ≡ run_of x (count ++ controls) → r.fault ≡ 0 → r.controls ≡ suc (length count) → r.datas ≡ length taken
     → r.count ≡ length made → words_made r (taken ++ datas) ≡ made → length (made ++ words) ≤ room
     → expand controls datas (room - r.count) ≡ filled (length controls) (length datas) n words
     → expand (x ∷ count ++ controls) (taken ++ datas) room
@@ -37,17 +36,17 @@ filled-step r x count controls taken datas made words n room is ok takes uses ma
     let ld : length (taken ++ datas) ≡ length taken + length datas = length-append taken datas in
     let lc : length (count ++ controls) ≡ length count + length controls = length-append count controls in
     let roomy : (run_of x (count ++ controls)).count ≤ room = rw (← is) (omega arith) in
-    let there : (run_of x (count ++ controls)).datas.0 ≤ length (taken ++ datas) = rw (← is) (omega arith) in
+    let there : (run_of x (count ++ controls)).datas ≤ length (taken ++ datas) = rw (← is) (omega arith) in
     let front : r ≡ run_at (x ∷ count ++ controls) (length (taken ++ datas)) room =
     is ∙ sym (run-front x (count ++ controls) (length (taken ++ datas)) room roomy there) in
-    let dc : drop r.controls.0 (x ∷ count ++ controls) ≡ controls =
+    let dc : drop r.controls (x ∷ count ++ controls) ≡ controls =
     rw takes (drop_at count controls (length count) refl) in
-    let dd : drop r.datas.0 (taken ++ datas) ≡ datas = drop_at taken datas r.datas.0 (sym uses) in
-    let c1 : r.controls.0 + length controls ≡ length (x ∷ count ++ controls) = omega arith in
-    let d1 : r.datas.0 + length datas ≡ length (taken ++ datas) = omega arith in
+    let dd : drop r.datas (taken ++ datas) ≡ datas = drop_at taken datas r.datas (sym uses) in
+    let c1 : r.controls + length controls ≡ length (x ∷ count ++ controls) = omega arith in
+    let d1 : r.datas + length datas ≡ length (taken ++ datas) = omega arith in
     expand-whole (x ∷ count ++ controls) (taken ++ datas) room r front (omega arith) ok
     ∙ rw (are, dc, dd, ih)
-    (ap (λ (k : ℕ). filled k (r.datas.0 + length datas) (suc n) (made ++ words)) c1
+    (ap (λ (k : ℕ). filled k (r.datas + length datas) (suc n) (made ++ words)) c1
     ∙ ap (λ (k : ℕ). filled (length (x ∷ count ++ controls)) k (suc n) (made ++ words)) d1)
 
 made-repeat : (count controls w : ℕ) (datas : List ℕ)
@@ -101,10 +100,10 @@ complete (long_literal {high} {low} taken {controls} {datas} {words} {n} c u) ro
 -- ---- sound: what is used without a fault is of the relation
 
 -- a run before u data words of which the relation has the rest
-abbrev Before : ℕ → List ℕ → List ℕ → List ℕ → ℕ → ℕ → Run → Type 0
+abbrev Before : ℕ → List ℕ → List ℕ → List ℕ → ℕ → ℕ → Standing → Type 0
 Before x rest datas words u n r =
-    r.datas.0 ≤ length datas → Expands (drop r.controls.0 (x ∷ rest)) (take u (drop r.datas.0 datas)) words n
-    → Expands (x ∷ rest) (take (r.datas.0 + u) datas) (words_made r datas ++ words) (suc n)
+    r.datas ≤ length datas → Expands (drop r.controls (x ∷ rest)) (take u (drop r.datas datas)) words n
+    → Expands (x ∷ rest) (take (r.datas + u) datas) (words_made r datas ++ words) (suc n)
 
 before-literal : (x : ℕ) (rest datas words : List ℕ) (u n : ℕ) → 128 < x → x < 256
     → Before x rest datas words u n (defined false (256 - x) 1)
@@ -135,12 +134,12 @@ abbrev Sound : List ℕ → List ℕ → ℕ → Expansion → Type 0
 Sound controls datas room p =
     p.fault ≡ 0 → Bytes controls → Expands controls (take p.datas datas) p.made p.runs
 
-sound-run : (x : ℕ) (rest datas : List ℕ) (room : ℕ) (r : Run) → r ≡ run_of x rest → r.fault ≡ 0
-    → r.datas.0 ≤ length datas → (p : Expansion)
-    → Sound (drop r.controls.0 (x ∷ rest)) (drop r.datas.0 datas) (room - r.count) p
+sound-run : (x : ℕ) (rest datas : List ℕ) (room : ℕ) (r : Standing) → r ≡ run_of x rest → r.fault ≡ 0
+    → r.datas ≤ length datas → (p : Expansion)
+    → Sound (drop r.controls (x ∷ rest)) (drop r.datas datas) (room - r.count) p
     → Sound (x ∷ rest) datas room (run_before r (words_made r datas) p)
 sound-run x rest datas room r is ok given p s = λ e bytes.
-    let left = s e (bytes_drop r.controls.0 (x ∷ rest) bytes) in
+    let left = s e (bytes_drop r.controls (x ∷ rest) bytes) in
     let B = Before x rest datas p.made p.datas p.runs in
     let all : B (run_of x rest) =
     by-run x rest (rw is at ok)

@@ -1,4 +1,5 @@
 -- Sections expanded run by run: the loop's invariant and its laws.
+use Rattle.std.specs.Prelude.{Option}
 use mathlib.Core.Path.{◌≡◌, refl, sym, ap, ◌∙◌}
 use Prim.Native.Nat.{ℕ, ◌+◌, ◌-◌, ◌*◌, ◌≤◌, ◌<◌}
 use native.Mathlib.Nat.{add-zero}
@@ -11,11 +12,13 @@ use lib.ListN.{drop_of_length-le, get_or-append}
 use lib.Seq.{drop-drop, drop_at, get_or-take, get_or-drop}
 use Rattle.lists.specs.Over.{over}
 use Rattle.lists.specs.Tabulate.{tabulate}
+use Rattle.lists.proofs.Parts.{tail-part}
 use Rattle.lists.proofs.Tabulate.{length-tabulate, get_or-tabulate}
+use Rattle.outcome.specs.declared.Reason.{Reason}
 use Rattle.words.specs.Word.{word_at, words_at, words_bytes}
-use Rattle.tiny_runs.specs.declared.Run.{Run}
-use Rattle.tiny_runs.specs.Runs.{run_at, words_made, source_of}
-use Rattle.tiny_runs.specs.Expansion.{Expansion, no_run, run_before, expand, counted}
+use Rattle.tiny_runs.specs.Runs.{Standing, run_at, words_made, source_of}
+use Rattle.outcome.specs.Refusal.{number_if}
+use Rattle.tiny_runs.specs.Expansion.{Expansion, no_run, run_before, expand, Counted}
 use Rattle.tiny_runs.proofs.Runs.{RunFits, sound-fits}
 use Rattle.tiny_runs.proofs.Expansion.{expand-none, expand-whole, expand-fault}
 use Rattle.tiny_runs.proofs.WordBytes.{words-piece, words-all}
@@ -104,12 +107,15 @@ module _ {controls section : List ℕ} {n most : ℕ} {out₀ out : List ℕ} {u
   to-within : to ≤ length whole
   to-within = omega (arith, p.long)
 
-  -- the next run, judged against the data words that are left
-  module _ {r : Run} (is : r ≡ run_at (drop used controls) (n - taken) (most - to))
+  -- the next run, at the front of the control bytes that are left, which were lent, judged against the data words that
+  -- are left
+  module _ {r : Standing}
+      (is : r ≡ run_at (take (length controls - used) (drop used controls)) (n - taken) (most - to))
       (h : used < length controls) where
     is-left : r ≡ run_at (drop used controls) (length (drop taken datas)) (most - to)
     is-left =
         is
+        ∙ ap (λ (s : List ℕ). run_at s (n - taken) (most - to)) (tail-part controls used)
         ∙ ap (λ (k : ℕ). run_at (drop used controls) k (most - to))
         (omega (arith, length-drop taken datas, length-words_at n section 0))
 
@@ -125,7 +131,7 @@ module _ {controls section : List ℕ} {n most : ℕ} {out₀ out : List ℕ} {u
           rw is-left (sound-fits (drop used controls) (drop taken datas) (most - to) (rw is-left at ok))
 
       -- the run ends within both sections and the room
-      pub next_fits : (0 < r.controls.0) × (used + r.controls.0 ≤ length controls) × (taken + r.datas.0 ≤ n)
+      pub next_fits : (0 < r.controls) × (used + r.controls ≤ length controls) × (taken + r.datas ≤ n)
           × (to + r.count ≤ most)
       next_fits =
           let w = next-whole in
@@ -138,20 +144,20 @@ module _ {controls section : List ℕ} {n most : ℕ} {out₀ out : List ℕ} {u
             omega (arith, w.fits, p.inside),
           )
 
-      pub next-uses : r.datas.0 ≡ cond r.repeats 1 r.count
+      pub next-uses : r.datas ≡ cond r.repeats 1 r.count
       next-uses = next-whole.uses
 
       abbrev made : List ℕ
       made = words_made r (drop taken datas)
 
       abbrev then : Expansion
-      then = left controls section n most (used + r.controls.0) (taken + r.datas.0) (to + r.count)
+      then = left controls section n most (used + r.controls) (taken + r.datas) (to + r.count)
 
       left-whole : left controls section n most used taken to ≡ run_before r made then
       left-whole =
           let room : most - to - r.count ≡ most - (to + r.count) = omega arith in
           expand-whole (drop used controls) (drop taken datas) (most - to) r is-left some ok
-          ∙ rw (drop-drop r.controls.0 used controls, drop-drop r.datas.0 taken datas, room)
+          ∙ rw (drop-drop r.controls used controls, drop-drop r.datas taken datas, room)
 
       rest-is : drop to (all controls section n most).made ≡ made ++ then.made
       rest-is = p.rest ∙ ap (λ (q : Expansion). q.made) left-whole
@@ -173,7 +179,7 @@ module _ {controls section : List ℕ} {n most : ℕ} {out₀ out : List ℕ} {u
       pub expanding-turn : (part : List ℕ)
           → part ≡ over (words_bytes (tabulate r.count value)) (take (length out - to * 2) (drop (to * 2) out))
           → Expanding controls section n most out₀ (put_mid (to * 2) (length out - to * 2) out part)
-          (used + r.controls.0) (taken + r.datas.0) (runs + 1) (to + r.count)
+          (used + r.controls) (taken + r.datas) (runs + 1) (to + r.count)
       expanding-turn part e =
           let w = next-whole in
           let lm : length (made ++ then.made) ≡ length made + length then.made = length-append made then.made in
@@ -205,24 +211,20 @@ module _ {controls section : List ℕ} {n most : ℕ} {out₀ out : List ℕ} {u
     words-is : length (all controls section n most).made ≡ to
     words-is = omega (arith, ap (λ (q : Expansion). length q.made) stop, p.long)
 
-    pub counts-done : record {
-      fault = number;
+    pub counts-done : (fault : Option Reason) → number_if fault ≡ number → Counted (record {
       controls = record { 0 = used };
       datas = record { 0 = taken };
       runs = runs;
       words = to;
-    } ≡ counted (all controls section n most)
-    counts-done =
-        let f : number ≡ (all controls section n most).fault =
-        sym (ap (λ (q : Expansion). q.fault) stop) ∙ p.fault in
-        let b : used ≡ (all controls section n most).controls =
-        omega (arith, ap (λ (q : Expansion). q.controls) stop, p.bytes) in
-        let d : taken ≡ (all controls section n most).datas =
-        omega (arith, ap (λ (q : Expansion). q.datas) stop, p.words) in
-        let t : runs ≡ (all controls section n most).runs =
-        omega (arith, ap (λ (q : Expansion). q.runs) stop, p.total) in
-        let w : to ≡ length (all controls section n most).made = sym words-is in
-        cc
+      fault = fault;
+    }) (all controls section n most)
+    counts-done fault is = record {
+      fault = is ∙ sym (ap (λ (q : Expansion). q.fault) stop) ∙ p.fault;
+      controls = omega (arith, ap (λ (q : Expansion). q.controls) stop, p.bytes);
+      datas = omega (arith, ap (λ (q : Expansion). q.datas) stop, p.words);
+      runs = omega (arith, ap (λ (q : Expansion). q.runs) stop, p.total);
+      words = sym words-is;
+    }
 
     pub put-done : out ≡ over (words_bytes whole) out₀
     put-done = words-all whole out₀ out to to-within p.put (omega (arith, words-is))

@@ -7,21 +7,20 @@ use mathlib.Core.List.{List, [], ◌∷◌}
 use lib.ListN.{length, drop, length-drop, length-append}
 use lib.Dec.{eqb}
 use borrow.Author.Tests.{eq-eqb, ne_eqb, eqb-true, eqb-false}
-use Rattle.tiny_runs.specs.declared.Run.{Run}
-use Rattle.tiny_runs.specs.Runs.{run_at, words_made}
+use Rattle.tiny_runs.specs.Runs.{Standing, run_at, words_made}
 use Rattle.tiny_runs.specs.Expansion.{Expansion, no_run, run_before, run_step, expand_within, expand}
 use Rattle.tiny_runs.proofs.Runs.{RunFits, sound-fits}
 
 -- ---- the equations of `expand`, in which no bound on the recursion stands
 
 -- what a run leaves, expanded by `next`; and a property of it
-abbrev handed : Run → List ℕ → List ℕ → ℕ → (List ℕ → List ℕ → ℕ → Expansion) → Expansion
-handed r controls datas room next = next (drop r.controls.0 controls) (drop r.datas.0 datas) (room - r.count)
+abbrev handed : Standing → List ℕ → List ℕ → ℕ → (List ℕ → List ℕ → ℕ → Expansion) → Expansion
+handed r controls datas room next = next (drop r.controls controls) (drop r.datas datas) (room - r.count)
 
-abbrev Handed : Run → List ℕ → List ℕ → ℕ → (List ℕ → List ℕ → ℕ → Expansion → Type 0) → Expansion → Type 0
-Handed r controls datas room P = P (drop r.controls.0 controls) (drop r.datas.0 datas) (room - r.count)
+abbrev Handed : Standing → List ℕ → List ℕ → ℕ → (List ℕ → List ℕ → ℕ → Expansion → Type 0) → Expansion → Type 0
+Handed r controls datas room P = P (drop r.controls controls) (drop r.datas datas) (room - r.count)
 
-run_step-ext : (r : Run) (controls datas : List ℕ) (room : ℕ) (next next' : List ℕ → List ℕ → ℕ → Expansion)
+run_step-ext : (r : Standing) (controls datas : List ℕ) (room : ℕ) (next next' : List ℕ → List ℕ → ℕ → Expansion)
     → (r.fault ≡ 0 → handed r controls datas room next ≡ handed r controls datas room next')
     → run_step r controls datas room next ≡ run_step r controls datas room next'
 unfolding run_step
@@ -35,10 +34,10 @@ run_step-ext r controls datas room next next' e = go (eqb r.fault 0) refl
 
 -- what a whole run leaves of the control bytes is shorter
 rest-shorter : (controls datas : List ℕ) (room : ℕ) → (run_at controls (length datas) room).fault ≡ 0
-    → length (drop (run_at controls (length datas) room).controls.0 controls) < length controls
+    → length (drop (run_at controls (length datas) room).controls controls) < length controls
 rest-shorter controls datas room e =
     let w = sound-fits controls datas room e in
-    omega (arith, length-drop (run_at controls (length datas) room).controls.0 controls, w.takes, w.has)
+    omega (arith, length-drop (run_at controls (length datas) room).controls controls, w.takes, w.has)
 
 -- any bound that is large enough gives the same
 same-bound : (f g : ℕ) (controls datas : List ℕ) (room : ℕ) → length controls ≤ f → length controls ≤ g
@@ -65,12 +64,12 @@ expand-step : (controls datas : List ℕ) (room : ℕ) → 0 < length controls
 unfolding expand expand_within
 expand-step [] datas room h = absurd (omega arith)
 expand-step (x ∷ rest) datas room h =
-    let r : Run = run_at (x ∷ rest) (length datas) room in
+    let r : Standing = run_at (x ∷ rest) (length datas) room in
     run_step-ext (run_at (x ∷ rest) (length datas) room) (x ∷ rest) datas room _ expand
-    (λ e. same-bound (length rest) (length (drop r.controls.0 (x ∷ rest))) _ _ _
+    (λ e. same-bound (length rest) (length (drop r.controls (x ∷ rest))) _ _ _
     (omega (arith, rest-shorter (x ∷ rest) datas room e)) (omega arith))
 
-module _ (controls datas : List ℕ) (room : ℕ) (r : Run) (is : r ≡ run_at controls (length datas) room)
+module _ (controls datas : List ℕ) (room : ℕ) (r : Standing) (is : r ≡ run_at controls (length datas) room)
     (h : 0 < length controls) where
   pub expand-whole : r.fault ≡ 0
       → expand controls datas room ≡ run_before r (words_made r datas) (handed r controls datas room expand)
@@ -84,7 +83,7 @@ module _ (controls datas : List ℕ) (room : ℕ) (r : Run) (is : r ≡ run_at c
 -- ---- induction run by run
 
 -- a run is at fault or not
-by-fault : {X : Type 0} (r : Run) → (r.fault ≡ 0 → X) → ((r.fault ≡ 0 → ⊥) → X) → X
+by-fault : {X : Type 0} (r : Standing) → (r.fault ≡ 0 → X) → ((r.fault ≡ 0 → ⊥) → X) → X
 by-fault {X} r whole faulty = go (eqb r.fault 0) refl
   where
     go : (b : Bool) → eqb r.fault 0 ≡ b → X
@@ -123,12 +122,12 @@ pub record Bounded (controls datas : List ℕ) (room : ℕ) (p : Expansion) : Ty
   pub taken : p.datas ≤ length datas
   pub fits : length p.made ≤ room
 
-bounded-after : {controls datas : List ℕ} {room : ℕ} (r : Run) → RunFits r controls datas room → (p : Expansion)
+bounded-after : {controls datas : List ℕ} {room : ℕ} (r : Standing) → RunFits r controls datas room → (p : Expansion)
     → Handed r controls datas room Bounded p → Bounded controls datas room (run_before r (words_made r datas) p)
 bounded-after {controls} {datas} {room} r w p b =
-    let lc : length (drop r.controls.0 controls) ≡ length controls - r.controls.0 =
-    length-drop r.controls.0 controls in
-    let ld : length (drop r.datas.0 datas) ≡ length datas - r.datas.0 = length-drop r.datas.0 datas in
+    let lc : length (drop r.controls controls) ≡ length controls - r.controls =
+    length-drop r.controls controls in
+    let ld : length (drop r.datas datas) ≡ length datas - r.datas = length-drop r.datas datas in
     record {
       used = omega (arith, lc, w.has, b.used);
       taken = omega (arith, ld, w.given, b.taken);

@@ -1,19 +1,17 @@
 -- Laws of one run: each case of its judgement, and what a run without a fault takes and makes.
 use mathlib.Core.Path.{◌≡◌, refl, sym, ap, ◌∙◌}
-use Prim.Native.Nat.{ℕ, zero, suc, ◌+◌, ◌-◌, ◌≤◌, ◌<◌}
+use Prim.Native.Nat.{ℕ, zero, suc, ◌-◌, ◌≤◌, ◌<◌}
 use native.Mathlib.Decide.{dec_lt}
-use native.Mathlib.Numerals.{add-one}
 use native.Mathlib.Omega.{arith}
 use mathlib.Core.Bool.{Bool, true, false, cond, ◌||◌}
 use mathlib.Core.List.{List, [], ◌∷◌}
-use lib.ListN.{length, get_or, drop, length-replicate}
-use lib.Seq.{drop-cons, length-take-le, get_or-drop}
+use lib.ListN.{length, get_or, length-replicate}
+use lib.Seq.{length-take-le}
 use lib.Dec.{ltb, eqb}
 use borrow.Author.Tests.{lt-ltb, le-ltb, ne_eqb, ltb-false}
 use Rattle.outcome.specs.Refusal.{undefined_control, run_too_long}
 use Rattle.words.specs.Word.{word_at}
-use Rattle.tiny_runs.specs.declared.Run.{Run}
-use Rattle.tiny_runs.specs.Runs.{least_count, most_count, defined, faulty, long_run, run_of, fitted, run_at, words_made}
+use Rattle.tiny_runs.specs.Runs.{Standing, least_count, most_count, defined, faulty, long_run, run_of, fitted, run_at, words_made}
 
 -- ---- a long run
 
@@ -41,13 +39,6 @@ module _ (repeats : Bool) (rest : List ℕ) where
   long-defined h k l =
       simp (le-ltb (length rest) 2 h, le-ltb (word_at rest 0) least_count k, le-ltb most_count (word_at rest 0) l)
 
--- the count of a long run at an offset
-pub word_at-drop : (s : List ℕ) (at : ℕ) → word_at (drop at s) 0 ≡ word_at s at
-unfolding word_at
-word_at-drop s at =
-    let here : at + 0 ≡ at = omega arith in
-    rw (get_or-drop at s 0 0, get_or-drop at s (0 + 1) 0, here)
-
 -- ---- a control byte
 
 module _ (x : ℕ) (rest : List ℕ) where
@@ -69,43 +60,32 @@ module _ (x : ℕ) (rest : List ℕ) where
 
 -- ---- a run judged against the room and the data
 
-module _ (r : Run) (left room : ℕ) where
-  pub fitted-room : room < r.count → fitted r left room ≡ faulty run_too_long
-  fitted-room h = simp (lt-ltb room r.count h)
-
-  pub fitted-data : r.count ≤ room → left < r.datas.0 → fitted r left room ≡ faulty run_too_long
-  fitted-data h k = simp (le-ltb room r.count h, lt-ltb left r.datas.0 k)
-
-  pub fitted-same : r.count ≤ room → r.datas.0 ≤ left → fitted r left room ≡ r
-  fitted-same h k = simp (le-ltb room r.count h, le-ltb left r.datas.0 k)
+module _ (r : Standing) (left room : ℕ) where
+  pub fitted-same : r.count ≤ room → r.datas ≤ left → fitted r left room ≡ r
+  fitted-same h k = simp (le-ltb room r.count h, le-ltb left r.datas k)
 
   -- one that is not at fault fits
-  unfitted : (fitted r left room).fault ≡ 0 → (fitted r left room ≡ r) × (r.count ≤ room) × (r.datas.0 ≤ left)
-  unfitted = go (ltb room r.count) (ltb left r.datas.0) refl refl
+  unfitted : (fitted r left room).fault ≡ 0 → (fitted r left room ≡ r) × (r.count ≤ room) × (r.datas ≤ left)
+  unfitted = go (ltb room r.count) (ltb left r.datas) refl refl
     where
-      go : (a b : Bool) → ltb room r.count ≡ a → ltb left r.datas.0 ≡ b
+      go : (a b : Bool) → ltb room r.count ≡ a → ltb left r.datas ≡ b
           → (cond (a || b) (faulty run_too_long) r).fault ≡ 0
-          → (cond (a || b) (faulty run_too_long) r ≡ r) × (r.count ≤ room) × (r.datas.0 ≤ left)
+          → (cond (a || b) (faulty run_too_long) r ≡ r) × (r.count ≤ room) × (r.datas ≤ left)
       go true b p q e = absurd (omega arith)
       go false true p q e = absurd (omega arith)
       go false false p q e = (refl, ltb-false _ _ p, ltb-false _ _ q)
 
--- ---- the run at the front of control bytes, and at an offset
+-- ---- the run at the front of control bytes
 
 module _ (x : ℕ) (rest : List ℕ) (left room : ℕ) where
-  pub run-front : (run_of x rest).count ≤ room → (run_of x rest).datas.0 ≤ left → run_at (x ∷ rest) left room ≡ run_of x rest
+  pub run-front : (run_of x rest).count ≤ room → (run_of x rest).datas ≤ left → run_at (x ∷ rest) left room ≡ run_of x rest
   unfolding run_at
   run-front h k = fitted-same (run_of x rest) left room h k
 
   pub run_fits : (run_at (x ∷ rest) left room).fault ≡ 0
-      → (run_at (x ∷ rest) left room ≡ run_of x rest) × ((run_of x rest).count ≤ room) × ((run_of x rest).datas.0 ≤ left)
+      → (run_at (x ∷ rest) left room ≡ run_of x rest) × ((run_of x rest).count ≤ room) × ((run_of x rest).datas ≤ left)
   unfolding run_at
   run_fits e = unfitted (run_of x rest) left room e
-
-pub run-at-offset : (s : List ℕ) (at left room : ℕ) → at < length s
-    → run_at (drop at s) left room ≡ fitted (run_of (get_or s at 0) (drop (at + 1) s)) left room
-unfolding run_at
-run-at-offset s at left room h = rw (drop-cons s at 0 h, add-one at)
 
 -- ---- a control byte whose run is not at fault
 
@@ -128,7 +108,7 @@ by-run {X} x rest ok repeat literal long = go (dec_lt x 2) (dec_lt x 128) (dec_l
     count = word_at rest 0
 
     fault-is : (number : ℕ) → run_of x rest ≡ faulty number → number ≡ 0
-    fault-is number e = sym (ap (λ (r : Run). r.fault) e) ∙ ok
+    fault-is number e = sym (ap (λ (r : Standing). r.fault) e) ∙ ok
 
     by_count : x < 2 → Dec (length rest < 2) → Dec (count < least_count) → Dec (most_count < count) → X
     by_count h (yes a) b c =
@@ -149,12 +129,12 @@ by-run {X} x rest ok repeat literal long = go (dec_lt x 2) (dec_lt x 128) (dec_l
 
 -- ---- a run without a fault takes a control byte at least, and what there is at most; its words fit
 
-pub record RunFits (r : Run) (controls datas : List ℕ) (room : ℕ) : Type 0 where
-  pub takes : 0 < r.controls.0
-  pub has : r.controls.0 ≤ length controls
+pub record RunFits (r : Standing) (controls datas : List ℕ) (room : ℕ) : Type 0 where
+  pub takes : 0 < r.controls
+  pub has : r.controls ≤ length controls
   pub fits : r.count ≤ room
-  pub given : r.datas.0 ≤ length datas
-  pub uses : r.datas.0 ≡ cond r.repeats 1 r.count
+  pub given : r.datas ≤ length datas
+  pub uses : r.datas ≡ cond r.repeats 1 r.count
   pub makes : length (words_made r datas) ≡ r.count
 
 length-made : (repeats : Bool) (count controls : ℕ) (datas : List ℕ) → cond repeats 1 count ≤ length datas
@@ -163,9 +143,9 @@ unfolding words_made
 length-made true count controls datas h = length-replicate count (get_or datas 0 0)
 length-made false count controls datas h = length-take-le count datas h
 
-defined-fits : {r : Run} {controls datas : List ℕ} {room : ℕ} (repeats : Bool) (count k : ℕ)
+defined-fits : {r : Standing} {controls datas : List ℕ} {room : ℕ} (repeats : Bool) (count k : ℕ)
     → r ≡ defined repeats count k → 0 < k → k ≤ length controls
-    → r.count ≤ room → r.datas.0 ≤ length datas → RunFits r controls datas room
+    → r.count ≤ room → r.datas ≤ length datas → RunFits r controls datas room
 defined-fits {datas = datas} repeats count k is h has fits given =
     record {
       takes = rw is h;

@@ -1,9 +1,9 @@
 -- Control bytes and data words expanded, run by run (document 02, ticket 1).
-use Rattle.std.specs.Prelude.{ℕ, zero, suc, ◌+◌, ◌-◌, ◌/◌, cond, List, [], ◌∷◌, ◌++◌, length, drop, eqb}
+use Rattle.std.specs.Prelude.{ℕ, zero, suc, ◌+◌, ◌-◌, ◌/◌, ◌≡◌, cond, List, [], ◌∷◌, ◌++◌, length, drop, eqb}
+use Rattle.outcome.specs.Refusal.{number_if}
 use Rattle.words.specs.Word.{words_at}
-use Rattle.tiny_runs.specs.declared.Run.{Run}
 use Rattle.tiny_runs.specs.declared.Expanded.{Expanded}
-use Rattle.tiny_runs.specs.Runs.{run_at, words_made}
+use Rattle.tiny_runs.specs.Runs.{Standing, run_at, words_made}
 
 -- How far expanding came.
 pub record Expansion : Type 0 where
@@ -23,10 +23,10 @@ abbrev pub no_run : ℕ → Expansion
 no_run number = record { controls = 0; datas = 0; runs = 0; made = []; fault = number }
 
 -- a whole run, which makes these words, before further expansion
-abbrev pub run_before : Run → List ℕ → Expansion → Expansion
+abbrev pub run_before : Standing → List ℕ → Expansion → Expansion
 run_before r made p = record {
-  controls = r.controls.0 + p.controls;
-  datas = r.datas.0 + p.datas;
+  controls = r.controls + p.controls;
+  datas = r.datas + p.datas;
   runs = suc p.runs;
   made = made ++ p.made;
   fault = p.fault;
@@ -34,11 +34,11 @@ run_before r made p = record {
 
 -- A whole run, and then what `next` makes of the control bytes, the data words and the room that it leaves; a run at
 -- fault ends it.
-unfoldable pub run_step : Run → List ℕ → List ℕ → ℕ → (List ℕ → List ℕ → ℕ → Expansion) → Expansion
+unfoldable pub run_step : Standing → List ℕ → List ℕ → ℕ → (List ℕ → List ℕ → ℕ → Expansion) → Expansion
 run_step r controls datas room next =
     cond (eqb r.fault 0)
     (run_before r (words_made r datas)
-    (next (drop r.controls.0 controls) (drop r.datas.0 datas) (room - r.count)))
+    (next (drop r.controls controls) (drop r.datas datas) (room - r.count)))
     (no_run r.fault)
 
 -- Each run takes a control byte at least, so their number bounds the recursion.
@@ -56,12 +56,10 @@ expand controls datas room = expand_within (length controls) controls datas room
 abbrev pub expand_section : List ℕ → List ℕ → ℕ → Expansion
 expand_section controls section room = expand controls (words_at (length section / 2) section 0) room
 
--- its counts
-abbrev pub counted : Expansion → Expanded
-counted p = record {
-  fault = p.fault;
-  controls = record { 0 = p.controls };
-  datas = record { 0 = p.datas };
-  runs = p.runs;
-  words = length p.made;
-}
+-- what the code answers of it: its counts and its fault
+pub record Counted (e : Expanded) (p : Expansion) : Type 0 where
+  pub fault : number_if e.fault ≡ p.fault
+  pub controls : e.controls.0 ≡ p.controls
+  pub datas : e.datas.0 ≡ p.datas
+  pub runs : e.runs ≡ p.runs
+  pub words : e.words ≡ length p.made

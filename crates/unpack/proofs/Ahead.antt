@@ -33,11 +33,6 @@ module _ {file : List ℕ} {at rows width : ℕ} {out₀ : List ℕ} {to₀ last
     abbrev tail : List ℕ
     tail = take (length out - to) (drop to out)
 
-    -- where the loop ends, with the answer's numbers
-    pub outcome-here : {f t w n : ℕ} → (f ≡ from) × (t ≡ to) × (w ≡ room) × (n ≡ records)
-        → RowsRead file at rows width out f t w n × ((0 < w) × (t < rows * width) × (to₀ ≤ t))
-    outcome-here e = rw (e.0, e.1, e.2, e.3) (a.read, (a.under, omega (arith, a.ahead), a.grown))
-
     pub tail-long : 128 ≤ length tail
     tail-long = omega (arith, ap length (tail-part out to), length-drop to out, a.ahead, a.kept, a.fit.size)
 
@@ -111,10 +106,9 @@ module _ {file : List ℕ} {at rows width : ℕ} {out₀ : List ℕ} {to₀ last
               })
 
           -- or the loop ends there
-          pub outcome-row : room - made' ≡ 0 → {f t w n : ℕ}
-              → (f ≡ from + used) × (t ≡ to + made) × (w ≡ width) × (n ≡ records + 1)
-              → RowsRead file at rows width next f t w n × ((0 < w) × (t < rows * width) × (to₀ ≤ t))
-          outcome-row h e =
+          pub outcome-row : room - made' ≡ 0
+              → RowsRead file at rows width next (from + used) (to + made) width (records + 1)
+              × ((0 < width) × (to + made < rows * width) × (to₀ ≤ to + made))
+          outcome-row h =
               let none = rw m' at h in
-              rw (e.0, e.1, e.2, e.3, u, m)
-              (read-row none, (a.fit.some, row_done none, omega (arith, a.grown)))
+              rw (u, m) (read-row none, (a.fit.some, row_done none, omega (arith, a.grown)))

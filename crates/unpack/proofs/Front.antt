@@ -1,16 +1,12 @@
 -- The front of what was written over an output.
 use mathlib.Core.Path.{◌≡◌, sym, ap, ◌∙◌}
-use Prim.Native.Nat.{ℕ, ◌+◌, ◌-◌, ◌≤◌, ◌<◌}
+use Prim.Native.Nat.{ℕ, ◌+◌, ◌-◌, ◌≤◌}
 use native.Mathlib.Omega.{arith}
 use mathlib.Core.List.{List, ◌++◌}
-use lib.ListN.{length, get_or, take, drop, replicate, length-drop, length-replicate, replicate-append-replicate}
-use lib.Seq.{take_at, take-append-le, take-take, length-take-le, get_or-take, get_or-drop, take-append-add}
+use lib.ListN.{length, take, drop, replicate, length-drop, length-replicate, replicate-append-replicate}
+use lib.Seq.{take_at, take-append-le, take-take, length-take-le, take-append-add}
 use borrow.Rule.Slice.PartMut.{put_mid, post_of}
 use Rattle.lists.specs.Over.{over}
-
--- a byte of a part
-pub part-byte : (s : List ℕ) (at m k : ℕ) → k < m → get_or s (at + k) 0 ≡ get_or (take m (drop at s)) k 0
-part-byte s at m k h = sym (get_or-take m (drop at s) k 0 h ∙ get_or-drop at s k 0)
 
 -- a part of m bytes over the front
 pub front-part : (s d out : List ℕ) (at n m : ℕ) → n ≤ m → at + m ≤ length s → out ≡ over (take m (drop at s)) d

@@ -1,4 +1,5 @@
 -- A row read record by record from an offset of a file: the invariant of the loop that reads it, and its laws.
+use Rattle.std.specs.Prelude.{Ok, Err}
 use mathlib.Core.Path.{◌≡◌, refl, sym, ap, ◌∙◌}
 use Prim.Native.Nat.{ℕ, ◌+◌, ◌-◌, ◌≤◌, ◌<◌}
 use native.Mathlib.Omega.{arith}
@@ -6,10 +7,10 @@ use mathlib.Core.List.{List}
 use lib.ListN.{length, drop, length-append}
 use lib.Seq.{drop-drop}
 use borrow.Author.Tests.{eq-eqb, ne_eqb}
-use Rattle.outcome.specs.Outcome.{refused, row_refusal, none}
+use Rattle.outcome.specs.Outcome.{row_refusal, map}
 use Rattle.packbits.specs.declared.Record.{Record}
 use Rattle.packbits.specs.Records.{packed_len, row_len, row_bytes, fault, record_at}
-use Rattle.packbits.specs.Row.{row_answer}
+use Rattle.packbits.specs.Row.{row_packed}
 use Rattle.packbits.specs.Unpack.{Progress, stopped, after, progress, outcome_of, unpack_at}
 use Rattle.packbits.proofs.Records.{WholeAt, whole-at}
 use Rattle.packbits.proofs.Unpack.{progress-full, progress-whole, progress-fault}
@@ -84,11 +85,11 @@ module _ {file : List ℕ} {at width from room records number : ℕ} (g : Record
   made-is e = omega (arith, ap (λ (p : Progress). length p.made) stop, g.made)
 
   pub answer-refused : {to : ℕ} → width ≡ room + to → (number ≡ 0 → ⊥)
-      → row_answer (unpack_at file at width) ≡ row_answer (refused (row_refusal number from 0 to))
+      → map row_packed (unpack_at file at width) ≡ Err (row_refusal number from 0 to)
   unfolding outcome_of
   answer-refused reached e = rw fault-is (simp (ne_eqb number 0 e, place_is, made-is reached))
 
   pub answer-accepted : number ≡ 0
-      → row_answer (unpack_at file at width) ≡ record { refusal = none; bytes = from - at; records = records }
+      → map row_packed (unpack_at file at width) ≡ Ok (record { bytes = from - at; records = records })
   unfolding outcome_of
   answer-accepted e = simp (eq-eqb all.fault 0 (fault-is ∙ e), bytes-is, records_is)

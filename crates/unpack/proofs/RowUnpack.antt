@@ -1,4 +1,5 @@
 -- Row unpack: its cases, what it writes, and what it accepts.
+use Rattle.std.specs.Prelude.{Ok, Err}
 use mathlib.Core.Path.{◌≡◌, refl, sym, ap, ◌∙◌}
 use mathlib.Core.Logic.{◌↔◌}
 use Prim.Native.Nat.{ℕ, ◌≤◌, ◌<◌}
@@ -13,9 +14,10 @@ use Rattle.lists.specs.Over.{over}
 use Rattle.lists.proofs.Cond.{cond-eqb}
 use Rattle.lists.proofs.Over.{over-whole}
 use Rattle.outcome.specs.declared.Refusal.{Refusal}
-use Rattle.outcome.specs.Outcome.{Outcome, accepted, refused, refuse, row_refusal, placed}
+use Rattle.outcome.specs.Outcome.{Outcome, refuse, row_refusal, map, placed}
 use Rattle.outcome.specs.Refusal.{area_too_short, out_of_range}
-use Rattle.packbits.specs.Row.{Row, done, row_answer, row_output, width_out_of_range}
+use Rattle.packbits.specs.declared.Packed.{Packed}
+use Rattle.packbits.specs.Row.{Row, done, row_packed, given_row_answer, row_answer, row_output, width_out_of_range}
 use Rattle.packbits.specs.Unpack.{progress, outcome_of, unpack, unpack_row}
 use Rattle.packbits.proofs.Exact.{exact}
 use Rattle.packbits.proofs.Row.{in-range, of_range}
@@ -40,31 +42,29 @@ module _ (packed : List ℕ) (width room : ℕ) where
 
 -- ---- the answer and the output
 
-pub answer-placed : (o : Outcome Row) → row_answer (placed 0 o) ≡ row_answer o
-answer-placed (accepted r) = refl
-answer-placed (refused why) =
-    ap (λ (k : ℕ). row_answer (refused (row_refusal why.number k why.plane_row why.good_bytes)))
-    (omega arith)
+pub placed-none : (o : Outcome Row) → map row_packed (placed 0 o) ≡ map row_packed o
+placed-none (Ok r) = refl
+placed-none (Err why) =
+    ap (λ (k : ℕ). Err (row_refusal why.number k why.plane_row why.good_bytes)) (omega arith)
 
--- a refusal leaves the output as it was
-pub refused-output : (o : Outcome Row) (out : List ℕ) → ((row_answer o).refusal.number ≡ 0 → ⊥) → row_output o out ≡ out
-refused-output (accepted r) out h = absurd (h refl)
-refused-output (refused why) out h = refl
+-- a place counted from the packed bytes' start is the place itself
+pub answer-placed : (o : Outcome Row) → row_answer (placed 0 o) ≡ row_answer o
+answer-placed o = ap given_row_answer (placed-none o)
 
 -- an accepted row, made over a buffer of its width and copied from there, stands at the front of the output
-pub copied-output : (input buffer out : List ℕ) → (row_answer (unpack input (length buffer))).refusal.number ≡ 0
+pub copied-output : (input buffer out : List ℕ) (q : Packed) → map row_packed (unpack input (length buffer)) ≡ Ok q
     → over (over (progress input (length buffer)).made buffer) out ≡ row_output (unpack input (length buffer)) out
 unfolding outcome_of
-copied-output input buffer out =
+copied-output input buffer out q =
     let p = progress input (length buffer) in
-    cond-eqb (λ o. (row_answer o).refusal.number ≡ 0 → over (over p.made buffer) out ≡ row_output o out) p.fault 0
+    cond-eqb (λ o. map row_packed o ≡ Ok q → over (over p.made buffer) out ≡ row_output o out) p.fault 0
     (λ e z. ap (λ (l : List ℕ). over l out)
     (over-whole p.made buffer (omega (arith, (bounded input (length buffer)).full e))))
-    (λ e z. absurd (e z))
+    (λ e z. let y : ◌≡◌ {A = ℕ} 0 1 = cc in absurd (omega arith))
 
 -- ---- what is accepted
 
-not-both : {o : Outcome Row} {why : Refusal} {r : Row} → o ≡ refused why → o ≡ accepted r → ⊥
+not-both : {o : Outcome Row} {why : Refusal} {r : Row} → o ≡ Err why → o ≡ Ok r → ⊥
 not-both p q = let z : ◌≡◌ {A = ℕ} 0 1 = cc in omega arith
 
 -- row unpack accepts just that

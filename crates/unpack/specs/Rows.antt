@@ -1,18 +1,12 @@
 -- Rows of one width unpacked into one output, each behind the one before it (document 01, "Packed rows").
 use Rattle.std.specs.Prelude.{ℕ, ◌+◌, ◌*◌, ◌-◌, ◌/◌, ◌≤◌, ◌<◌, ◌≡◌, Bool, true, false, length, take, drop, ltb}
 use mathlib.Core.List.{List, ◌++◌, flatten}
-use Rattle.outcome.specs.Outcome.{Outcome, accepted, refused, none, refuse_if}
+use Rattle.outcome.specs.Outcome.{Outcome, refuse_if}
 use Rattle.outcome.specs.Refusal.{area_too_short, out_of_range}
 use Rattle.packbits.specs.declared.Record.{Record}
 use Rattle.packbits.specs.declared.Record.TheVariants.{Literal, Repeat, Nothing, Truncated, Crossing}
-use Rattle.packbits.specs.declared.RowAnswer.{RowAnswer}
 use Rattle.packbits.specs.Row.{width_out_of_range}
 use Rattle.packbits.specs.Rows.{Rows, RowsProgress, rows_from, rows_progress}
-
--- the answer of rows: their packed bytes and records; a refusal gives 0 in both
-abbrev pub rows_answer : Outcome Rows → RowAnswer
-rows_answer (accepted q) = record { refusal = none; bytes = q.bytes; records = q.records }
-rows_answer (refused why) = record { refusal = why; bytes = 0; records = 0 }
 
 -- refused where a row is not 1 to 128 bytes wide, or an output of `room` bytes is shorter than the rows; otherwise
 -- judged further

@@ -1,22 +1,25 @@
 -- Laws of words and their bytes: each is made from the other, and words that were written as bytes are read again from
 -- where they stand.
 use mathlib.Core.Path.{◌≡◌, refl, sym, ap, ap₂, ◌∙◌}
-use mathlib.Core.Bool.{cond}
 use mathlib.Core.List.{List, ◌∷◌, ◌++◌, flatten, append_assoc}
 use Prim.Native.Nat.{ℕ, zero, suc, ◌+◌, ◌*◌, ◌/◌, ◌%◌, ◌≤◌, ◌<◌}
 use native.Mathlib.Nat.{add-zero, div-add-mod'}
 use native.Mathlib.Numerals.{add-one}
 use native.Mathlib.Omega.{arith}
 use lib.Arith.{digits_div, digits_mod}
-use lib.ListN.{length, get_or, take, drop}
-use lib.Dec.{ltb}
+use lib.ListN.{length, get_or, take, drop, get_or-eq_default}
 use lib.Seq.{take_all, drop-cons, get_or_at, get_or-append-add}
+use Rattle.std.proofs.lemmas.List.{take_min}
 use Rattle.lists.specs.Bytes.{Bytes}
 use Rattle.lists.specs.Tabulate.{tabulate}
-use Rattle.lists.proofs.Cond.{cond-ltb}
+use Rattle.lists.proofs.Loops.{writes}
 use Rattle.lists.proofs.Flatten.{length-flatten, piece_back}
-use Rattle.lists.proofs.Tabulate.{tabulate-ext, tabulate-get_or}
+use Rattle.lists.proofs.Tabulate.{length-tabulate, tabulate-ext, tabulate-get_or}
 use Rattle.words.specs.Word.{word_at, words_at, word_bytes, words_bytes}
+
+pub word_past : (s : List ℕ) (at : ℕ) → length s ≤ at → word_at s at ≡ 0
+unfolding word_at
+word_past s at h = omega (arith, get_or-eq_default s 0 h, get_or-eq_default s 0 {n = at + 1} (omega arith))
 
 module _ (s : List ℕ) (bytes : Bytes s) where
   pub word_at-lt : (at : ℕ) → word_at s at < 65536
@@ -58,12 +61,8 @@ module _ (s : List ℕ) (bytes : Bytes s) where
       ∙ ap₂ (λ (k : ℕ) (l : List ℕ). word_bytes (word_at s k) ++ l) first (words-restored n (at + 2) (omega arith))
       ∙ word-restored at (omega arith)
 
--- a loop over the words for which there is room takes as many turns as there are words or places
-pub take-least : (ws : List ℕ) (n room : ℕ) → length ws ≡ n → take (cond (ltb n room) n room) ws ≡ take room ws
-take-least ws n room e =
-    cond-ltb (λ (k : ℕ). take k ws ≡ take room ws) n room
-    (λ h. take_all n ws (omega arith) ∙ sym (take_all room ws (omega arith)))
-    (λ h. refl)
+-- what `get_words` needs
+pub ruleset gets = (writes, take_min, length-tabulate)
 
 pub length-words_bytes : (ws : List ℕ) → length (words_bytes ws) ≡ length ws * 2
 unfolding word_bytes words_bytes

@@ -2,58 +2,67 @@
 #![tactic(auto)]
 
 ghost use Rattle.std.specs.Prelude.{◌≡◌, length};
-ghost use Rattle.picture.specs.Writing.{judge_areas, write_answer, write_output};
-ghost use Rattle.outcome.specs.Outcome.{refuse};
-ghost use Rattle.outcome.specs.Refusal.{unknown_kind};
-ghost use Rattle.writer.specs.Writing.{write_file};
+ghost use Rattle.outcome.specs.Outcome.{map};
+ghost use Rattle.picture.specs.Writing.{file_written, write_output};
+ghost use Rattle.writer.specs.Writing.{form_of, number_of_form, write_file};
 
-use degas::Form;
-use outcome::{AREA_TOO_SHORT, UNKNOWN_KIND};
-use picture::{FILE_BYTES, Picture, WriteAnswer};
+use outcome::{Reason, Refusal};
+use picture::{FILE_BYTES, FileWritten, Picture};
 use resolution::SCREEN_BYTES;
 
-// The form of a plain DEGAS file.
-pub const FORM_PLAIN: u8 = 1;
+// The form of a file to write: one of DEGAS, or NEOchrome.
+#[derive(Clone, Copy, Debug, PartialEq, Eq)]
+pub enum Form {
+    Degas(degas::Form),
+    Neochrome,
+}
 
-// The form of a raw DEGAS Elite file.
-pub const FORM_ELITE: u8 = 2;
-
-// The form of a packed DEGAS Elite file.
-pub const FORM_PACKED: u8 = 3;
-
-// The form of a NEOchrome file.
-pub const FORM_NEOCHROME: u8 = 4;
-
-// Refuses an unknown form, after a short area.
-fn refuse_form(screen: usize, out: usize) -> WriteAnswer
-    ensures { result ≡ write_answer (judge_areas screen out (refuse unknown_kind)) }
-{
-    if screen < SCREEN_BYTES {
-        return picture::write_refused(outcome::refuse(AREA_TOO_SHORT));
+impl Form {
+    // The number that names it.
+    // By match: one variant holds a form of DEGAS, so that no cast gives the number.
+    pub fn number(self) -> u8
+        ensures { result ≡ number_of_form self }
+    {
+        match self {
+            Form::Degas(form) => form as u8,
+            Form::Neochrome => 4,
+        }
     }
-    if out < FILE_BYTES {
-        return picture::write_refused(outcome::refuse(AREA_TOO_SHORT));
+}
+
+// Any other number is refused.
+impl TryFrom<u8> for Form {
+    type Error = Refusal;
+
+    ghost try_from_gives = { λ number form. form ≡ form_of number };
+
+    fn try_from(number: u8) -> Result<Self, Refusal> {
+        match number {
+            1 => Ok(Form::Degas(degas::Form::Plain)),
+            2 => Ok(Form::Degas(degas::Form::Elite)),
+            3 => Ok(Form::Degas(degas::Form::Packed)),
+            4 => Ok(Form::Neochrome),
+            _ => Err(outcome::refuse(Reason::UnknownKind)),
+        }
     }
-    picture::write_refused(outcome::refuse(UNKNOWN_KIND))
 }
 
 // Writes a picture and its screen as a file of a form, over the front of the output.
-pub fn write(form: u8, picture: Picture, screen: &[u8], out: &mut [u8]) -> WriteAnswer
-    ensures answer { result ≡ write_answer (write_file form picture screen.now (length out.old)) }
+pub fn write(
+    form: u8,
+    picture: Picture,
+    screen: &[u8],
+    out: &mut [u8],
+) -> Result<FileWritten, Refusal>
+    ensures answer { result ≡ map file_written (write_file form picture screen.now (length out.old)) }
     ensures output { out.new
         ≡ write_output (write_file form picture screen.now (length out.old)) out.old }
 {
-    if form == FORM_PLAIN {
-        return degas::write(Form::Plain, picture, screen, out);
+    if screen.len() < SCREEN_BYTES || out.len() < FILE_BYTES {
+        return Err(outcome::refuse(Reason::AreaTooShort));
     }
-    if form == FORM_ELITE {
-        return degas::write(Form::Elite, picture, screen, out);
+    match Form::try_from(form)? {
+        Form::Degas(form) => degas::write(form, picture, screen, out),
+        Form::Neochrome => neochrome::write(picture, screen, out),
     }
-    if form == FORM_PACKED {
-        return degas::write(Form::Packed, picture, screen, out);
-    }
-    if form == FORM_NEOCHROME {
-        return neochrome::write(picture, screen, out);
-    }
-    refuse_form(screen.len(), out.len())
 }

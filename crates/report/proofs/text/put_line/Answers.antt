@@ -1,16 +1,10 @@
 -- `report::text::put_line` meets its contract: a newline is written after the item.
-use Rattle.std.proofs.Common.{arith}
 use Rattle.lists.proofs.Pieces.{written-copied, written_then}
 use Rattle.report.specs.Labels.{newline}
 use Rattle.report.specs.Lines.{line}
 use Rattle.report.proofs.text.put_line.Goals as goal
 
-pub returns : goal.returns
+pub returns-clause-part : goal.returns-clause-part
 unfolding line
-returns c =
-    record {
-      part =
-          written_then c.put_item-end.ensures.part
-          (written-copied newline _ _ _ c.copy.ensures.count c.copy.ensures.content);
-      size = omega (arith, c.put_item-end.ensures.size, c.copy.ensures.count);
-    }
+returns-clause-part c =
+    written_then c.put_item-end.ensures.part (written-copied newline _ _ _ c.copy.ensures.count c.copy.ensures.content)

@@ -1,6 +1,0 @@
--- A longer area is cut to the screen, and the call ends since that is shorter.
-use Rattle.std.proofs.Common.{length}
-use Rattle.degas.proofs.reading.+read_rows.Given as goal
-
-abbrev pub decreases-read_rows : goal.decreases-read_rows
-decreases-read_rows l = length l.area.now
