@@ -64,9 +64,13 @@ class Structures(unittest.TestCase):
 class Numbers(unittest.TestCase):
     @unittest.skipUnless(OUTCOME.is_file(), "crates/outcome is needed")
     def test_names_and_numbers_as_in_the_library(self):
-        constants = re.findall(r"pub const (\w+): u8 = (\d+);", OUTCOME.read_text())
+        (cases,) = re.findall(r"^pub enum Reason \{\n(.*?)^\}", OUTCOME.read_text(), re.MULTILINE | re.DOTALL)
+        reasons = {
+            re.sub(r"(?<=[a-z])(?=[A-Z0-9])|(?<=[0-9])(?=[A-Z])", "_", case).upper(): int(number)
+            for case, number in re.findall(r"^ +(\w+) = (\d+),$", cases, re.MULTILINE)
+        }
         numbers = {refusal.name: refusal.value for refusal in kutimuq.RefusalNumber if refusal}
-        self.assertEqual(numbers, {name: int(number) for name, number in constants})
+        self.assertEqual(numbers, reasons)
 
     @unittest.skipUnless(FORMATS.is_file(), "docs/FORMATS.md is needed")
     def test_meanings_as_documented(self):
