@@ -53,10 +53,10 @@ fn judge_raster(r: Raster, room: usize) -> Result<(), Refusal>
     ensures { result ≡ judge_raster r room (Ok tt) }
 {
     if packbits::width_out_of_range(r.row_bytes()) {
-        return Err(outcome::refuse(Reason::OutOfRange));
+        return Err(Reason::OutOfRange.refuse());
     }
     if room < r.bytes() {
-        return Err(outcome::refuse(Reason::AreaTooShort));
+        return Err(Reason::AreaTooShort.refuse());
     }
     Ok(())
 }
@@ -97,12 +97,12 @@ pub fn read_body(
 {
     judge_raster(r, buffer.len())?;
     if area.len() < r.bytes() {
-        return Err(outcome::refuse(Reason::AreaTooShort));
+        return Err(Reason::AreaTooShort.refuse());
     }
     let unpacked = unpack_body(file, at, r, buffer)?;
     let end = at + unpacked.bytes;
     if !ends_after(file.len(), end, after) {
-        return Err(outcome::refuse_at(Reason::WrongTail, end));
+        return Err(Reason::WrongTail.refuse_at(end));
     }
     raster::put_rows(area, r, buffer);
     Ok(unpacked)
@@ -189,7 +189,7 @@ fn pack_below(
         out.old }
 {
     if body_too_long(area, r, limit, row) {
-        return Err(outcome::refuse(Reason::NoPackedBody));
+        return Err(Reason::NoPackedBody.refuse());
     }
     put_body(area, r, row, out)
 }
@@ -216,7 +216,7 @@ pub fn pack_body(
 {
     judge_raster(r, area.len())?;
     if out_too_short(out.len(), at, limit) {
-        return Err(outcome::refuse(Reason::AreaTooShort));
+        return Err(Reason::AreaTooShort.refuse());
     }
     let width = r.row_bytes();
     let mut row = [0u8; MAX_WIDTH];

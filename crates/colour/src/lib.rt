@@ -32,7 +32,7 @@ impl TryFrom<u8> for Machine {
         match number {
             1 => Ok(Machine::St),
             2 => Ok(Machine::Ste),
-            _ => Err(outcome::refuse(Reason::OutOfRange)),
+            _ => Err(Reason::OutOfRange.refuse()),
         }
     }
 }
@@ -173,7 +173,7 @@ pub fn colour(
     let r = Resolution::try_from(resolution)?;
     let m = Machine::try_from(machine)?;
     if register >= r.registers() {
-        return Err(outcome::refuse(Reason::OutOfRange));
+        return Err(Reason::OutOfRange.refuse());
     }
     Ok(register_colour(r, m, palette[register as usize], register))
 }

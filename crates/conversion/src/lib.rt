@@ -59,10 +59,10 @@ fn plain_to_elite(
         out.old }
 {
     if picture.tail_present {
-        return Err(outcome::refuse(Reason::UnknownKind));
+        return Err(Reason::UnknownKind.refuse());
     }
     if (word >> 2) % 8192 != 0 {
-        return Err(outcome::refuse(Reason::IgnoredBitsSet));
+        return Err(Reason::IgnoredBitsSet.refuse());
     }
     write_elite(picture, screen, out)
 }
@@ -76,7 +76,7 @@ fn elite_to_plain(picture: Picture, screen: &[u8], out: &mut [u8]) -> Result<Fil
         ≡ write_output (elite_to_plain picture screen.now (length out.old)) out.old }
 {
     if !zero_tail(picture) {
-        return Err(outcome::refuse(Reason::NoZeroTail));
+        return Err(Reason::NoZeroTail.refuse());
     }
     degas::write(Form::Plain, picture, screen, out)
 }
@@ -106,7 +106,7 @@ pub fn convert(to: Conversion, file: &[u8], out: &mut [u8]) -> Result<FileWritte
         ≡ write_output (convert to file.now (length out.old)) out.old }
 {
     if out.len() < FILE_BYTES {
-        return Err(outcome::refuse(Reason::AreaTooShort));
+        return Err(Reason::AreaTooShort.refuse());
     }
     convert_by_screen(to, file, &mut out[..FILE_BYTES])
 }

@@ -61,7 +61,7 @@ pub fn open_file(file: &[u8]) -> Result<Header, Refusal>
     ensures { result ≡ opening file.now }
 {
     if file.len() < HEADER_LENGTH {
-        return Err(outcome::refuse(Reason::WrongLength));
+        return Err(Reason::WrongLength.refuse());
     }
     let word = words::word_at(file, 0);
     let resolution = Resolution::try_from(word % 4)?;
@@ -78,7 +78,7 @@ pub fn read(file: &[u8], area: &mut [u8]) -> Result<PictureRead, Refusal>
         ≡ read_area (read_degas file.now (length area.old)) area.old }
 {
     if area.len() < SCREEN_BYTES {
-        return Err(outcome::refuse(Reason::AreaTooShort));
+        return Err(Reason::AreaTooShort.refuse());
     }
     let header = open_file(file)?;
     reading::read_opened(file, header, area)

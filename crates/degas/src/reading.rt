@@ -61,7 +61,7 @@ fn read_raw(file: &[u8], r: Resolution, area: &mut [u8]) -> Result<PictureRead, 
     if file.len() == ELITE_LENGTH {
         return Ok(copy_screen(file, elite_picture(file, r, PLAIN_LENGTH as u32), area));
     }
-    Err(outcome::refuse(Reason::WrongLength))
+    Err(Reason::WrongLength.refuse())
 }
 
 // The body of a packed file, and then exactly 32 bytes. The rows are unpacked into a buffer of the reader's own.
@@ -92,7 +92,7 @@ fn read_packed(file: &[u8], r: Resolution, area: &mut [u8]) -> Result<PictureRea
     ensures area { area.new ≡ read_area (read_packed file.now r) area.old }
 {
     if PACKED_MOST < file.len() {
-        return Err(outcome::refuse(Reason::WrongLength));
+        return Err(Reason::WrongLength.refuse());
     }
     let body = read_by_buffer(file, r, &mut area[..SCREEN_BYTES])?;
     let end = HEADER_LENGTH + body.bytes;

@@ -135,10 +135,10 @@ pub fn open_packed(file: &[u8]) -> Result<Resolution, Refusal>
 {
     let header = degas::open_file(file)?;
     if !header.packed {
-        return Err(outcome::refuse(Reason::UnknownKind));
+        return Err(Reason::UnknownKind.refuse());
     }
     if PACKED_MOST < file.len() {
-        return Err(outcome::refuse(Reason::WrongLength));
+        return Err(Reason::WrongLength.refuse());
     }
     Ok(header.resolution)
 }
@@ -211,12 +211,7 @@ fn record_step(file: &[u8], width: usize, cursor: RecordCursor) -> Stepped
     let r = packbits::record_at(file, cursor.offset, width - cursor.good_bytes);
     match packbits::fault_of(r) {
         Some(reason) => Stepped {
-            found: Err(outcome::refuse_in_row(
-                reason,
-                cursor.offset,
-                cursor.plane_row,
-                cursor.good_bytes,
-            )),
+            found: Err(reason.refuse_in_row(cursor.offset, cursor.plane_row, cursor.good_bytes)),
             next: cursor,
         },
         None => Stepped {
@@ -232,7 +227,7 @@ fn end_at(size: usize, at: usize) -> Result<Option<ListedRecord>, Refusal>
     ensures { result ≡ end_at size at }
 {
     if size < at || size - at != TAIL_LENGTH {
-        return Err(outcome::refuse_at(Reason::WrongTail, at));
+        return Err(Reason::WrongTail.refuse_at(at));
     }
     Ok(None)
 }
@@ -256,7 +251,7 @@ fn body_step(file: &[u8], rows: usize, width: usize, cursor: RecordCursor) -> St
 {
     if is_outside(file.len(), rows, width, cursor) {
         return Stepped {
-            found: Err(outcome::refuse(Reason::OutOfRange)),
+            found: Err(Reason::OutOfRange.refuse()),
             next: cursor,
         };
     }

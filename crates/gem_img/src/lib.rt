@@ -125,10 +125,10 @@ fn judge_header(file: &[u8]) -> Result<(), Refusal>
     ensures { result ≡ header_judged file.now }
 {
     if file.len() < LEAST_HEADER_BYTES || file.len() < header_bytes(file) {
-        return Err(outcome::refuse(Reason::WrongLength));
+        return Err(Reason::WrongLength.refuse());
     }
     if !in_profile(file) {
-        return Err(outcome::refuse(Reason::OutsideProfile));
+        return Err(Reason::OutsideProfile.refuse());
     }
     Ok(())
 }
@@ -168,11 +168,11 @@ fn start_line(file: &[u8], at: usize, left: usize) -> Result<LineStart, Refusal>
         });
     }
     if file.len().saturating_sub(at) < SCANLINE_RUN_LEN {
-        return Err(gem_img_records::refusal_at(Reason::InputEnds, at));
+        return Err(gem_img_records::refusal_at(Reason::InputEnds.number(), at));
     }
     let count = file[at + 3] as usize;
     if !run_allowed(file[at + 2], count, left) {
-        return Err(gem_img_records::refusal_at(Reason::WrongScanlineRun, at));
+        return Err(gem_img_records::refusal_at(Reason::WrongScanlineRun.number(), at));
     }
     Ok(LineStart {
         first: at + SCANLINE_RUN_LEN,
@@ -283,7 +283,7 @@ fn read_by_buffer(file: &[u8], area: &mut [u8]) -> Result<ImgSize, Refusal>
     let mut made = [0u8; AREA_BYTES];
     let end = unpack_image(file, &mut line, &mut made)?;
     if end < file.len() {
-        return Err(outcome::refuse_at(Reason::WrongTail, end));
+        return Err(Reason::WrongTail.refuse_at(end));
     }
     let width = words::word_at(file, WIDTH_START);
     let lines = words::word_at(file, LINES_START);
@@ -300,7 +300,7 @@ pub fn read(file: &[u8], area: &mut [u8]) -> Result<ImgSize, Refusal>
         ≡ img_area (read_img file.now (length area.old)) area.old }
 {
     if area.len() < AREA_BYTES {
-        return Err(outcome::refuse(Reason::AreaTooShort));
+        return Err(Reason::AreaTooShort.refuse());
     }
     judge_header(file)?;
     read_by_buffer(file, area)

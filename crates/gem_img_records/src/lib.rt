@@ -141,13 +141,13 @@ fn fault_of(r: Record, pattern: u16, left: usize, room: usize) -> Option<Reason>
 
 // The refusal of a record at an offset: a wrong scanline run has no place.
 // The refusal itself: callers put it into `Err`.
-pub fn refusal_at(reason: Reason, at: usize) -> Refusal
-    ensures { result ≡ refusal_at (number_of reason) at }
+pub fn refusal_at(number: u8, at: usize) -> Refusal
+    ensures { result ≡ refusal_at number at }
 {
-    if reason == Reason::WrongScanlineRun {
-        return outcome::refuse(reason);
+    if number == Reason::WrongScanlineRun as u8 {
+        return outcome::refuse(number);
     }
-    outcome::refuse_at(reason, at)
+    outcome::refuse_at(number, at)
 }
 
 // ---- what a record makes
@@ -187,7 +187,7 @@ pub fn unpack_line(file: &[u8], at: usize, pattern: u16, line: &mut [u8]) -> Res
     while to < width {
         let r = record_at(file, from);
         if let Some(reason) = fault_of(r, pattern, file.len().saturating_sub(from), width - to) {
-            return Err(refusal_at(reason, from));
+            return Err(refusal_at(reason.number(), from));
         }
         put_line_bytes(file, from, r, pattern, &mut line[to..]);
         from += packed_len(r, pattern);

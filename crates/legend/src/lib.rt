@@ -157,10 +157,10 @@ pub fn set_entry(
 {
     let at = register as usize;
     if !set_fits(legend, party, at, class, confidence) {
-        return Err(outcome::refuse(Reason::OutOfRange));
+        return Err(Reason::OutOfRange.refuse());
     }
     if is_anothers(legend, party, at) {
-        return Err(outcome::refuse(Reason::NotOwned));
+        return Err(Reason::NotOwned.refuse());
     }
     Ok(with_entry(legend, at, party, class as u8, confidence))
 }
@@ -172,10 +172,10 @@ pub fn release_entry(legend: Legend, party: u8, register: u8) -> Result<Legend, 
 {
     let at = register as usize;
     if !call_fits(legend, party, at) {
-        return Err(outcome::refuse(Reason::OutOfRange));
+        return Err(Reason::OutOfRange.refuse());
     }
     if !owns(legend, party, at) {
-        return Err(outcome::refuse(Reason::NotOwned));
+        return Err(Reason::NotOwned.refuse());
     }
     Ok(with_entry(legend, at, FREE, 0, 0))
 }

@@ -131,10 +131,10 @@ fn line_out_at(screen: &[u8], r: Resolution, line: usize, out: &mut [u8]) -> Res
         (λ l. over l out.old) out.old }
 {
     if r.height() <= line {
-        return Err(outcome::refuse(Reason::OutOfRange));
+        return Err(Reason::OutOfRange.refuse());
     }
     if out.len() < r.width() {
-        return Err(outcome::refuse(Reason::AreaTooShort));
+        return Err(Reason::AreaTooShort.refuse());
     }
     let table = spread_table();
     fill_line(&table, screen, r, line, out);
@@ -338,14 +338,14 @@ fn line_in_at(
         (λ s. s) screen.old }
 {
     if r.height() <= line {
-        return Err(outcome::refuse(Reason::OutOfRange));
+        return Err(Reason::OutOfRange.refuse());
     }
     if registers.len() < r.width() {
-        return Err(outcome::refuse(Reason::AreaTooShort));
+        return Err(Reason::AreaTooShort.refuse());
     }
     let bits = set_bits(registers, r.width());
     if r.registers() <= bits {
-        return Err(outcome::refuse(Reason::OutOfRange));
+        return Err(Reason::OutOfRange.refuse());
     }
     put_line(screen, r, line, registers);
     Ok(())
@@ -396,7 +396,7 @@ fn screen_out_at(screen: &[u8], r: Resolution, out: &mut [u8]) -> Result<(), Ref
         (λ l. over l out.old) out.old }
 {
     if out.len() < pixels(r) {
-        return Err(outcome::refuse(Reason::AreaTooShort));
+        return Err(Reason::AreaTooShort.refuse());
     }
     let table = spread_table();
     copy_lines(&table, screen, r, out);
@@ -437,11 +437,11 @@ fn screen_in_at(screen: &mut [u8], r: Resolution, registers: &[u8]) -> Result<()
 {
     let n = pixels(r);
     if registers.len() < n {
-        return Err(outcome::refuse(Reason::AreaTooShort));
+        return Err(Reason::AreaTooShort.refuse());
     }
     let all = set_bits(registers, n);
     if r.registers() <= all {
-        return Err(outcome::refuse(Reason::OutOfRange));
+        return Err(Reason::OutOfRange.refuse());
     }
     put_lines(screen, r, registers);
     Ok(())

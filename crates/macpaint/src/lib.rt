@@ -66,10 +66,10 @@ fn judge_header(file: &[u8]) -> Result<(), Refusal>
     ensures { result ≡ judge_header file.now (Ok tt) }
 {
     if file.len() < HEADER_LENGTH || LONGEST_FILE < file.len() {
-        return Err(outcome::refuse(Reason::WrongLength));
+        return Err(Reason::WrongLength.refuse());
     }
     if !version_allowed(file) {
-        return Err(outcome::refuse(Reason::WrongVersion));
+        return Err(Reason::WrongVersion.refuse());
     }
     Ok(())
 }
@@ -101,7 +101,7 @@ pub fn read(file: &[u8], plate: &mut [u8]) -> Result<Packed, Refusal>
         ≡ body_area (read_plate file.now (length plate.old)) plate.old }
 {
     if plate.len() < PLATE_BYTES {
-        return Err(outcome::refuse(Reason::AreaTooShort));
+        return Err(Reason::AreaTooShort.refuse());
     }
     judge_header(file)?;
     read_by_buffer(file, &mut plate[..PLATE_BYTES])

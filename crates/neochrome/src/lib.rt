@@ -40,10 +40,10 @@ pub fn open_file(file: &[u8]) -> Result<Resolution, Refusal>
     ensures { result ≡ opening file.now }
 {
     if file.len() != FILE_LENGTH {
-        return Err(outcome::refuse(Reason::WrongLength));
+        return Err(Reason::WrongLength.refuse());
     }
     if words::word_at(file, 0) != 0 {
-        return Err(outcome::refuse(Reason::WrongFlag));
+        return Err(Reason::WrongFlag.refuse());
     }
     Resolution::try_from(words::word_at(file, RESOLUTION_START))
 }
@@ -74,7 +74,7 @@ pub fn read(file: &[u8], area: &mut [u8]) -> Result<PictureRead, Refusal>
         ≡ read_area (read_neochrome file.now (length area.old)) area.old }
 {
     if area.len() < SCREEN_BYTES {
-        return Err(outcome::refuse(Reason::AreaTooShort));
+        return Err(Reason::AreaTooShort.refuse());
     }
     let resolution = open_file(file)?;
     Ok(read_opened(file, resolution, area))

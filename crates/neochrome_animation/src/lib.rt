@@ -28,7 +28,7 @@ impl TryFrom<u8> for FormatList {
         match number {
             1 => Ok(FormatList::Of1989),
             2 => Ok(FormatList::Of2008),
-            _ => Err(outcome::refuse(Reason::UnknownKind)),
+            _ => Err(Reason::UnknownKind.refuse()),
         }
     }
 }
@@ -209,7 +209,7 @@ fn flag_as_resolution(refusal: Refusal) -> Refusal
     ensures { result ≡ flag_as_resolution refusal }
 {
     if refusal.number == Reason::WrongFlag.number() {
-        return outcome::refuse(Reason::UnknownResolution);
+        return Reason::UnknownResolution.refuse();
     }
     refusal
 }

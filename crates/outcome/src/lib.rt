@@ -54,16 +54,6 @@ pub enum Reason {
     WrongScanlineRun = 22,
 }
 
-impl Reason {
-    // The number that stands for it in a refusal.
-    // Stays: C has the number, and the clauses of every refusal speak of it by `number_of`.
-    pub fn number(self) -> u8
-        ensures { result ≡ number_of self }
-    {
-        self as u8
-    }
-}
-
 // Why an input is refused, and where. All are 0 where it is accepted.
 #[repr(C)]
 #[derive(Clone, Copy, Debug, PartialEq, Eq)]
@@ -80,38 +70,64 @@ pub struct Refusal {
 pub fn none() -> Refusal
     ensures { result ≡ none }
 {
-    Refusal {
-        number: 0,
-        place: 0,
-        plane_row: 0,
-        good_bytes: 0,
-    }
+    refuse_at(0, 0)
 }
 
-// Refused for a reason at a place.
-pub fn refuse_at(reason: Reason, place: usize) -> Refusal
-    ensures { result ≡ refusal (number_of reason) place }
+// Refused with a number at a place.
+pub fn refuse_at(number: u8, place: usize) -> Refusal
+    ensures { result ≡ refusal number place }
 {
-    refuse_in_row(reason, place, 0, 0)
+    refuse_in_row(number, place, 0, 0)
 }
 
 // Refused at a record of a plane row, with the bytes of the row before it.
-pub fn refuse_in_row(reason: Reason, place: usize, plane_row: usize, good_bytes: usize) -> Refusal
-    ensures { result ≡ row_refusal (number_of reason) place plane_row good_bytes }
+pub fn refuse_in_row(number: u8, place: usize, plane_row: usize, good_bytes: usize) -> Refusal
+    ensures { result ≡ row_refusal number place plane_row good_bytes }
 {
     Refusal {
-        number: reason.number(),
+        number,
         place,
         plane_row,
         good_bytes,
     }
 }
 
-// Refused for a reason that has no place.
-pub fn refuse(reason: Reason) -> Refusal
-    ensures { result ≡ refusal (number_of reason) 0 }
+// Refused with a number that has no place.
+pub fn refuse(number: u8) -> Refusal
+    ensures { result ≡ refusal number 0 }
 {
-    refuse_at(reason, 0)
+    refuse_at(number, 0)
+}
+
+impl Reason {
+    // The number that stands for it in a refusal.
+    // Stays: C has the number, and the clauses of every refusal speak of it by `number_of`.
+    pub fn number(self) -> u8
+        ensures { result ≡ number_of self }
+    {
+        self as u8
+    }
+
+    // Refused for it, without a place.
+    pub fn refuse(self) -> Refusal
+        ensures { result ≡ refusal (number_of self) 0 }
+    {
+        refuse(self.number())
+    }
+
+    // Refused for it at a place.
+    pub fn refuse_at(self, place: usize) -> Refusal
+        ensures { result ≡ refusal (number_of self) place }
+    {
+        refuse_at(self.number(), place)
+    }
+
+    // Refused for it at a record of a plane row, with the bytes of the row before it.
+    pub fn refuse_in_row(self, place: usize, plane_row: usize, good_bytes: usize) -> Refusal
+        ensures { result ≡ row_refusal (number_of self) place plane_row good_bytes }
+    {
+        refuse_in_row(self.number(), place, plane_row, good_bytes)
+    }
 }
 
 // The refusal that C gets: of an acceptance it is none.

@@ -606,10 +606,10 @@ pub fn pack_into(row: &[u8], out: &mut [u8]) -> Result<Packed, Refusal>
         ≡ row_output (pack_into row.now (length out.old)) out.old }
 {
     if packbits::width_out_of_range(row.len()) {
-        return Err(outcome::refuse(Reason::OutOfRange));
+        return Err(Reason::OutOfRange.refuse());
     }
     if exceeds(row, out.len()) {
-        return Err(outcome::refuse(Reason::AreaTooShort));
+        return Err(Reason::AreaTooShort.refuse());
     }
     Ok(emit(row, out))
 }
@@ -622,10 +622,10 @@ pub fn pack_row(row: &[u8], out: &mut [u8]) -> Result<Packed, Refusal>
         ≡ row_output (pack_row row.now (length out.old)) out.old }
 {
     if packbits::width_out_of_range(row.len()) {
-        return Err(outcome::refuse(Reason::OutOfRange));
+        return Err(Reason::OutOfRange.refuse());
     }
     if out.len() < MAX_BODY {
-        return Err(outcome::refuse(Reason::AreaTooShort));
+        return Err(Reason::AreaTooShort.refuse());
     }
     pack_into(row, out)
 }

@@ -144,10 +144,10 @@ pub fn judge_writing(screen: usize, out: usize, resolution: u16) -> Result<Resol
     ensures { result ≡ judge_writing screen out resolution }
 {
     if screen < SCREEN_BYTES {
-        return Err(outcome::refuse(Reason::AreaTooShort));
+        return Err(Reason::AreaTooShort.refuse());
     }
     if out < FILE_BYTES {
-        return Err(outcome::refuse(Reason::AreaTooShort));
+        return Err(Reason::AreaTooShort.refuse());
     }
     Resolution::try_from(resolution)
 }

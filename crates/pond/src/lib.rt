@@ -129,7 +129,7 @@ pub fn read_pond(
 {
     let counts = tally(screen, resolution, rectangle)?;
     if !question_fits(party, class, floor, legend) {
-        return Err(outcome::refuse(Reason::OutOfRange));
+        return Err(Reason::OutOfRange.refuse());
     }
     Ok(pond_counts(counts, legend, party, class, floor))
 }

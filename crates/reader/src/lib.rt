@@ -29,7 +29,7 @@ impl TryFrom<u8> for Kind {
             1 => Ok(Kind::Degas),
             2 => Ok(Kind::Neochrome),
             3 => Ok(Kind::Tiny),
-            _ => Err(outcome::refuse(Reason::UnknownKind)),
+            _ => Err(Reason::UnknownKind.refuse()),
         }
     }
 }
@@ -42,7 +42,7 @@ pub fn read(kind: u8, file: &[u8], area: &mut [u8]) -> Result<PictureRead, Refus
         ≡ read_area (read_file kind file.now (length area.old)) area.old }
 {
     if area.len() < SCREEN_BYTES {
-        return Err(outcome::refuse(Reason::AreaTooShort));
+        return Err(Reason::AreaTooShort.refuse());
     }
     match Kind::try_from(kind)? {
         Kind::Degas => degas::read(file, area),

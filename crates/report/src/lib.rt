@@ -35,7 +35,7 @@ pub fn summarise(file: &[u8], out: &mut [u8]) -> Result<usize, Refusal>
     ensures within { IfOk result (λ n. IsPrefixLen n out.new) }
 {
     if out.len() < SUMMARY_BYTES {
-        return Err(outcome::refuse(Reason::AreaTooShort));
+        return Err(Reason::AreaTooShort.refuse());
     }
     Ok(put_summary(file, out))
 }

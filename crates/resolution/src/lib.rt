@@ -41,7 +41,7 @@ impl TryFrom<u16> for Resolution {
             0 => Ok(Resolution::Low),
             1 => Ok(Resolution::Medium),
             2 => Ok(Resolution::High),
-            _ => Err(outcome::refuse(Reason::UnknownResolution)),
+            _ => Err(Reason::UnknownResolution.refuse()),
         }
     }
 }
@@ -175,7 +175,7 @@ pub fn judge_screen(screen_len: usize, number: u16) -> Result<Resolution, Refusa
     ensures { result ≡ judge_screen screen_len number (λ r. Ok r) }
 {
     if screen_len < SCREEN_BYTES {
-        return Err(outcome::refuse(Reason::AreaTooShort));
+        return Err(Reason::AreaTooShort.refuse());
     }
     Resolution::try_from(number)
 }

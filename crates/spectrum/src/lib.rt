@@ -32,7 +32,7 @@ impl TryFrom<u8> for Kind {
         match number {
             4 => Ok(Kind::Spu),
             5 => Ok(Kind::Spc),
-            _ => Err(outcome::refuse(Reason::UnknownKind)),
+            _ => Err(Reason::UnknownKind.refuse()),
         }
     }
 }
@@ -78,7 +78,7 @@ fn read_spu(file: &[u8], screen: &mut [u8], palettes: &mut [u16]) -> Result<(), 
     ensures { Reads (read_spu file.now) screen.old palettes.old result screen.new palettes.new }
 {
     if file.len() != SPU_BYTES {
-        return Err(outcome::refuse(Reason::WrongLength));
+        return Err(Reason::WrongLength.refuse());
     }
     copies::put_part(file, 0, SCREEN_BYTES, screen);
     words::get_words(&file[SCREEN_BYTES..], palettes);
@@ -126,7 +126,7 @@ fn put_maps(
     ensures { Reads (read_maps file.now) screen.old palettes.old result screen.new palettes.new }
 {
     if MOST_LEFT < end.saturating_sub(last) {
-        return Err(outcome::refuse(Reason::SizeMismatch));
+        return Err(Reason::SizeMismatch.refuse());
     }
     spectrum_colour_map::read_map(file, end, palettes)?;
     put_screen(planes, screen);
@@ -172,17 +172,17 @@ fn read_spc(file: &[u8], screen: &mut [u8], palettes: &mut [u16]) -> Result<(), 
     ensures { Reads (read_spc file.now) screen.old palettes.old result screen.new palettes.new }
 {
     if file.len() < HEADER_BYTES {
-        return Err(outcome::refuse(Reason::WrongLength));
+        return Err(Reason::WrongLength.refuse());
     }
     let end = HEADER_BYTES + long_at(file, DATA_LENGTH_START);
     if file.len() != end + long_at(file, COLOUR_LENGTH_START) {
-        return Err(outcome::refuse(Reason::WrongLength));
+        return Err(Reason::WrongLength.refuse());
     }
     if words::word_at(file, FLAG_START) != SPC_FLAG {
-        return Err(outcome::refuse(Reason::WrongHeader));
+        return Err(Reason::WrongHeader.refuse());
     }
     if words::word_at(file, RESERVED_START) != 0 {
-        return Err(outcome::refuse(Reason::WrongHeader));
+        return Err(Reason::WrongHeader.refuse());
     }
     read_maps(file, end, screen, palettes)
 }
@@ -202,7 +202,7 @@ pub fn read(kind: u8, file: &[u8], screen: &mut [u8], palettes: &mut [u16]) -> R
         palettes.old }
 {
     if screen.len() < SCREEN_BYTES || palettes.len() < PALETTE_WORDS {
-        return Err(outcome::refuse(Reason::AreaTooShort));
+        return Err(Reason::AreaTooShort.refuse());
     }
     match Kind::try_from(kind)? {
         Kind::Spu => read_spu(file, screen, palettes),

@@ -68,15 +68,15 @@ fn judge_palette(file: &[u8], at: usize) -> Result<usize, Refusal>
     ensures { result ≡ judge_palette file.now at }
 {
     if lacks(file.len(), at, VECTOR_BYTES) {
-        return Err(outcome::refuse_at(Reason::InputEnds, at));
+        return Err(Reason::InputEnds.refuse_at(at));
     }
     let vector = word_inside(file, at);
     if bit(vector, UNUSED_ENTRY) == 1 {
-        return Err(outcome::refuse(Reason::Bit15Set));
+        return Err(Reason::Bit15Set.refuse());
     }
     let bytes = VECTOR_BYTES + named(vector) * WORD_BYTES;
     if lacks(file.len(), at, bytes) {
-        return Err(outcome::refuse_at(Reason::InputEnds, at));
+        return Err(Reason::InputEnds.refuse_at(at));
     }
     Ok(at + bytes)
 }
@@ -98,7 +98,7 @@ fn judge_map(file: &[u8], at: usize) -> Result<usize, Refusal>
 {
     let end = judge_palettes(file, at, PALETTE_COUNT)?;
     if end < file.len() {
-        return Err(outcome::refuse(Reason::SizeMismatch));
+        return Err(Reason::SizeMismatch.refuse());
     }
     Ok(end)
 }
@@ -179,7 +179,7 @@ pub fn read_map(file: &[u8], at: usize, area: &mut [u16]) -> Result<(), Refusal>
         ≡ map_area (read_map file.now at (length area.old)) area.old }
 {
     if area.len() < PALETTE_WORDS {
-        return Err(outcome::refuse(Reason::AreaTooShort));
+        return Err(Reason::AreaTooShort.refuse());
     }
     judge_map(file, at)?;
     put_palettes(file, at, PALETTE_COUNT, area);

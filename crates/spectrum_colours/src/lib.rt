@@ -114,10 +114,10 @@ pub fn pixel_word(
     ensures { result ≡ pixel_word screen.now palettes.now column line }
 {
     if areas_short(screen.len(), palettes.len()) {
-        return Err(outcome::refuse(Reason::AreaTooShort));
+        return Err(Reason::AreaTooShort.refuse());
     }
     if COLUMNS <= column || without_palette(line) {
-        return Err(outcome::refuse(Reason::OutOfRange));
+        return Err(Reason::OutOfRange.refuse());
     }
     Ok(shown_word(screen, palettes, column, line))
 }
@@ -176,13 +176,13 @@ pub fn line_words(
         (length out.old)) (λ words. over words out.old) out.old }
 {
     if areas_short(screen.len(), palettes.len()) {
-        return Err(outcome::refuse(Reason::AreaTooShort));
+        return Err(Reason::AreaTooShort.refuse());
     }
     if without_palette(line) {
-        return Err(outcome::refuse(Reason::OutOfRange));
+        return Err(Reason::OutOfRange.refuse());
     }
     if out.len() < COLUMNS {
-        return Err(outcome::refuse(Reason::AreaTooShort));
+        return Err(Reason::AreaTooShort.refuse());
     }
     put_line(screen, palettes, line, out);
     Ok(())

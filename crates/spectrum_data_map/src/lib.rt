@@ -37,14 +37,14 @@ fn judge_record(map: &[u8], at: usize, room: usize) -> Result<(), Refusal>
     ensures { result ≡ void (record_step map.now at room) }
 {
     if map.len() <= at {
-        return Err(outcome::refuse_at(Reason::InputEnds, at));
+        return Err(Reason::InputEnds.refuse_at(at));
     }
     let x = map[at];
     if room < made_by(x) {
-        return Err(outcome::refuse_at(Reason::RecordCrosses, at));
+        return Err(Reason::RecordCrosses.refuse_at(at));
     }
     if map.len() - at < taken_by(x) {
-        return Err(outcome::refuse_at(Reason::InputEnds, at));
+        return Err(Reason::InputEnds.refuse_at(at));
     }
     Ok(())
 }

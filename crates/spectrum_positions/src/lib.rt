@@ -70,7 +70,7 @@ pub fn position(column: usize, register: u8) -> Result<u8, Refusal>
     ensures { result ≡ judge_position column register }
 {
     if COLUMNS <= column || REGISTERS <= register {
-        return Err(outcome::refuse(Reason::OutOfRange));
+        return Err(Reason::OutOfRange.refuse());
     }
     Ok(table_entry(column, register))
 }

@@ -385,7 +385,7 @@ fn tally_at(screen: &[u8], r: Resolution, rectangle: Rectangle) -> Result<[u32; 
     ensures { result ≡ tallied_at screen.now r rectangle }
 {
     if !rectangle_fits(r, rectangle) {
-        return Err(outcome::refuse(Reason::OutOfRange));
+        return Err(Reason::OutOfRange.refuse());
     }
     Ok(count_rectangle(screen, r, rectangle))
 }

@@ -201,10 +201,10 @@ fn read_by_buffer(file: &[u8], area: &mut [u8]) -> Result<PictureRead, Refusal>
     let mut made = [0u8; SCREEN_BYTES];
     let done = expand_sections(file, &mut made);
     if let Some(reason) = done.fault {
-        return Err(outcome::refuse_at(reason, start + done.controls.0));
+        return Err(reason.refuse_at(start + done.controls.0));
     }
     if done.datas.0 < data_count(file).0 || done.words < SCREEN_WORDS {
-        return Err(outcome::refuse(Reason::SizeMismatch));
+        return Err(Reason::SizeMismatch.refuse());
     }
     put_screen(&made, area);
     Ok(PictureRead {
@@ -238,10 +238,10 @@ fn read_sections(file: &[u8], area: &mut [u8]) -> Result<PictureRead, Refusal>
 {
     let start = control_start(file);
     if file.len() < start {
-        return Err(outcome::refuse(Reason::WrongLength));
+        return Err(Reason::WrongLength.refuse());
     }
     if file.len() - start != body_length(file) {
-        return Err(outcome::refuse(Reason::WrongLength));
+        return Err(Reason::WrongLength.refuse());
     }
     read_runs(file, area)
 }
@@ -255,13 +255,13 @@ pub fn read(file: &[u8], area: &mut [u8]) -> Result<PictureRead, Refusal>
         ≡ read_area (read_tiny file.now (length area.old)) area.old }
 {
     if area.len() < SCREEN_BYTES {
-        return Err(outcome::refuse(Reason::AreaTooShort));
+        return Err(Reason::AreaTooShort.refuse());
     }
     if file.len() < SHORTEST_LENGTH {
-        return Err(outcome::refuse(Reason::WrongLength));
+        return Err(Reason::WrongLength.refuse());
     }
     if HIGHEST_BYTE < resolution_byte(file) {
-        return Err(outcome::refuse(Reason::UnknownResolution));
+        return Err(Reason::UnknownResolution.refuse());
     }
     read_sections(file, area)
 }

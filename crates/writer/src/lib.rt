@@ -42,7 +42,7 @@ impl TryFrom<u8> for Form {
             2 => Ok(Form::Degas(degas::Form::Elite)),
             3 => Ok(Form::Degas(degas::Form::Packed)),
             4 => Ok(Form::Neochrome),
-            _ => Err(outcome::refuse(Reason::UnknownKind)),
+            _ => Err(Reason::UnknownKind.refuse()),
         }
     }
 }
@@ -59,7 +59,7 @@ pub fn write(
         ≡ write_output (write_file form picture screen.now (length out.old)) out.old }
 {
     if screen.len() < SCREEN_BYTES || out.len() < FILE_BYTES {
-        return Err(outcome::refuse(Reason::AreaTooShort));
+        return Err(Reason::AreaTooShort.refuse());
     }
     match Form::try_from(form)? {
         Form::Degas(form) => degas::write(form, picture, screen, out),

@@ -15,7 +15,7 @@ returns-in-Some c =
     c.in-Some.ensures in
     let bad : fault_at a.pattern a.file.now l.from room ≡ 0 → ⊥ = λ e. number-some c.in-Some.reason (n ∙ e) in
     let d = putting-done l.invariant.filled _ (line-fault a.pattern a.file.now l.from room (omega arith) bad) in
-    record { answer = rw (d.0, c.refusal_at.ensures, n); line = d.1 }
+    record { answer = rw (d.0, c.refusal_at.ensures, c.number.ensures, n); line = d.1 }
 
 pub returns : goal.returns
 returns c =
