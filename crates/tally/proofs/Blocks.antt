@@ -170,7 +170,7 @@ ones-reversed b wide v hv among h =
     ∙ sym (set-digit b wide v hv among (swapped_digit j) (omega arith)))
 
 -- the pixels with register v, of m that have t to their right, by the bytes in reverse order
-ones-pixels : (b : Block) → Digits64 b → (v m t : ℕ) → v < 16 → m + t ≤ 64
+pub ones-pixels : (b : Block) → Digits64 b → (v m t : ℕ) → v < 16 → m + t ≤ 64
     → ones (register_set (reversed_block b) (reversed (2 ^ (m + t) - 2 ^ t)) v)
     ≡ sum m (λ k. is_register v (part_register b m t k))
 ones-pixels b wide v m t hv h =
@@ -184,7 +184,7 @@ none-past v limit m f h below =
     ∙ omega (arith, sum-const m 0)
 
 -- what is counted when each set's size is added, and each register is below a limit
-counted-block : (b : Block) → Digits64 b → (limit : ℕ) → limit ≤ 16 → ((j : ℕ) → block_register b j < limit)
+pub counted-block : (b : Block) → Digits64 b → (limit : ℕ) → limit ≤ 16 → ((j : ℕ) → block_register b j < limit)
     → (c sets : List ℕ) (among m t : ℕ) → m + t ≤ 64 → among ≡ reversed (2 ^ (m + t) - 2 ^ t)
     → sets ≡ tabulate limit (λ v. register_set (reversed_block b) among v)
     → tabulate 16 (λ v. get_or c v 0 + ones (get_or sets v 0)) ≡ counted c (part_register b m t) m
@@ -358,7 +358,7 @@ present-lt : (here : Bool) (p : ℕ) → p < 2 ^ 64 → cond here p 0 < 2 ^ 64
 present-lt true p h = h
 present-lt false p h = omega arith
 
-block-digits : (s : List ℕ) → Bytes s → (at planes : ℕ) → Digits64 (block_at s at planes)
+pub block-digits : (s : List ℕ) → Bytes s → (at planes : ℕ) → Digits64 (block_at s at planes)
 block-digits s bytes at planes = (
   plane_block-lt s bytes at (planes * 2),
   present-lt (ltb 1 planes) _ (plane_block-lt s bytes (at + 2) (planes * 2)),

@@ -73,7 +73,7 @@ unfolding reversed from_bytes byte_of
 swapped_bytes x = omega arith
 
 -- from words that are made of bytes
-from_bytes-words : (r : ℕ → ℕ)
+pub from_bytes-words : (r : ℕ → ℕ)
     → (((r 0 * 256 + r 1) * 65536 + (r 2 * 256 + r 3)) * 65536 + (r 4 * 256 + r 5)) * 65536 + (r 6 * 256 + r 7)
     ≡ from_bytes 8 (λ k. r (7 - k))
 unfolding from_bytes
