@@ -425,14 +425,15 @@ fn what_is_near(a: u8, b: u8, c: u8, d: u8) -> Near
     ensures single { result ≡ Single → (a ≡ b → ⊥) × (b ≡ c) × (c ≡ d) }
 {
     if b != c {
-        Near::Neither
-    } else if a == b {
-        Near::Run
-    } else if c == d {
-        Near::Single
-    } else {
-        Near::Neither
+        return Near::Neither;
     }
+    if a == b {
+        return Near::Run;
+    }
+    if c != d {
+        return Near::Neither;
+    }
+    Near::Single
 }
 
 // Records from the left: the place of the row that they reach, their bytes and their number.
