@@ -156,7 +156,8 @@ fn put_group(made: &[u8], y: usize, g: usize, out: &mut [u8])
 {
     for s in 0..SETS {
         let at = g * COLUMN_BYTES + y * 2 + s * SET_BYTES;
-        words::put_word(words::word_of(made[at], made[at + 1]), &mut out[s * 2..]);
+        let word = words::word_of(made[at], made[at + 1]);
+        [out[s * 2], out[s * 2 + 1]] = words::word_bytes(word);
     }
 }
 

@@ -1,14 +1,15 @@
 -- The bytes of words: of two lists, and of the loops that put them.
 use mathlib.Core.Path.{◌≡◌, refl, sym, ap, ◌∙◌}
 use mathlib.Core.List.{List, [], ◌∷◌, ◌++◌, flatten, append_assoc}
-use Prim.Native.Nat.{ℕ, ◌+◌, ◌-◌, ◌*◌, ◌≤◌, ◌<◌}
+use Prim.Native.Nat.{ℕ, ◌+◌, ◌-◌, ◌*◌, ◌/◌, ◌%◌, ◌≤◌, ◌<◌}
+use native.Mathlib.Numerals.{add-one}
 use native.Mathlib.Omega.{arith}
 use borrow.Rule.Slice.PartMut.{put_mid}
-use lib.ListN.{length, get_or, take, drop, length-drop}
-use lib.Seq.{take-add, take_all, length-take-le, get_or-drop}
-use Rattle.lists.specs.Over.{over}
+use lib.ListN.{length, get_or, take, drop, set, length-drop}
+use lib.Seq.{sets-eq, take-add, take_all, length-take-le, get_or-drop, drop-drop}
+use Rattle.lists.specs.Over.{over, over_at}
 use Rattle.lists.specs.Tabulate.{tabulate}
-use Rattle.lists.proofs.Parts.{over-append}
+use Rattle.lists.proofs.Parts.{over-append, over-put}
 use Rattle.lists.proofs.Tabulate.{length-tabulate, get_or-tabulate, tabulate-ext, tabulate-take}
 use Rattle.words.specs.Word.{word_bytes, words_bytes}
 use Rattle.words.proofs.Word.{length-words_bytes}
@@ -92,3 +93,22 @@ word-turn {f = f} {i = i} p h w t e there =
     let same : i ≡ i * 1 + j = omega arith in
     e ∙ ap f same)
     there
+
+-- a turn of one word, whose two bytes were stored one after the other
+pub word-stores : {n : ℕ} {f : ℕ → ℕ} {d out : List ℕ} {i : ℕ} → Putting n 1 f d out i → i < n → i * 2 + 2 ≤ length out
+    → (w : ℕ) (bytes : List ℕ) → w ≡ f i → bytes ≡ word_bytes w
+    → Putting n 1 f d (set (set out (i * 2) (get_or bytes 0 0)) (i * 2 + 1) (get_or bytes 1 0)) (i + 1)
+unfolding word_bytes
+word-stores {n = n} {f = f} {d = d} {out = out} {i = i} p h room w bytes e is =
+    let at : ℕ = i * 2 in
+    let part : List ℕ = over (word_bytes w) (take (length out - at) (drop at out)) in
+    let stored : set (set out at (get_or bytes 0 0)) (at + 1) (get_or bytes 1 0) ≡ over_at at (word_bytes w) out =
+    ap (λ (b : List ℕ). set (set out at (get_or b 0 0)) (at + 1) (get_or b 1 0)) is
+    ∙ ap (λ (k : ℕ). set (set out at (w / 256)) k (w % 256)) (add-one at)
+    ∙ sets-eq (word_bytes w) out at room
+    ∙ append_assoc (take at out) (word_bytes w) (drop (at + 2) out)
+    ∙ ap (λ (l : List ℕ). take at out ++ (word_bytes w ++ l)) (sym (drop-drop 2 at out))
+    in
+    let lent : put_mid at (length out - at) out part ≡ over_at at (word_bytes w) out =
+    over-put out part (word_bytes w) at (omega (arith, room)) refl in
+    rw (lent ∙ sym stored) at (word-turn p h w part e refl)

@@ -5,7 +5,7 @@
 ghost use Rattle.std.specs.Prelude.{◌≡◌, cond, ◌+◌, ◌*◌, ◌/◌, ◌^◌, ◌≤◌, ◌<◌, length, Ok, None};
 ghost use Rattle.lists.specs.Over.{over};
 ghost use Rattle.lists.specs.Tabulate.{tabulate};
-ghost use Rattle.words.specs.Word.{word_at, words_bytes};
+ghost use Rattle.words.specs.Word.{word_at, word_bytes, words_bytes};
 ghost use Rattle.tiny_runs.specs.Runs.{standing_of, defined, long_run, run_of, fitted, run_at, source_of};
 ghost use Rattle.tiny_runs.specs.Expansion.{expand_section, Counted};
 
@@ -109,13 +109,21 @@ fn run_at(controls: &[u8], left: DataWords, room: usize) -> Result<Run, Reason>
 
 // ---- the words of a run, as bytes
 
+// The bytes of a word, over the front of an output.
+fn put_word(word: u16, out: &mut [u8])
+    requires { 2 ≤ length out.old }
+    ensures { out.new ≡ over (word_bytes word) out.old }
+{
+    [out[0], out[1]] = words::word_bytes(word);
+}
+
 // A word, `count` times.
 fn put_repeat(word: u16, count: usize, out: &mut [u8])
     requires { count * 2 ≤ length out.old }
     ensures { out.new ≡ over (words_bytes (tabulate count (λ i. word))) out.old }
 {
     for i in 0..count {
-        words::put_word(word, &mut out[i * 2..]);
+        put_word(word, &mut out[i * 2..]);
     }
 }
 
@@ -128,7 +136,7 @@ fn put_literal(section: &[u8], taken: usize, count: usize, out: &mut [u8])
 {
     for i in 0..count {
         let at = (taken + i) * 2;
-        words::put_word(
+        put_word(
             words::word_of(section[at], section[at + 1]),
             &mut out[i * 2..],
         );

@@ -39,15 +39,6 @@ pub fn word_bytes(word: u16) -> [u8; 2]
     [(word / 256) as u8, (word % 256) as u8]
 }
 
-// The bytes of a word, over the front of an output.
-pub fn put_word(word: u16, out: &mut [u8])
-    requires { 2 ≤ length out.old }
-    ensures { out.new ≡ over (word_bytes word) out.old }
-{
-    out[0] = (word / 256) as u8;
-    out[1] = (word % 256) as u8;
-}
-
 // Words one after the other, over the front of an output: as many as it has room for.
 pub fn put_words(words: &[u16], out: &mut [u8])
     ensures { out.new

@@ -1,6 +1,6 @@
 use Rattle.std.proofs.Common.{refl, sym, ap, ◌∙◌, arith, rules}
 use Rattle.words.specs.Word.{word_at}
-use Rattle.tiny_runs.proofs.WordBytes.{putting-start, putting-done, word-turn}
+use Rattle.tiny_runs.proofs.WordBytes.{putting-start, putting-done, word-stores}
 use Rattle.tiny.specs.ScreenWords.{sets}
 use Rattle.tiny.proofs.ScreenWords.{group-word}
 use Rattle.tiny.proofs.put_group.Goals as goal
@@ -18,8 +18,9 @@ loop-s-preserved c =
     record {
       kept = search rules;
       putting =
-          word-turn l.invariant.putting c.loop-s-test.true _ _
-          (c.word_of.ensures ∙ ap (word_at a.made.now) (sym place)) c.put_word.ensures;
+          word-stores l.invariant.putting c.loop-s-test.true
+          (omega (arith, c.loop-s-test.true, l.invariant.kept, c.requires.screen_bytes_in_bounds)) _ _
+          (c.word_of-word.ensures ∙ ap (word_at a.made.now) (sym place)) c.word_bytes.ensures;
     }
 
 pub returns : goal.returns
