@@ -1,4 +1,4 @@
-use Rattle.std.proofs.Common.{refl, sym, ap, ◌∙◌, arith, rules}
+use Rattle.std.proofs.Common.{refl, ap, ◌∙◌, arith, rules}
 use Rattle.words.specs.Word.{word_at}
 use Rattle.tiny_runs.proofs.WordBytes.{putting-start, putting-done, word-stores}
 use Rattle.tiny.specs.ScreenWords.{sets}
@@ -20,7 +20,7 @@ loop-s-preserved c =
       putting =
           word-stores l.invariant.putting c.loop-s-test.true
           (omega (arith, c.loop-s-test.true, l.invariant.kept, c.requires.screen_bytes_in_bounds)) _ _
-          (c.word_of-word.ensures ∙ ap (word_at a.made.now) (sym place)) c.word_bytes.ensures;
+          (c.word_of-word.ensures ∙ ap (word_at a.made.now) (omega (arith, place))) c.word_bytes.ensures;
     }
 
 pub returns : goal.returns
