@@ -43,7 +43,7 @@ pub fn unpack_into(file: &[u8], at: usize, out: &mut [u8]) -> Result<Packed, Ref
     while to < width {
         let r = packbits::record_at(file, from, width - to);
         if let Some(reason) = packbits::fault_of(r) {
-            return Err(reason.refuse_in_row(from, 0, to));
+            return Err(outcome::refuse_in_row(reason, from, 0, to));
         }
         put_row_bytes(file, from, r, &mut out[to..]);
         from += packbits::packed_len(r);
@@ -77,10 +77,10 @@ pub fn unpack_row(packed: &[u8], width: usize, out: &mut [u8]) -> Result<Packed,
         ≡ row_output (unpack_row packed.now width (length out.old)) out.old }
 {
     if packbits::width_out_of_range(width) {
-        return Err(Reason::OutOfRange.refuse());
+        return Err(outcome::refuse(Reason::OutOfRange));
     }
     if out.len() < width {
-        return Err(Reason::AreaTooShort.refuse());
+        return Err(outcome::refuse(Reason::AreaTooShort));
     }
     let mut row = [0u8; MAX_WIDTH];
     unpack_through(packed, &mut row[..width], out)
@@ -140,12 +140,15 @@ fn is_long(r: Record) -> bool
     }
 }
 
-// Eight bytes from an offset of a file to the front of an output.
+// Eight bytes from an offset of a file to the front of an output. By way of an array, so that the compiler need not ask
+// whether file and output overlap, and makes it one load and one store.
 fn put_eight(file: &[u8], at: usize, out: &mut [u8])
     requires { (at + 8 ≤ length file.now) × (8 ≤ length out.old) }
     ensures { out.new ≡ over (take 8 (drop at file.now)) out.old }
 {
-    byte_copy::copy(&file[at..at + 8], out);
+    let mut eight = [0u8; 8];
+    byte_copy::copy(&file[at..at + 8], &mut eight);
+    byte_copy::copy(&eight, out);
 }
 
 // Writes the bytes of the row that a record, no long one, makes to the front of an output. What stands behind them may
@@ -289,10 +292,10 @@ pub fn unpack_rows(
         → Begins (flatten (whole_rows file.now at rows width)) out.new }
 {
     if packbits::width_out_of_range(width) {
-        return Err(Reason::OutOfRange.refuse());
+        return Err(outcome::refuse(Reason::OutOfRange));
     }
     if out.len() / width < rows {
-        return Err(Reason::AreaTooShort.refuse());
+        return Err(outcome::refuse(Reason::AreaTooShort));
     }
     fill_rows(file, at, rows, width, out)
 }
