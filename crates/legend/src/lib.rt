@@ -67,9 +67,10 @@ pub fn is_party(party: u8) -> bool
 fn entry_fits(owner: u8, class: u8, confidence: u8) -> bool
     ensures { result ≡ entry_fits owner class confidence }
 {
-    owner <= MAX_PARTY
-        && confidence <= MAX_CONFIDENCE
-        && (owner != FREE || class == 0 && confidence == 0)
+    if MAX_PARTY < owner || MAX_CONFIDENCE < confidence {
+        return false;
+    }
+    owner != FREE || class == 0 && confidence == 0
 }
 
 // Whether each entry of a legend fits.
@@ -144,8 +145,9 @@ pub fn answer(legend: Legend, given: Result<Legend, Refusal>) -> LegendAnswer
     }
 }
 
-// A party sets a free entry or its own, which is then its own.
+// A party sets a free entry or its own, which is then its own. Not inlined, so that the result is moved whole.
 #[tactic(auto, using(crate::proofs::Setting::set_fitting), unfolding(crate::specs::Setting::setting))]
+#[inline(never)]
 pub fn set_entry(
     legend: Legend,
     party: u8,
@@ -165,8 +167,9 @@ pub fn set_entry(
     Ok(with_entry(legend, at, party, class as u8, confidence))
 }
 
-// A party releases its own entry, which is then free.
+// A party releases its own entry, which is then free. Not inlined, so that the result is moved whole.
 #[tactic(auto, using(crate::proofs::Setting::call_fitting), unfolding(crate::specs::Setting::releasing))]
+#[inline(never)]
 pub fn release_entry(legend: Legend, party: u8, register: u8) -> Result<Legend, Refusal>
     ensures { result ≡ releasing legend party register }
 {
