@@ -71,6 +71,10 @@ module _ (file : List ℕ) (r : Resolution) where
       go short (Ok u) p = f u short p
       go short (Err why) p = p
 
+-- what a reading must answer, and leave of the area
+abbrev Reads : List ℕ → List ℕ → Outcome PictureRead → Outcome Reading → Type 0
+Reads area after given o = (given ≡ map picture_read o) × (after ≡ read_area o area)
+
 module _ (file : List ℕ) (r : Resolution) where
   abbrev bounded : UnpackedBody → Type 0
   bounded = ReadBounded file header_length tail_length (raster_of r)
@@ -93,24 +97,27 @@ module _ (file : List ℕ) (r : Resolution) where
         go (Ok u) holds = omega (arith, holds.1.1)
         go (Err why) holds = tt
 
-    module _ (short : length file ≤ packed_most) where
+    module _ (short : length file ≤ packed_most) (area after : List ℕ)
+        (left : after ≡ body_area (packed_body file r) area) where
       -- a refusal is the reading's
-      pub packed-fault : {why : Refusal} → given ≡ Err why → Err why ≡ map picture_read (read_packed file r)
-      packed-fault e = rw (packed-short file r short) (go (packed_body file r) (sym e ∙ is))
+      pub packed-fault : {why : Refusal} → given ≡ Err why → Reads area after (Err why) (read_packed file r)
+      packed-fault e = rw (packed-short file r short) (go (packed_body file r) (sym e ∙ is) left)
         where
-          go : {why : Refusal} (o : Outcome UnpackedBody) → Err why ≡ map body_unpacked o
-              → Err why ≡ map picture_read (map (packed_reading file r) o)
-          go (Ok u) e = let z : ◌≡◌ {A = ℕ} 0 1 = cc in absurd (omega arith)
-          go (Err w) e = cc
+          go : {why : Refusal} (o : Outcome UnpackedBody) → Err why ≡ map body_unpacked o → after ≡ body_area o area
+              → Reads area after (Err why) (map (packed_reading file r) o)
+          go (Ok u) e kept = let z : ◌≡◌ {A = ℕ} 0 1 = cc in absurd (omega arith)
+          go (Err w) e kept = (cc, kept)
 
       -- and what is given of an accepted one
-      pub packed-done : {p : Packed} → given ≡ Ok p → Ok (read_of p) ≡ map picture_read (read_packed file r)
-      packed-done e = rw (packed-short file r short) (go (packed_body file r) (sym e ∙ is))
+      pub packed-done : {p : Packed} → given ≡ Ok p → Reads area after (Ok (read_of p)) (read_packed file r)
+      packed-done e = rw (packed-short file r short) (go (packed_body file r) (sym e ∙ is) left)
         where
-          go : {p : Packed} (o : Outcome UnpackedBody) → Ok p ≡ map body_unpacked o
-              → Ok (read_of p) ≡ map picture_read (map (packed_reading file r) o)
-          go {p = p} (Ok u) e = let same : p ≡ body_unpacked u = cc in ap (λ (k : Packed). Ok (read_of k)) same
-          go (Err w) e = let z : ◌≡◌ {A = ℕ} 0 1 = cc in absurd (omega arith)
+          go : {p : Packed} (o : Outcome UnpackedBody) → Ok p ≡ map body_unpacked o → after ≡ body_area o area
+              → Reads area after (Ok (read_of p)) (map (packed_reading file r) o)
+          go {p = p} (Ok u) e made =
+              let same : p ≡ body_unpacked u = cc in
+              (ap (λ (k : Packed). Ok (read_of k)) same, made)
+          go (Err w) e made = let z : ◌≡◌ {A = ℕ} 0 1 = cc in absurd (omega arith)
 
   -- a reading into the area cut to the screen is one into the whole area
   pub packed-cut : length file ≤ packed_most → (area part : List ℕ) → length part ≡ length (take screen_bytes area)

@@ -4,7 +4,9 @@ use Rattle.std.proofs.Common.{arith}
 use Rattle.std.proofs.lemmas.Result.{err_from_is_err_and}
 use lib.Seq.{length-take-le}
 use Rattle.resolution.specs.Shapes.{screen_bytes}
-use Rattle.degas.proofs.ReadDegas.{packed-fault, packed-done, packed-cut}
+use Rattle.picture.proofs.Reading.{area-cut}
+use Rattle.degas.specs.Reading.{read_packed}
+use Rattle.degas.proofs.ReadDegas.{packed-fault, packed-done}
 use Rattle.degas.proofs.reading.read_packed.Goals as goal
 
 pub read_by_buffer-requires : goal.read_by_buffer-requires
@@ -15,16 +17,18 @@ returns-in_err-body c =
     let a = c.args in
     let b = c.read_by_buffer in
     let p = err_from_is_err_and c.from_residual.result c.from_residual.ensures.1 in
+    let d = packed-fault a.file.now a.r b.ensures.answer (omega arith) _ _ b.ensures.area c.in_err-body.was in
     rw (p.1, p.2) (record {
-      answer = packed-fault a.file.now a.r b.ensures.answer (omega arith) c.in_err-body.was;
-      area = packed-cut a.file.now a.r (omega arith) a.area.now b.new.area b.auto.area b.ensures.area;
+      answer = d.0;
+      area = area-cut (read_packed a.file.now a.r) a.area.now b.new.area screen_bytes b.auto.area d.1;
     })
 
 pub returns : goal.returns
 returns c =
     let a = c.args in
     let b = c.read_by_buffer in
+    let d = packed-done a.file.now a.r b.ensures.answer (omega arith) _ _ b.ensures.area c.in_ok-body.was in
     rw c.elite_picture.ensures (record {
-      answer = packed-done a.file.now a.r b.ensures.answer (omega arith) c.in_ok-body.was;
-      area = packed-cut a.file.now a.r (omega arith) a.area.now b.new.area b.auto.area b.ensures.area;
+      answer = d.0;
+      area = area-cut (read_packed a.file.now a.r) a.area.now b.new.area screen_bytes b.auto.area d.1;
     })
