@@ -19,6 +19,12 @@ module _ {A : Type 0} (file : List ℕ) (further : Outcome A) where
       → judge_header file further ≡ refuse wrong_length
   header-long long h = rw (le-ltb (length file) header_length long, lt-ltb longest_file (length file) h)
 
+  -- a file of an allowed length whose version is not allowed
+  pub header-version : header_length ≤ length file → length file ≤ longest_file → version_allowed file ≡ false
+      → judge_header file further ≡ refuse wrong_version
+  header-version long short bad =
+      rw (le-ltb (length file) header_length long, le-ltb longest_file (length file) short, bad)
+
   -- a file of an allowed length and version is judged further
   pub judge-passed : header_length ≤ length file → length file ≤ longest_file → version_allowed file ≡ true
       → judge_header file further ≡ further
