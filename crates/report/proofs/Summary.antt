@@ -11,6 +11,7 @@ use borrow.Author.Tests.{le-ltb}
 use Rattle.lists.proofs.Over.{over-whole}
 use Rattle.outcome.specs.declared.Refusal.{Refusal}
 use Rattle.outcome.specs.Outcome.{Outcome, Judged, map}
+use Rattle.outcome.proofs.Outcome.{map-refused}
 use Rattle.resolution.specs.declared.Resolution.{Resolution}
 use Rattle.resolution.specs.declared.Resolution.TheVariants.{Low, Medium, High}
 use Rattle.resolution.specs.Shapes.{screen_bytes, width_of, height_of}
@@ -73,7 +74,7 @@ text-accepted (Err why) sound q area screen size is e = cc
 
 -- ---- a refused summary
 
--- demand 1: the output is as it was
-pub summary-refused : (file out : List ℕ) (why : Refusal) → summarised file (length out) ≡ Err why
+-- demand 1: where `report::summarise` answers a refusal, the output is as it was
+pub summary-refused : (file out : List ℕ) (why : Refusal) → map length (summarised file (length out)) ≡ Err why
     → summary_output (summarised file (length out)) out ≡ out
-summary-refused file out why e = rw e
+summary-refused file out why e = rw (map-refused length (summarised file (length out)) why e)
