@@ -1,6 +1,6 @@
 -- A NEOchrome file that writing makes has no animation: writing a picture leaves the cycling colours out.
 use Rattle.std.specs.Prelude.{cond, Ok, Some, None}
-use mathlib.Core.Path.{◌≡◌, sym, ap, ◌∙◌}
+use mathlib.Core.Path.{◌≡◌, refl, sym, ap, ◌∙◌}
 use mathlib.Core.Bool.{Bool, true, false}
 use mathlib.Core.List.{List, ◌++◌, append_assoc}
 use Prim.Native.Nat.{ℕ, ◌+◌, ◌<◌}
@@ -22,7 +22,7 @@ use Rattle.neochrome.proofs.RoundTrip.{written-accepts}
 use Rattle.neochrome_animation.specs.declared.ColourAnimation.{ColourAnimation}
 use Rattle.neochrome_animation.specs.declared.Direction.TheVariants.{Stopped}
 use Rattle.neochrome_animation.specs.Lists.{shown1989, shown2008}
-use Rattle.neochrome_animation.specs.Judging.{animation}
+use Rattle.neochrome_animation.specs.Judging.{animation, animation_answer}
 use Rattle.neochrome_animation.proofs.Acceptance.{acceptance-1989, acceptance-2008}
 
 -- off, stopped, limits 0 and 0, no steps
@@ -34,6 +34,17 @@ still valid = record {
   vblanks = 0;
   step_count = 0;
 }
+
+-- so shown, and in C's answer limits 0 and 0, valid or not
+abbrev StillBy : Outcome ColourAnimation → Bool → Type 0
+StillBy shown valid =
+    (shown ≡ Ok (still valid))
+    × ((animation_answer shown).left_limit ≡ 0)
+    × ((animation_answer shown).right_limit ≡ 0)
+
+still-by : (shown : Outcome ColourAnimation) (valid : Bool) → shown ≡ Ok (still valid) → StillBy shown valid
+still-by shown true is = rw is (refl, refl, refl)
+still-by shown false is = rw is (refl, refl, refl)
 
 module _ (p : Picture) (whole : WholePicture p) (screen : List ℕ) where
   -- ---- bytes 48 to 57 are 0
@@ -82,7 +93,7 @@ module _ (p : Picture) (whole : WholePicture p) (screen : List ℕ) where
   -- ---- of an accepted writing
 
   abbrev pub Still : Writing → Type 0
-  Still w = (animation 1 w.file ≡ Ok (still true)) × (animation 2 w.file ≡ Ok (still false))
+  Still w = StillBy (animation 1 w.file) true × StillBy (animation 2 w.file) false
 
   pub written-still : (out : ℕ) → Judged Still (write_neochrome p screen out)
   unfolding write_neochrome
@@ -93,6 +104,6 @@ module _ (p : Picture) (whole : WholePicture p) (screen : List ℕ) where
       (λ n. omega arith)
       (λ r a.
       let fits = written-accepts p screen whole r a.known a.screen-fits in (
-        (acceptance-1989 (neochrome_file p screen) (still true)).1 (fits, sym still-1989),
-        (acceptance-2008 (neochrome_file p screen) (still false)).1 (fits, sym still-2008),
+        still-by _ true ((acceptance-1989 (neochrome_file p screen) (still true)).1 (fits, sym still-1989)),
+        still-by _ false ((acceptance-2008 (neochrome_file p screen) (still false)).1 (fits, sym still-2008)),
       ))
