@@ -49,7 +49,7 @@ ghost use Rattle.statements.specs.Writing.{WritesNothing, AnswersWrite};
 
 use bodies::BodyAnswer;
 use conversion::Conversion;
-use degas_records::ListedRecord;
+use degas_records::{CursorAnswer, ListedRecord};
 use gem_img::ImgAnswer;
 use neochrome_animation::{AnimationAnswer, FormatList};
 use outcome::Refusal;
@@ -342,7 +342,7 @@ pub fn nth_step(file: &[u8], k: usize) -> Result<Option<ListedRecord>, Refusal>
     ensures step { result ≡ listed file.now k }
     ensures records { RecordsAsRead file.now }
 {
-    let mut cursor = degas_records::open_records(file)?;
+    let mut cursor = CursorAnswer::from(degas_records::open_records(file)).cursor;
     for _ in 0..k {
         cursor = degas_records::next_record(file, cursor).next;
     }

@@ -1,25 +1,20 @@
 -- `nth_step` meets its contract: a step gives what the steps from the next cursor on leave.
-use Rattle.std.proofs.Common.{ap, sym, ◌∙◌, ◌+◌, ◌-◌, arith, rules}
+use Rattle.std.proofs.Common.{ap, sym, ◌∙◌, ◌+◌, ◌-◌, arith}
 use native.Mathlib.Nat.{sub-zero}
+use Rattle.degas_records.specs.declared.CursorAnswer.{CursorAnswer}
 use Rattle.degas_records.specs.declared.Stepped.{Stepped}
+use Rattle.degas_records.specs.Answers.{given_cursor_answer}
 use Rattle.degas_records.specs.Steps.{steps}
+use Rattle.degas_records.proofs.Reading.{steps-listed}
 use Rattle.degas_records.proofs.Steps.{steps-turn, steps-last}
-use Rattle.statements.proofs.Records.{as_read, opened-steps, refused-steps}
+use Rattle.statements.proofs.Records.{as_read}
 use Rattle.statements.proofs.nth_step.Goals as goal
-
-pub returns-in_err-cursor-clause-step : goal.returns-in_err-cursor-clause-step
-returns-in_err-cursor-clause-step c =
-    let a = c.args in
-    let e = refused-steps a.file.now _ a.k (sym c.open_records.ensures ∙ c.in_err-cursor.was) in
-    rw (← e) (search rules)
-
-pub returns-in_err-cursor-clause-records : goal.returns-in_err-cursor-clause-records
-returns-in_err-cursor-clause-records c = as_read c.args.file.now
 
 pub loop-init : goal.loop-init
 loop-init c =
     let a = c.args in
-    rw (sub-zero a.k) (opened-steps a.file.now _ a.k (sym c.open_records.ensures ∙ c.in_ok-cursor.was))
+    let opened = c.from.ensures ∙ ap given_cursor_answer c.open_records.ensures in
+    rw (sub-zero a.k) (ap (λ (o : CursorAnswer). steps a.file.now o.cursor a.k) opened ∙ steps-listed a.file.now a.k)
 
 pub loop-preserved : goal.loop-preserved
 loop-preserved c =
