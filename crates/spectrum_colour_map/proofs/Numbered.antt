@@ -31,7 +31,7 @@ read-numbered file at area =
     go : (short : Bool) (o : Outcome ℕ) → ((why : Refusal) → o ≡ Err why → PaletteNumber why.number)
         → (more : ℕ → Bool)
         → Judged Any (refuse_if short area_too_short (map (λ _. palettes palette_count file at no_palette)
-            (bind o (λ end. refuse_if (more end) size_mismatch (Ok end)))))
+        (bind o (λ end. refuse_if (more end) size_mismatch (Ok end)))))
     go true o f more = λ e. omega arith
     go false (Err why) f more = numbered why.number (f why refl)
     go false (Ok end) f more = last (more end)
