@@ -1,5 +1,5 @@
 -- `writer::write` meets its contract: the form picks the format.
-use Rattle.std.proofs.Common.{◌∙◌, refl, sym, length}
+use Rattle.std.proofs.Common.{◌∙◌, refl, sym, arith, length}
 use Rattle.std.proofs.lemmas.Result.{err_from_is_err_and}
 use Rattle.picture.proofs.Writing.{areas-screen, areas-output}
 use Rattle.writer.proofs.Choice.{file-by-form, file-short, file-unknown}
@@ -18,7 +18,8 @@ returns-then-screen-lt-SCREEN_BYTES c =
           (record { answer = refl; output = refl })
       | then-screen-lt-SCREEN_BYTES-via-else-screen-lt-SCREEN_BYTES+then-out-lt-FILE_BYTES w ↦
           rw (file-short a.form a.picture a.screen.now (length a.out.now)
-          (λ A further. areas-output _ _ further w.if-screen-lt-SCREEN_BYTES.false w.if-out-lt-FILE_BYTES.true))
+          (λ A further. areas-output _ _ further w.if-screen-lt-SCREEN_BYTES.false
+          (omega (arith, w.if-out-lt-FILE_BYTES.true))))
           (record { answer = refl; output = refl })
     ])
 
@@ -31,7 +32,7 @@ returns-in_err-form c =
       p.1,
       p.2,
       file-unknown a.form a.picture a.screen.now (length a.out.now) c.if-screen-lt-SCREEN_BYTES.false
-          c.if-out-lt-FILE_BYTES.false e,
+          (omega (arith, c.if-out-lt-FILE_BYTES.false)) e,
     ) (record { answer = refl; output = refl })
 
 pub returns-in-Degas : goal.returns-in-Degas
