@@ -1,5 +1,5 @@
 -- `write_and_read` meets its contract: the whole answer is that of `writer::write` and `reader::read`.
-use Rattle.std.proofs.Common.{ap, refl, sym, ◌∙◌, rules}
+use Rattle.std.proofs.Common.{◌≡◌, Err, ap, refl, sym, ◌∙◌, rules}
 use lib.Seq.{length-take-le}
 use Rattle.picture.specs.Reading.{given_read_answer}
 use Rattle.picture.specs.Writing.{given_write_answer}
@@ -42,7 +42,8 @@ returns c =
           })
       | in-Err w ↦
           let refused = sym w.in-Err.is ∙ p.ensures.answer in
-          rw (c.into.ensures, c.into-2.ensures, w.area-is, w.written-is, w.read-is)
+          let same : c.match-written.read ≡ Err w.in-Err.why = search rules in
+          rw (c.into.ensures, c.into-2.ensures, w.area-is, w.written-is, same)
           (record {
             write = record { answer = ap given_write_answer refused; later = p.ensures.output };
             read = λ ok. absurd (written-numbered a.form a.picture a.screen.now _ picture _ (sym refused) ok);
