@@ -43,7 +43,7 @@ pub fn unpack_into(file: &[u8], at: usize, out: &mut [u8]) -> Result<Packed, Ref
     while to < width {
         let r = packbits::record_at(file, from, width - to);
         if let Some(reason) = packbits::fault_of(r) {
-            return Err(outcome::refuse_in_row(reason, from, 0, to));
+            return Err(reason.refuse_in_row(from, 0, to));
         }
         put_row_bytes(file, from, r, &mut out[to..]);
         from += packbits::packed_len(r);
@@ -77,10 +77,10 @@ pub fn unpack_row(packed: &[u8], width: usize, out: &mut [u8]) -> Result<Packed,
         ≡ row_output (unpack_row packed.now width (length out.old)) out.old }
 {
     if packbits::width_out_of_range(width) {
-        return Err(outcome::refuse(Reason::OutOfRange));
+        return Err(Reason::OutOfRange.refuse());
     }
     if out.len() < width {
-        return Err(outcome::refuse(Reason::AreaTooShort));
+        return Err(Reason::AreaTooShort.refuse());
     }
     let mut row = [0u8; MAX_WIDTH];
     unpack_through(packed, &mut row[..width], out)
@@ -292,10 +292,10 @@ pub fn unpack_rows(
         → Begins (flatten (whole_rows file.now at rows width)) out.new }
 {
     if packbits::width_out_of_range(width) {
-        return Err(outcome::refuse(Reason::OutOfRange));
+        return Err(Reason::OutOfRange.refuse());
     }
     if out.len() / width < rows {
-        return Err(outcome::refuse(Reason::AreaTooShort));
+        return Err(Reason::AreaTooShort.refuse());
     }
     fill_rows(file, at, rows, width, out)
 }
