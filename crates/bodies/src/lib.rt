@@ -163,7 +163,7 @@ fn put_body(area: &[u8], r: Raster, row: &mut [u8], out: &mut [u8]) -> Result<Pa
     let mut end = 0;
     let mut records = 0;
     for n in 0..r.rows() {
-        let packed = pack_plane_row(area, r, n, row, &mut out[end..])?;
+        let packed = pack_plane_row(area, r, n, row, &mut out[end..]).unwrap();
         end += packed.bytes;
         records += packed.records;
     }

@@ -13,7 +13,7 @@ use Rattle.raster.specs.PlaneRows.{plane_row}
 use Rattle.bodies.proofs.LeastRows.{row_room, row-bounds, row_written, rows_end}
 use Rattle.bodies.proofs.PlaneRow.{plane-rows}
 use Rattle.bodies.proofs.put_body.Goals as goal
-use Rattle.bodies.proofs.put_body.Goals.{In-loop-n, In_ok-packed}
+use Rattle.bodies.proofs.put_body.Goals.{In-loop-n, After-unwrap-packed}
 
 -- a row is at most 128 bytes wide, and row n is to come
 module _ (c : In-loop-n) where
@@ -24,12 +24,12 @@ module _ (c : In-loop-n) where
   more = rw c.rows-n-end.ensures.value at c.loop-n-test.true
 
 -- what its body gives
-given : (c : In_ok-packed) → let row = plane_row c.args.area.now c.args.r c.loop-n.n in
-    c.in_ok-packed.packed ≡ record { bytes = length (least row); records = least_records row }
+given : (c : After-unwrap-packed) → let row = plane_row c.args.area.now c.args.r c.loop-n.n in
+    c.unwrap-packed.result ≡ record { bytes = length (least row); records = least_records row }
 given c =
     let row = plane_row c.args.area.now c.args.r c.loop-n.n in
     let value : Packed = record { bytes = length (least row); records = least_records row } in
-    ap (λ (o : Outcome Packed). later o (λ p. p) value) (sym c.in_ok-packed.was ∙ c.pack_plane_row.ensures.answer)
+    ap (λ (o : Outcome Packed). later o (λ p. p) value) (sym c.unwrap-packed.ensures ∙ c.pack_plane_row.ensures.answer)
 
 pub pack_plane_row-requires : goal.pack_plane_row-requires
 pack_plane_row-requires c =
@@ -43,7 +43,7 @@ pack_plane_row-requires c =
 pub overflow_add-records : goal.overflow_add-records
 overflow_add-records c =
     let i = (goal.at.overflow_add-records c).In-loop-n in
-    let g = given (goal.at.overflow_add-records c).In_ok-packed in
+    let g = given (goal.at.overflow_add-records c).After-unwrap-packed in
     let list = plane-rows c.args.area.now c.args.r in
     let b = row-bounds list (narrow i) c.requires.area_in_bounds c.loop-n.invariant.1 (more i) in
     let w = c.loop-n.invariant.1 in
@@ -52,7 +52,7 @@ overflow_add-records c =
 pub loop-n-preserved : goal.loop-n-preserved
 loop-n-preserved c =
     let i = (goal.at.loop-n-preserved c).In-loop-n in
-    let g = given (goal.at.loop-n-preserved c).In_ok-packed in
+    let g = given (goal.at.loop-n-preserved c).After-unwrap-packed in
     let room = c.loop-n.invariant.0 in
     let list = plane-rows c.args.area.now c.args.r in (
       record { range = room.range; full = room.full; width = search rules },
