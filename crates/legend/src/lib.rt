@@ -145,9 +145,8 @@ pub fn answer(legend: Legend, given: Result<Legend, Refusal>) -> LegendAnswer
     }
 }
 
-// A party sets a free entry or its own, which is then its own. Not inlined, so that the result is moved whole.
+// A party sets a free entry or its own, which is then its own.
 #[tactic(auto, using(crate::proofs::Setting::set_fitting), unfolding(crate::specs::Setting::setting))]
-#[inline(never)]
 pub fn set_entry(
     legend: Legend,
     party: u8,
